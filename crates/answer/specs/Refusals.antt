@@ -1,0 +1,41 @@
+-- The refusals of document 01, "When the workshop declines": what the cases of the code's `Refusal` mean.
+-- In order: numberOf, the number of the table; placeOf, the place that the answer names.
+-- Assumes nothing.
+use Prim.Native.Nat.{ℕ}
+use Rattle.answer.specs.declared.Refusal.{Refusal}
+use Rattle.answer.specs.declared.Refusal.the-variants.{
+  Parameters, States, NoCode, TooHeavy, TooManyEdges, NoWindow, Field, Length, Disobeys, WindowFails, BadByte, TooFewWords,
+  ShortOutput
+}
+
+-- the number of a refusal in document 01's table
+abbrev pub numberOf : Refusal → ℕ
+numberOf Parameters = 1
+numberOf States = 2
+numberOf NoCode = 3
+numberOf TooHeavy = 4
+numberOf TooManyEdges = 5
+numberOf NoWindow = 6
+numberOf Field = 7
+numberOf Length = 8
+numberOf Disobeys = 9
+numberOf WindowFails = 10
+numberOf (BadByte place) = 11
+numberOf TooFewWords = 12
+numberOf ShortOutput = 13
+
+-- "for 11, the place of the first bad byte, counted from 0"; the others name no place, and 0 stands for it
+abbrev pub placeOf : Refusal → ℕ
+placeOf Parameters = 0
+placeOf States = 0
+placeOf NoCode = 0
+placeOf TooHeavy = 0
+placeOf TooManyEdges = 0
+placeOf NoWindow = 0
+placeOf Field = 0
+placeOf Length = 0
+placeOf Disobeys = 0
+placeOf WindowFails = 0
+placeOf (BadByte place) = place
+placeOf TooFewWords = 0
+placeOf ShortOutput = 0

@@ -1,0 +1,102 @@
+// What a call answers: a finished result, or one of document 01's numbered refusals.
+ghost use mathlib.Core.Path.{_≡_};
+ghost use Rattle.answer.specs.Refusals.{numberOf, placeOf};
+ghost use Rattle.answer.specs.Answers.{answerNumber, answerValue};
+
+// Why a call declines, with a case for each number of document 01's table.
+pub enum Refusal {
+    // 1: p, q or cap out of range.
+    Parameters,
+    // 2: K, a next state, or d and k out of range.
+    States,
+    // 3: all weights are 0, so there is no code.
+    NoCode,
+    // 4: the component's weights sum to over 128.
+    TooHeavy,
+    // 5: the graph in work has over 2,048 edges.
+    TooManyEdges,
+    // 6: no window up to 15 and 15.
+    NoWindow,
+    // 7: a record's field out of range, an absent state that is not 0, or a fill that is not 0.
+    Field,
+    // 8: the length is not what the fields say, or too short for them.
+    Length,
+    // 9: some recording breaks the constraint.
+    Disobeys,
+    // 10: the window fails.
+    WindowFails,
+    // 11: a block of 2^p or more, or a word of 2^q or more, with its place counted from 0.
+    BadByte(usize),
+    // 12: fewer than a words.
+    TooFewWords,
+    // 13: the output that was lent is too short.
+    ShortOutput,
+}
+
+// The answer of a call that writes bytes: how many it wrote, or why it declines.
+pub enum Answer {
+    Done(usize),
+    Refused(Refusal),
+}
+
+// Document 01's number of a refusal.
+pub fn refusal_number(r: Refusal) -> u64
+    ensures answer { λ n. ⌜ n ≡ numberOf r ⌝ }
+{
+    match r {
+        Refusal::Parameters => 1,
+        Refusal::States => 2,
+        Refusal::NoCode => 3,
+        Refusal::TooHeavy => 4,
+        Refusal::TooManyEdges => 5,
+        Refusal::NoWindow => 6,
+        Refusal::Field => 7,
+        Refusal::Length => 8,
+        Refusal::Disobeys => 9,
+        Refusal::WindowFails => 10,
+        Refusal::BadByte(_) => 11,
+        Refusal::TooFewWords => 12,
+        Refusal::ShortOutput => 13,
+    }
+}
+
+// The place that a refusal names: of the first bad byte for 11, and 0 for the others.
+pub fn refusal_place(r: Refusal) -> usize
+    ensures answer { λ i. ⌜ i ≡ placeOf r ⌝ }
+{
+    match r {
+        Refusal::Parameters => 0,
+        Refusal::States => 0,
+        Refusal::NoCode => 0,
+        Refusal::TooHeavy => 0,
+        Refusal::TooManyEdges => 0,
+        Refusal::NoWindow => 0,
+        Refusal::Field => 0,
+        Refusal::Length => 0,
+        Refusal::Disobeys => 0,
+        Refusal::WindowFails => 0,
+        Refusal::BadByte(place) => place,
+        Refusal::TooFewWords => 0,
+        Refusal::ShortOutput => 0,
+    }
+}
+
+// The number of an answer: 0 for a result, otherwise its refusal's.
+pub fn answer_number(a: Answer) -> u64
+    ensures answer { λ n. ⌜ n ≡ answerNumber a ⌝ }
+{
+    match a {
+        Answer::Done(_) => 0,
+        Answer::Refused(r) => refusal_number(r),
+    }
+}
+
+// The value of an answer: the bytes written for a result, otherwise the place that its refusal names.
+pub fn answer_value(a: Answer) -> usize
+    ensures answer { λ v. ⌜ v ≡ answerValue a ⌝ }
+{
+    match a {
+        Answer::Done(count) => count,
+        Answer::Refused(r) => refusal_place(r),
+    }
+}

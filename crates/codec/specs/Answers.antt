@@ -1,0 +1,43 @@
+-- Encoding and decoding with their refusals: "Encode: record, 13, 11. Decode: record, 12, 13, 11."
+-- In order: firstBad; encoded and decoded, under a loaded code; encodeUnder and decodeUnder, under a record's bytes. `room`
+-- is the length of the output that was lent.
+-- Assumes nothing.
+use mathlib.Core.List.{List, [], _∷_}
+use Prim.Native.Nat.{ℕ, suc, _+_, _-_, _^_}
+use lib.Dec.{ltb, leb, eqb}
+use lib.ListN.{length}
+use Rattle.laws.specs.Lists.{if_then_else_}
+use Rattle.answer.specs.declared.Refusal.the-variants.{BadByte, TooFewWords, ShortOutput}
+use Rattle.answer.specs.Outcomes.{Outcome, done, unless, onward}
+use Rattle.table.specs.Table.{Code}
+use Rattle.table.specs.Paths.{recording}
+use Rattle.record.specs.Parse.{parse}
+use Rattle.codec.specs.Reading.{decode}
+
+-- "the place of the first bad byte, counted from 0": the first that is not below n, or the length where there is none
+abbrev pub firstBad : ℕ → List ℕ → ℕ
+firstBad n [] = 0
+firstBad n (x ∷ xs) = let r = suc (firstBad n xs) in if ltb x n then r else 0
+
+-- "block ≥ 2^p, or word ≥ 2^q": the result, unless a byte is not below n
+abbrev pub allBelow : ℕ → List ℕ → List ℕ → Outcome (List ℕ)
+allBelow n xs result = unless (BadByte (firstBad n xs)) (eqb (firstBad n xs) (length xs)) (done result)
+
+-- the recording of blocks: "13, 11"
+unfoldable pub encoded : Code → ℕ → List ℕ → Outcome (List ℕ)
+encoded c room ds =
+    unless ShortOutput (leb (length ds + c .window .lookahead) room) (allBelow (2 ^ c .p) ds (recording c ds))
+
+-- the blocks of words: "12, 13, 11"
+unfoldable pub decoded : Code → ℕ → List ℕ → Outcome (List ℕ)
+decoded c room ws =
+    unless TooFewWords (leb (c .window .lookahead) (length ws))
+    (unless ShortOutput (leb (length ws - c .window .lookahead) room) (allBelow (2 ^ c .q) ws (decode c ws)))
+
+-- encoding under the record in the bytes xs
+unfoldable pub encodeUnder : List ℕ → ℕ → List ℕ → Outcome (List ℕ)
+encodeUnder xs room ds = onward (parse xs) (λ c. encoded c room ds)
+
+-- decoding under the record in the bytes xs
+unfoldable pub decodeUnder : List ℕ → ℕ → List ℕ → Outcome (List ℕ)
+decodeUnder xs room ws = onward (parse xs) (λ c. decoded c room ws)

@@ -1,0 +1,75 @@
+-- "Compiling": a job to a code, and to its record in lent bytes, with refusals "3, 4, 5, 6, 13" in this order.
+-- In order: ways, graphOf, weightsOf, componentOf, startOf, finishedOf, tableFor; code, compile; compileInto; compileJob,
+-- compileRunLength, from bytes to bytes.
+-- Assumes nothing.
+use mathlib.Core.Bool.{not}
+use mathlib.Core.List.{List}
+use Prim.Native.Nat.{ℕ, _^_}
+use lib.Dec.{ltb, leb}
+use lib.ListN.{length, getD}
+use Rattle.laws.specs.Lists.{sum}
+use Rattle.answer.specs.declared.Refusal.the-variants.{NoCode, TooHeavy, TooManyEdges, NoWindow}
+use Rattle.answer.specs.Outcomes.{Outcome, done, unless, onward}
+use Rattle.table.specs.Table.{Rows, Code}
+use Rattle.table.specs.Search.{window}
+use Rattle.record.specs.Parse.{packInto}
+use Rattle.graph.specs.Graph.{Arc, Work, power}
+use Rattle.graph.specs.Weights.{weights}
+use Rattle.graph.specs.Component.{componentStates, componentGraph}
+use Rattle.graph.specs.Splitting.{crowded, splitAll}
+use Rattle.graph.specs.TableOf.{tableOf}
+use Rattle.compiler.specs.Jobs.{Job, readJob, readRunLength}
+
+-- "Let n = 2^p."
+abbrev pub ways : Job → ℕ
+ways j = 2 ^ j .p
+
+-- the words that the job's constraint allows
+abbrev pub graphOf : Job → List Arc
+graphOf j = power (j .constraint) (j .q)
+
+-- the weights of the constraint's states
+abbrev pub weightsOf : Job → List ℕ
+weightsOf j = weights (ways j) (j .cap) (length (j .constraint)) (graphOf j)
+
+-- the component with its weights
+abbrev pub componentOf : Job → Work
+componentOf j = componentGraph (weightsOf j) (graphOf j)
+
+-- "its number in the job's constraint is the record's constraint start"
+abbrev pub startOf : Job → ℕ
+startOf j = getD (componentStates (weightsOf j) (graphOf j)) 0 0
+
+-- the graph after all splits
+abbrev pub finishedOf : Job → Work
+finishedOf j = splitAll (ways j) (componentOf j)
+
+-- the table of that graph
+abbrev pub tableFor : Job → Rows
+tableFor j = tableOf (ways j) (finishedOf j)
+
+-- the code with the table t and its least window
+abbrev pub code : Job → Rows → Code
+code j t = record {
+  p = j .p; q = j .q; window = window t; constraint = j .constraint; start = startOf j; table = t
+}
+
+-- "all weights 0", "component's weights sum over 128", "over 2,048 edges", "no window up to 15 and 15"
+unfoldable pub compile : Job → Outcome Code
+compile j =
+    unless NoCode (ltb 0 (sum (componentOf j .weights)))
+    (unless TooHeavy (leb (sum (componentOf j .weights)) 128)
+    (unless TooManyEdges (not (crowded (finishedOf j)))
+    (let k = code j (tableFor j) in unless NoWindow (leb (k .window .memory) 15) (done k))))
+
+-- the record of the job's code in lent bytes
+abbrev pub compileInto : ℕ → Job → Outcome (List ℕ)
+compileInto room j = onward (compile j) (λ c. packInto c room)
+
+-- a job's bytes compiled to a record
+unfoldable pub compileJob : List ℕ → ℕ → Outcome (List ℕ)
+compileJob xs room = onward (readJob xs) (compileInto room)
+
+-- a run-length job's bytes compiled to a record
+unfoldable pub compileRunLength : List ℕ → ℕ → Outcome (List ℕ)
+compileRunLength xs room = onward (readRunLength xs) (compileInto room)

@@ -1,0 +1,55 @@
+-- Both kinds of job, from bytes: "Job: 8 below four bytes, 1, K by 2, 8, next states by 2 [..] Run-length job: 8, 1, 2".
+-- In order: Job; goodParameters; statesOf, readJob; readRunLength.
+-- Assumes nothing.
+use mathlib.Core.Bool.{Bool, _&&_}
+use mathlib.Core.List.{List, [], _∷_}
+use Prim.Native.Nat.{ℕ, zero, suc, _+_, _*_}
+use lib.Dec.{leb, eqb}
+use lib.ListN.{length, getD, drop}
+use Rattle.laws.specs.Lists.{all}
+use Rattle.answer.specs.declared.Refusal.the-variants.{Parameters, States, Length}
+use Rattle.answer.specs.Outcomes.{Outcome, done, unless}
+use Rattle.constraint.specs.Constraint.{Constraint, runLength}
+use Rattle.table.specs.Formed.{goodNext}
+
+-- what a job asks for
+pub record Job : Type 0 where
+  pub p : ℕ
+  pub q : ℕ
+  pub cap : ℕ
+  pub constraint : Constraint
+
+-- "p (1 to 4), q (1 to 8), cap (1 to 16)"
+abbrev pub goodParameters : ℕ → ℕ → ℕ → Bool
+goodParameters p q cap = (leb 1 p && leb p 4) && ((leb 1 q && leb q 8) && (leb 1 cap && leb cap 16))
+
+-- "two bytes a state, the next states for 0 and 1, with 255 for none"
+abbrev pub statesOf : ℕ → List ℕ → Constraint
+statesOf zero xs = []
+statesOf (suc K) xs = record { zero = getD xs 0 0; one = getD xs 1 0 } ∷ statesOf K (drop 2 xs)
+
+-- "A job is bytes: p, q, cap, K, then two bytes a state"
+unfoldable pub readJob : List ℕ → Outcome Job
+readJob xs =
+    let p = getD xs 0 0 in
+    let q = getD xs 1 0 in
+    let cap = getD xs 2 0 in
+    let K = getD xs 3 0 in
+    let c = statesOf K (drop 4 xs) in
+    unless Length (leb 4 (length xs))
+    (unless Parameters (goodParameters p q cap)
+    (unless States (leb 1 K && leb K 16)
+    (unless Length (eqb (length xs) (4 + 2 * K))
+    (unless States (all (goodNext K) c) (done (record { p = p; q = q; cap = cap; constraint = c }))))))
+
+-- "A run-length job is the five bytes d, k, p, q, cap", with "0 ≤ d ≤ k ≤ 15"
+unfoldable pub readRunLength : List ℕ → Outcome Job
+readRunLength xs =
+    let d = getD xs 0 0 in
+    let k = getD xs 1 0 in
+    let p = getD xs 2 0 in
+    let q = getD xs 3 0 in
+    let cap = getD xs 4 0 in
+    unless Length (eqb (length xs) 5)
+    (unless Parameters (goodParameters p q cap)
+    (unless States (leb d k && leb k 15) (done (record { p = p; q = q; cap = cap; constraint = runLength d k }))))

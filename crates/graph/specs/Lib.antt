@@ -1,0 +1,6 @@
+pub mod Graph
+pub mod Weights
+pub mod Component
+pub mod Splitting
+pub mod TableOf
+pub mod Invariant

@@ -1,0 +1,27 @@
+-- "A table is accepted when every recording under it, followed bit by bit from the constraint start, always finds a next
+-- state, and its m and a do what a window must."
+-- In order: Accepted, the sentence; accepted, the test; Sound, what encoding and decoding need of a table.
+-- Assumes nothing.
+use mathlib.Core.Bool.{Bool, _&&_}
+use Prim.Native.Nat.{ℕ, _^_, _<_}
+use lib.ListN.{length}
+use Rattle.table.specs.Table.{Code}
+use Rattle.table.specs.Paths.{Closed, Full}
+use Rattle.table.specs.Window.{Window}
+use Rattle.table.specs.Works.{works}
+use Rattle.table.specs.Obeys.{Obeys, obeys}
+
+-- the table is accepted
+abbrev pub Accepted : Code → Type 0
+Accepted c = Obeys c × Window (c .table) (c .window)
+
+-- the test of acceptance
+abbrev pub accepted : Code → Bool
+accepted c = obeys c && works (c .table) (c .window)
+
+-- a table with a state, whose edges lead to states, 2^p a state, and whose window does what a window must
+pub record Sound (c : Code) : Type 0 where
+  pub some : 0 < length (c .table)
+  pub closed : Closed (c .table)
+  pub full : Full (2 ^ c .p) (c .table)
+  pub window : Window (c .table) (c .window)

@@ -1,0 +1,141 @@
+-- E1 to E10 of document 01 as one statement, proved by computing: from bytes where the document gives bytes.
+-- In order: compiled, weighed, what run-length jobs come to; the tables and the records that the examples speak of;
+-- Examples, the statement; examples, its proof.
+-- Assumes nothing.
+use mathlib.Core.Path.{_≡_, refl}
+use mathlib.Core.List.{List, [], _∷_}
+use Prim.Native.Nat.{ℕ}
+use Rattle.laws.specs.Lists.{sum}
+use Rattle.answer.specs.declared.Refusal.the-variants.{NoCode}
+use Rattle.answer.specs.Outcomes.{Outcome, done, refused, onward}
+use Rattle.constraint.specs.Constraint.{Constraint, runLength}
+use Rattle.table.specs.Table.{edge, Rows, Code}
+use Rattle.table.specs.Works.{works}
+use Rattle.table.specs.Search.{sizes, window}
+use Rattle.table.specs.Obeys.{obeys}
+use Rattle.table.specs.Accepted.{accepted}
+use Rattle.record.specs.Layout.{pack}
+use Rattle.record.specs.Parse.{parse, packInto}
+use Rattle.codec.specs.Answers.{encoded, decoded, encodeUnder, decodeUnder}
+use Rattle.graph.specs.Graph.{power}
+use Rattle.graph.specs.Weights.{weights}
+use Rattle.graph.specs.Component.{componentStates, componentGraph}
+use Rattle.graph.specs.Splitting.{split, splits, splitAll}
+use Rattle.graph.specs.TableOf.{tableStates, tableOf}
+use Rattle.compiler.specs.Jobs.{readJob, readRunLength}
+use Rattle.compiler.specs.Compile.{weightsOf, componentOf, compile, compileRunLength}
+use mathlib.Core.Bool.{true}
+
+-- the code to which the run-length job d, k, p, q, cap compiles
+abbrev pub compiled : ℕ → ℕ → ℕ → ℕ → ℕ → Outcome Code
+compiled d k p q cap = onward (readRunLength (d ∷ k ∷ p ∷ q ∷ cap ∷ [])) compile
+
+-- its weights
+abbrev pub weighed : ℕ → ℕ → ℕ → ℕ → ℕ → Outcome (List ℕ)
+weighed d k p q cap = onward (readRunLength (d ∷ k ∷ p ∷ q ∷ cap ∷ [])) (λ j. done (weightsOf j))
+
+-- a code at p blocks to q bits, with memory m and lookahead a, for a constraint that starts in state 0
+abbrev pub codeAt : ℕ → ℕ → ℕ → ℕ → Constraint → Rows → Code
+codeAt p q m a c t = record {
+  p = p; q = q; window = record { memory = m; lookahead = a }; constraint = c; start = 0; table = t
+}
+
+-- E1: "state 0 gives 01/0, 10/1 (word/next); state 1 gives 10/1, 11/0; m 1, a 0"
+abbrev pub code1 : Code
+code1 = codeAt 1 2 1 0 (runLength 0 1) ((edge 1 0 ∷ edge 2 1 ∷ []) ∷ (edge 2 1 ∷ edge 3 0 ∷ []) ∷ [])
+
+-- E2: "its record, hexadecimal: 24 04 40 42 30 04 10 10 18 0E 00"
+abbrev pub record1 : List ℕ
+record1 = 0x24 ∷ 0x04 ∷ 0x40 ∷ 0x42 ∷ 0x30 ∷ 0x04 ∷ 0x10 ∷ 0x10 ∷ 0x18 ∷ 0x0E ∷ 0x00 ∷ []
+
+-- E7: "three states, m 1, a 0"
+abbrev pub code7 : Code
+code7 =
+    codeAt 1 2 1 0 (runLength 1 3)
+    ((edge 0 2 ∷ edge 1 0 ∷ []) ∷ (edge 1 0 ∷ edge 2 1 ∷ []) ∷ (edge 1 0 ∷ edge 2 1 ∷ []) ∷ [])
+
+-- E8: "MFM: state 0 gives 00/1, 01/0; state 1 gives 10/1, 01/0", for (1,3), m 0, a 0
+abbrev pub code8 : Code
+code8 = codeAt 1 2 0 0 (runLength 1 3) ((edge 0 1 ∷ edge 1 0 ∷ []) ∷ (edge 2 1 ∷ edge 1 0 ∷ []) ∷ [])
+
+-- E9: "the refusal 4 row with 8 states": "bit 0 to state 0, bit 1 to the next (last to 0), p 1, q 1, cap 16"
+abbrev pub job9 : List ℕ
+job9 = 1 ∷ 1 ∷ 16 ∷ 8 ∷ 0 ∷ 1 ∷ 0 ∷ 2 ∷ 0 ∷ 3 ∷ 0 ∷ 4 ∷ 0 ∷ 5 ∷ 0 ∷ 6 ∷ 0 ∷ 7 ∷ 0 ∷ 0 ∷ []
+
+-- its constraint: each state and the state to which bit 1 leads from it
+abbrev pub ladder : List ℕ → Constraint
+ladder [] = []
+ladder (t ∷ ts) = record { zero = 0; one = t } ∷ ladder ts
+
+-- its table: word 0 to state 0, word 1 to the next
+abbrev pub ladderRows : List ℕ → Rows
+ladderRows [] = []
+ladderRows (t ∷ ts) = (edge 0 0 ∷ edge 1 t ∷ []) ∷ ladderRows ts
+
+-- the code that E9 compiles to
+abbrev pub code9 : Code
+code9 =
+    let nexts : List ℕ = 1 ∷ 2 ∷ 3 ∷ 4 ∷ 5 ∷ 6 ∷ 7 ∷ 0 ∷ [] in
+    codeAt 1 1 0 0 (ladder nexts) (ladderRows nexts)
+
+-- the table listed below E10
+abbrev pub code10 : Code
+code10 =
+    codeAt 2 3 1 1 (runLength 0 1)
+    ((edge 3 0 ∷ edge 3 2 ∷ edge 5 0 ∷ edge 5 2 ∷ []) ∷ (edge 5 0 ∷ edge 5 2 ∷ edge 6 1 ∷ edge 7 0 ∷ [])
+    ∷ (edge 2 1 ∷ edge 6 1 ∷ edge 7 0 ∷ edge 7 2 ∷ []) ∷ [])
+
+-- document 01's examples
+pub record Examples : Type 0 where
+  -- E1 (0,1), p 1, q 2, cap 1: weights 1, 1; and the table
+  pub e1-weights : weighed 0 1 1 2 1 ≡ done (1 ∷ 1 ∷ [])
+  pub e1-table : compiled 0 1 1 2 1 ≡ done code1
+  -- E2 its record, and the record read
+  pub e2-written : compileRunLength (0 ∷ 1 ∷ 1 ∷ 2 ∷ 1 ∷ []) 11 ≡ done record1
+  pub e2-read : parse record1 ≡ done code1
+  -- E3 blocks 1 0 1 1 under E1 give words 2 2 3 2
+  pub e3 : encodeUnder record1 4 (1 ∷ 0 ∷ 1 ∷ 1 ∷ []) ≡ done (2 ∷ 2 ∷ 3 ∷ 2 ∷ [])
+  -- E4 under E2's record, words 2 3 3 2 decode to 1 1 255 1
+  pub e4 : decodeUnder record1 4 (2 ∷ 3 ∷ 3 ∷ 2 ∷ []) ≡ done (1 ∷ 1 ∷ 255 ∷ 1 ∷ [])
+  -- E5 (0,1), 2 to 3: cap 1 gives refusal 3, cap 2 weights 2, 1
+  pub e5-none : compiled 0 1 2 3 1 ≡ refused NoCode
+  pub e5-weights : weighed 0 1 2 3 2 ≡ done (2 ∷ 1 ∷ [])
+  -- E6 (2,7), 1 to 2: cap 3 gives refusal 3; cap 4 gives 2 3 4 4 3 3 2 1
+  pub e6-none : compiled 2 7 1 2 3 ≡ refused NoCode
+  pub e6-weights : weighed 2 7 1 2 4 ≡ done (2 ∷ 3 ∷ 4 ∷ 4 ∷ 3 ∷ 3 ∷ 2 ∷ 1 ∷ [])
+  -- E7 (1,3), 1 to 2, cap 1: weights 1 1 1 0, three states, m 1, a 0
+  pub e7-weights : weighed 1 3 1 2 1 ≡ done (1 ∷ 1 ∷ 1 ∷ 0 ∷ [])
+  pub e7-table : compiled 1 3 1 2 1 ≡ done code7
+  -- E8 MFM is accepted for (1,3)
+  pub e8-accepted : accepted code8 ≡ true
+  pub e8-read : parse (pack code8) ≡ done code8
+  -- E9 the refusal 4 row with 8 states: sum 128, compiled
+  pub e9-sum : onward (readJob job9) (λ j. done (sum (componentOf j .weights))) ≡ done 128
+  pub e9-table : onward (readJob job9) compile ≡ done code9
+  -- E10 no data under the table listed below gives one word, 3
+  pub e10-table : compiled 0 1 2 3 2 ≡ done code10
+  pub e10 : encodeUnder (pack code10) 1 [] ≡ done (3 ∷ [])
+
+-- they hold
+pub examples : Examples
+unfolding readJob readRunLength compile compileRunLength packInto pack parse encoded decoded encodeUnder decodeUnder works sizes window obeys power weights componentStates componentGraph split splits splitAll tableStates tableOf
+examples = record {
+  e1-weights = refl;
+  e1-table = refl;
+  e2-written = refl;
+  e2-read = refl;
+  e3 = refl;
+  e4 = refl;
+  e5-none = refl;
+  e5-weights = refl;
+  e6-none = refl;
+  e6-weights = refl;
+  e7-weights = refl;
+  e7-table = refl;
+  e8-accepted = refl;
+  e8-read = refl;
+  e9-sum = refl;
+  e9-table = refl;
+  e10-table = refl;
+  e10 = refl
+}
