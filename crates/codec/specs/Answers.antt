@@ -9,7 +9,7 @@ use lib.ListN.{length}
 use Rattle.laws.specs.Lists.{if_then_else_}
 use Rattle.answer.specs.declared.Refusal.the-variants.{BadByte, TooFewWords, ShortOutput}
 use Rattle.answer.specs.Outcomes.{Outcome, done, unless, onward}
-use Rattle.table.specs.Table.{Code}
+use Rattle.table.specs.Rows.{Code}
 use Rattle.table.specs.Paths.{recording}
 use Rattle.record.specs.Parse.{parse}
 use Rattle.codec.specs.Reading.{decode}

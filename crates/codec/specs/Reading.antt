@@ -9,7 +9,7 @@ use lib.Dec.{ltb, eqb}
 use lib.ListN.{length, getD, take, drop}
 use Rattle.laws.specs.Lists.{if_then_else_, range, filter, any, concat}
 use Rattle.laws.specs.Sets.{member}
-use Rattle.table.specs.Table.{Edge, Rows, edges, at, Code}
+use Rattle.table.specs.Rows.{Edge, Rows, edges, at, Code}
 
 -- the set of all states
 abbrev pub everyState : Rows → List Bool

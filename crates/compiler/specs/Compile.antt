@@ -10,10 +10,10 @@ use lib.ListN.{length, getD}
 use Rattle.laws.specs.Lists.{sum}
 use Rattle.answer.specs.declared.Refusal.the-variants.{NoCode, TooHeavy, TooManyEdges, NoWindow}
 use Rattle.answer.specs.Outcomes.{Outcome, done, unless, onward}
-use Rattle.table.specs.Table.{Rows, Code}
+use Rattle.table.specs.Rows.{Rows, Code}
 use Rattle.table.specs.Search.{window}
 use Rattle.record.specs.Parse.{packInto}
-use Rattle.graph.specs.Graph.{Arc, Work, power}
+use Rattle.graph.specs.Arcs.{Arc, Work, power}
 use Rattle.graph.specs.Weights.{weights}
 use Rattle.graph.specs.Component.{componentStates, componentGraph}
 use Rattle.graph.specs.Splitting.{crowded, splitAll}

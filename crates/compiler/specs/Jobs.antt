@@ -9,7 +9,7 @@ use lib.ListN.{length, getD, drop}
 use Rattle.laws.specs.Lists.{all}
 use Rattle.answer.specs.declared.Refusal.the-variants.{Parameters, States, Length}
 use Rattle.answer.specs.Outcomes.{Outcome, done, unless}
-use Rattle.constraint.specs.Constraint.{Constraint, runLength}
+use Rattle.constraint.specs.Walking.{Constraint, runLength}
 use Rattle.table.specs.Formed.{goodNext}
 
 -- what a job asks for

@@ -1,2 +1,3 @@
-pub mod Constraint
+pub mod Walking
 pub mod Follow
+pub mod Value

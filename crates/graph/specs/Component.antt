@@ -9,7 +9,7 @@ use lib.Dec.{ltb, eqb}
 use lib.ListN.{length, getD}
 use Rattle.laws.specs.Lists.{range, filter, all, any, first, iterate, elem, indexOf}
 use Rattle.laws.specs.Sets.{member}
-use Rattle.graph.specs.Graph.{Arc, arc, Work}
+use Rattle.graph.specs.Arcs.{Arc, arc, Work}
 
 -- the edge leads from s into the set S
 abbrev pub leadsInto : List Bool → ℕ → Arc → Bool

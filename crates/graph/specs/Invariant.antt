@@ -9,7 +9,7 @@ use lib.Dec.{T}
 use lib.ListN.{length, getD}
 use Rattle.laws.specs.Lists.{sum}
 use Rattle.laws.specs.Sums.{Each, tot, one}
-use Rattle.graph.specs.Graph.{Arc, Work, out}
+use Rattle.graph.specs.Arcs.{Arc, Work, out}
 use Rattle.graph.specs.Weights.{total}
 use Rattle.graph.specs.Splitting.{same}
 

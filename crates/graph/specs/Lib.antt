@@ -1,6 +1,7 @@
-pub mod Graph
+pub mod Arcs
 pub mod Weights
 pub mod Component
 pub mod Splitting
 pub mod TableOf
 pub mod Invariant
+pub mod Value

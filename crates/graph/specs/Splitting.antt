@@ -9,7 +9,7 @@ use Prim.Native.Nat.{ℕ, zero, suc, _+_, _-_, _/_, _%_, max}
 use lib.Dec.{ltb, eqb}
 use lib.ListN.{length, getD, take, drop, set}
 use Rattle.laws.specs.Lists.{if_then_else_, range, sum, filter, any, first, concat}
-use Rattle.graph.specs.Graph.{Arc, arc, Work, leaves, enters, out}
+use Rattle.graph.specs.Arcs.{Arc, arc, Work, leaves, enters, out}
 use Rattle.graph.specs.Weights.{weight, total}
 
 -- "Order its edges by word, then target": e stands before f

@@ -6,8 +6,8 @@ use mathlib.Core.List.{List, map}
 use Prim.Native.Nat.{ℕ}
 use lib.ListN.{length, take}
 use Rattle.laws.specs.Lists.{range, filter, concat, indexOf}
-use Rattle.table.specs.Table.{Edge, edge, Rows}
-use Rattle.graph.specs.Graph.{Arc, Work, out}
+use Rattle.table.specs.Rows.{Edge, edge, Rows}
+use Rattle.graph.specs.Arcs.{Arc, Work, out}
 use Rattle.graph.specs.Component.{reachings, reaches}
 use Rattle.graph.specs.Splitting.{sort}
 

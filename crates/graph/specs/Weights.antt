@@ -7,7 +7,7 @@ use Prim.Native.Nat.{ℕ, _*_, _/_, _≤_, min}
 use lib.ListN.{length, getD, replicate}
 use Rattle.laws.specs.Lists.{range, sum, filter, iterate}
 use Rattle.laws.specs.Sums.{tot}
-use Rattle.graph.specs.Graph.{Arc, enters, out}
+use Rattle.graph.specs.Arcs.{Arc, enters, out}
 
 -- "A(s, t) counts the words leading from s to t"
 abbrev pub wordsBetween : List Arc → ℕ → ℕ → ℕ

@@ -8,8 +8,8 @@ use lib.Dec.{eqb}
 use lib.ListN.{length, getD, drop, replicate}
 use Rattle.laws.specs.Lists.{if_then_else_, repeat}
 use Rattle.bits.specs.Fields.{write, read}
-use Rattle.constraint.specs.Constraint.{Constraint, none}
-use Rattle.table.specs.Table.{Edge, edge, Rows, Code}
+use Rattle.constraint.specs.Walking.{Constraint, none}
+use Rattle.table.specs.Rows.{Edge, edge, Rows, Code}
 use Rattle.table.specs.Formed.{Head, head}
 
 -- "p 3 bits, q 4, states less one 7, m 4, a 4, K less one 4, constraint start 4"

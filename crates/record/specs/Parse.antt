@@ -12,7 +12,7 @@ use Rattle.answer.specs.declared.Refusal.{Refusal}
 use Rattle.answer.specs.declared.Refusal.the-variants.{Field, Length, Disobeys, WindowFails}
 use Rattle.answer.specs.Outcomes.{Outcome, done, unless, fitting}
 use Rattle.bits.specs.Fields.{read, bitsOf}
-use Rattle.table.specs.Table.{Edge, Code}
+use Rattle.table.specs.Rows.{Edge, Code}
 use Rattle.table.specs.Works.{works}
 use Rattle.table.specs.Obeys.{obeys}
 use Rattle.table.specs.Formed.{Head}

@@ -9,7 +9,7 @@ use Rattle.laws.specs.Lists.{if_then_else_, concat}
 use Rattle.answer.specs.declared.Refusal.{Refusal}
 use Rattle.answer.specs.declared.Refusal.the-variants.{Length}
 use Rattle.answer.specs.Outcomes.{Outcome, done, refused}
-use Rattle.table.specs.Table.{Code}
+use Rattle.table.specs.Rows.{Code}
 use Rattle.record.specs.Layout.{pack}
 use Rattle.record.specs.Parse.{parse}
 

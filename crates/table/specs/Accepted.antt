@@ -5,7 +5,7 @@
 use mathlib.Core.Bool.{Bool, _&&_}
 use Prim.Native.Nat.{ℕ, _^_, _<_}
 use lib.ListN.{length}
-use Rattle.table.specs.Table.{Code}
+use Rattle.table.specs.Rows.{Code}
 use Rattle.table.specs.Paths.{Closed, Full}
 use Rattle.table.specs.Window.{Window}
 use Rattle.table.specs.Works.{works}

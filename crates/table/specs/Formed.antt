@@ -8,8 +8,8 @@ use Prim.Native.Nat.{ℕ, _^_, _≤_, _<_}
 use lib.Dec.{T, ltb, leb, eqb}
 use lib.ListN.{length}
 use Rattle.laws.specs.Lists.{all}
-use Rattle.constraint.specs.Constraint.{NextStates, none}
-use Rattle.table.specs.Table.{Edge, Code}
+use Rattle.constraint.specs.Walking.{NextStates, none}
+use Rattle.table.specs.Rows.{Edge, Code}
 
 -- p, q, states, m, a, K and the constraint start, as the packed record has them in front
 pub record Head : Type 0 where

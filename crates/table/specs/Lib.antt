@@ -1,4 +1,4 @@
-pub mod Table
+pub mod Rows
 pub mod Paths
 pub mod Window
 pub mod Works
@@ -6,3 +6,4 @@ pub mod Search
 pub mod Obeys
 pub mod Formed
 pub mod Accepted
+pub mod Value

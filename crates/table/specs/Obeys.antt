@@ -9,9 +9,9 @@ use lib.Dec.{eqb}
 use lib.ListN.{length}
 use Rattle.laws.specs.Lists.{range, all, any, iterate}
 use Rattle.laws.specs.Sets.{Pairs, has, grid}
-use Rattle.constraint.specs.Constraint.{none, walk}
+use Rattle.constraint.specs.Walking.{none, walk}
 use Rattle.constraint.specs.Follow.{Finds, channel}
-use Rattle.table.specs.Table.{Edge, edges, Code}
+use Rattle.table.specs.Rows.{Edge, edges, Code}
 use Rattle.table.specs.Paths.{Blocks, recording}
 
 -- every recording, followed bit by bit from the constraint start, always finds a next state

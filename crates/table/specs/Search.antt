@@ -9,7 +9,7 @@ use lib.Dec.{leb, eqb}
 use lib.ListN.{length}
 use Rattle.laws.specs.Lists.{range, filter, all, any, first, concat}
 use Rattle.laws.specs.Sets.{Pairs, has, grid}
-use Rattle.table.specs.Table.{Rows, edges, at, Size}
+use Rattle.table.specs.Rows.{Rows, edges, at, Size}
 use Rattle.table.specs.Works.{past, started, works}
 
 -- "each 0 to 15": lookahead a and memory k - a

@@ -6,7 +6,7 @@ use mathlib.Core.Logic.{_⊎_}
 use mathlib.Core.List.{List}
 use Prim.Native.Nat.{ℕ, _+_, _≤_, _<_}
 use lib.ListN.{length, getD}
-use Rattle.table.specs.Table.{Rows, Size}
+use Rattle.table.specs.Rows.{Rows, Size}
 use Rattle.table.specs.Paths.{Path, spells}
 
 -- two paths of i + 1 + a edges from s and from s′ "with equal words carry equal data on edge" i

@@ -8,8 +8,8 @@ use Prim.Native.Nat.{ℕ}
 use Rattle.laws.specs.Lists.{sum}
 use Rattle.answer.specs.declared.Refusal.the-variants.{NoCode}
 use Rattle.answer.specs.Outcomes.{Outcome, done, refused, onward}
-use Rattle.constraint.specs.Constraint.{Constraint, runLength}
-use Rattle.table.specs.Table.{edge, Rows, Code}
+use Rattle.constraint.specs.Walking.{Constraint, runLength}
+use Rattle.table.specs.Rows.{edge, Rows, Code}
 use Rattle.table.specs.Works.{works}
 use Rattle.table.specs.Search.{sizes, window}
 use Rattle.table.specs.Obeys.{obeys}
@@ -17,7 +17,7 @@ use Rattle.table.specs.Accepted.{accepted}
 use Rattle.record.specs.Layout.{pack}
 use Rattle.record.specs.Parse.{parse, packInto}
 use Rattle.codec.specs.Answers.{encoded, decoded, encodeUnder, decodeUnder}
-use Rattle.graph.specs.Graph.{power}
+use Rattle.graph.specs.Arcs.{power}
 use Rattle.graph.specs.Weights.{weights}
 use Rattle.graph.specs.Component.{componentStates, componentGraph}
 use Rattle.graph.specs.Splitting.{split, splits, splitAll}

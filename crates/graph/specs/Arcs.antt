@@ -7,7 +7,7 @@ use Prim.Native.Nat.{ℕ, _^_}
 use lib.Dec.{eqb}
 use lib.ListN.{length}
 use Rattle.laws.specs.Lists.{range, filter, concat}
-use Rattle.constraint.specs.Constraint.{Constraint, none, walk}
+use Rattle.constraint.specs.Walking.{Constraint, none, walk}
 
 -- an edge of the graph in work: "source, word, target"
 pub record Arc : Type 0 where
