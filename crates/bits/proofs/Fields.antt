@@ -10,9 +10,9 @@ use lib.Seq.{take-at, drop-at, length-take-le, drop-drop}
 use lib.Arith.{digits-lt}
 use lib.Pow.{mod-pow-add, mod-mod-pow, field, high, low}
 use Rattle.laws.specs.Lists.{sum}
-use Rattle.bits.specs.Fields.{write, Fits, bits, read, value}
+use Rattle.bits.specs.Fields.{bits, write, value, Fits, read}
+use Rattle.laws.proofs.Lists.{below-append, below-drop, below-take}
 use Rattle.laws.specs.Sums.{Below}
-use Rattle.laws.proofs.Lists.{below-drop, below-take, below-append}
 
 -- ---- what the laws ask
 

@@ -12,7 +12,7 @@ use lib.Dec.{T}
 use lib.ListN.{length, getD, take, drop, set}
 use Rattle.laws.specs.Lists.{if_then_else_, sum, filter, any, first}
 use Rattle.laws.proofs.Tests.{or→, →orL, →orR}
-use Rattle.laws.specs.Sums.{Each, tot, one, mask}
+use Rattle.laws.specs.Sums.{one, Each, mask, tot}
 
 -- ---- what holds of each element of a list
 module _ {ℓ} {A : Type ℓ} where
