@@ -1,16 +1,15 @@
 -- Bytes that `parse` accepts are the record of the code that it gives: a record is canonical.
 -- Assumes nothing.
 use mathlib.Core.Path.{_≡_, refl, sym, ap, ap₂, subst, _∙_}
-use mathlib.Core.Bool.{Bool, true, false, _&&_}
+use mathlib.Core.Bool.{_&&_}
 use mathlib.Core.List.{List, [], _∷_}
 use Prim.Native.Nat.{ℕ, _+_, _*_, _-_, _^_, _≤_, _<_}
 use native.Mathlib.Nat.{le-refl}
 use native.Mathlib.Omega.{arith}
 use lib.Dec.{T, ltb, leb, eqb, eqb→eq, le→leb, lt→ltb}
 use lib.ListN.{length, drop, replicate}
-use Rattle.answer.specs.declared.Refusal.{Refusal}
 use Rattle.answer.specs.declared.Refusal.the-variants.{Field, Length, Disobeys, WindowFails}
-use Rattle.answer.specs.Outcomes.{Outcome, done, unless}
+use Rattle.answer.specs.Outcomes.{done, unless}
 use Rattle.laws.specs.Lists.{all, sum}
 use Rattle.laws.proofs.Tests.{and→, →and}
 use Rattle.table.specs.Rows.{Rows, Code}
@@ -26,6 +25,7 @@ use Rattle.record.proofs.RecordAgain.{
   nexts-again, nexts-good, rows-good, length-nextsOf, length-rowsOf, tail-again, head-again
 }
 use Rattle.record.proofs.RecordFits.{sum-widths}
+use Rattle.answer.proofs.Outcomes.{unless→}
 
 -- seven fields in front and the others behind
 module _ (p q s m a k z : ℕ) (t : List ℕ)
@@ -84,10 +84,6 @@ module _ (p q s m a k z : ℕ) (t : List ℕ)
               (nexts-good (k + 1) (k + 1) t b))
           (subst (λ n. T (all (goodRow p q n) g)) (sym (length-rowsOf (s + 1) (2 ^ p) (drop ((k + 1) * 4) t)))
               (rows-good (s + 1) p q (s + 1) (fill h ∷ []) (drop ((k + 1) * 4) t) fr y)))
-
-pub unless→ : (r : Refusal) (b : Bool) (a : Outcome Code) (c : Code) → unless r b a ≡ done c → T b × (a ≡ done c)
-unless→ r true a c e = (tt, e)
-unless→ r false a c e = let z : _≡_ {A = ℕ} 0 1 = cc in absurd (omega arith)
 
 module _ (xs : List ℕ) (bytes : Below 256 xs) where
   -- the record's fields, with l bytes

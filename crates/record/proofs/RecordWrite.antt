@@ -9,9 +9,8 @@ use native.Mathlib.Omega.{arith}
 use lib.Dec.{T, ltb, leb, eqb, eqb→eq, eqb-refl, le→leb, lt→ltb}
 use lib.ListN.{length, getD, take, drop, replicate, length-append, length-replicate}
 use lib.Seq.{drop-at}
-use Rattle.answer.specs.declared.Refusal.{Refusal}
 use Rattle.answer.specs.declared.Refusal.the-variants.{Field, Length, Disobeys, WindowFails}
-use Rattle.answer.specs.Outcomes.{Outcome, done, unless}
+use Rattle.answer.specs.Outcomes.{done, unless}
 use Rattle.laws.specs.Lists.{if_then_else_, all}
 use Rattle.laws.proofs.Tests.{and→, →and}
 use Rattle.constraint.specs.Walking.{Constraint, none}
@@ -30,6 +29,7 @@ use Rattle.record.specs.Parse.{
 use Rattle.table.specs.Obeys.{obeys}
 use Rattle.table.proofs.Formed.{formed→}
 use Rattle.record.proofs.RecordFits.{sum-widths, fits-values}
+use Rattle.answer.proofs.Outcomes.{unless-true}
 
 -- ---- a code from its values
 opened-present : (s : ℕ) → opened (present s) (shown s) ≡ s
@@ -166,10 +166,6 @@ head-back c f =
     ap (λ vs. headOf (take 7 vs)) (fields-back c f)
     ∙ ap₂ (λ a b. record { p = c .p; q = c .q; states = a; memory = c .window .memory; lookahead =
         c .window .lookahead; count = b; start = c .start }) s k
-
-pub unless-true : (r : Refusal) (b : Bool) (a : Outcome Code) → T b → unless r b a ≡ a
-unless-true r true a t = refl
-unless-true r false a t = absurd t
 
 passed : (l : ℕ) (h : Head) (bs vs : List ℕ) (c : Code) → read (widths h) bs ≡ vs → codeOf h vs ≡ c → T (goodHead h)
     → l ≡ size h → T (goodRest h vs c)
