@@ -40,7 +40,7 @@ bit-mod : (j k x : ℕ) → x % 2 ^ (j + suc k) / 2 ^ k % 2 ≡ x / 2 ^ k % 2
 bit-mod j k x =
     let e : suc k ≡ 1 + k = omega arith in
     sym (field (x % 2 ^ (j + suc k)) 1 k) ∙ ap (λ n. x % 2 ^ (j + suc k) % 2 ^ n / 2 ^ k) (sym e)
-        ∙ ap (λ n. n / 2 ^ k) (mod-mod-pow x j (suc k))
+    ∙ ap (λ n. n / 2 ^ k) (mod-mod-pow x j (suc k))
     ∙ ap (λ n. x % 2 ^ n / 2 ^ k) e ∙ field x 1 k
 
 bits-mod : (j k x : ℕ) → bits k (x % 2 ^ (j + k)) ≡ bits k x
@@ -58,7 +58,7 @@ bits-value [] h = refl
 bits-value (b ∷ bs) (a, h) =
     let l = value-lt bs h in
     ap₂ _∷_ (ap (λ n. n % 2) (high b (length bs) l) ∙ mod-eq-of-lt a)
-        (bits-low (length bs) b (value bs) l ∙ bits-value bs h)
+    (bits-low (length bs) b (value bs) l ∙ bits-value bs h)
 
 -- ---- many fields
 pub below-write : (ws vs : List ℕ) → Below 2 (write ws vs)
@@ -80,14 +80,15 @@ read-write (w ∷ ws) [] r h = absurd h
 read-write (w ∷ ws) (v ∷ vs) r (a, h) =
     let s = write ws vs ++ r in
     rw append-assoc (ap₂ _∷_ (ap value (take-at (bits w v) s w (length-bits w v)) ∙ value-bits w v ∙ mod-eq-of-lt a)
-        (ap (read ws) (drop-at (bits w v) s w (length-bits w v)) ∙ read-write ws vs r h))
+    (ap (read ws) (drop-at (bits w v) s w (length-bits w v)) ∙ read-write ws vs r h))
 
 pub fits-read : (ws bs : List ℕ) → Below 2 bs → sum ws ≤ length bs → Fits ws (read ws bs)
 fits-read [] bs h l = tt
 fits-read (w ∷ ws) bs h l =
-    let e = length-take-le w bs (omega arith) in
-    (subst (λ n. value (take w bs) < 2 ^ n) e (value-lt (take w bs) (below-take 2 w bs h)),
-     fits-read ws (drop w bs) (below-drop 2 w bs h) (rw (length-drop w bs) (omega arith)))
+    let e = length-take-le w bs (omega arith) in (
+      subst (λ n. value (take w bs) < 2 ^ n) e (value-lt (take w bs) (below-take 2 w bs h)),
+      fits-read ws (drop w bs) (below-drop 2 w bs h) (rw (length-drop w bs) (omega arith)),
+    )
 
 pub write-read : (ws bs : List ℕ) → Below 2 bs → length bs ≡ sum ws → write ws (read ws bs) ≡ bs
 write-read [] [] h l = refl
@@ -95,9 +96,9 @@ write-read [] (b ∷ bs) h l = absurd (omega arith)
 write-read (w ∷ ws) bs h l =
     let e = length-take-le w bs (omega arith) in
     let one : bits w (value (take w bs)) ≡ take w bs =
-        ap (λ n. bits n (value (take w bs))) (sym e) ∙ bits-value (take w bs) (below-take 2 w bs h) in
+    ap (λ n. bits n (value (take w bs))) (sym e) ∙ bits-value (take w bs) (below-take 2 w bs h) in
     ap₂ _++_ one (write-read ws (drop w bs) (below-drop 2 w bs h) (length-drop w bs ∙ omega arith))
-        ∙ take-append-drop w bs
+    ∙ take-append-drop w bs
 
 -- THE LAW: numbers read in other widths and written back are the same numbers
 pub regroup : (ws us vs : List ℕ) → Fits ws vs → sum ws ≡ sum us → write us (read us (write ws vs)) ≡ write ws vs
