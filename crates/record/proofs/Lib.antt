@@ -9,3 +9,4 @@ pub mod Accepted
 pub mod Sizes
 pub mod Alls
 pub mod Fills
+pub mod RecordChecks

@@ -3,15 +3,16 @@
 -- Assumes nothing.
 use mathlib.Core.Path.{_≡_, refl, sym, ap, _∙_}
 use mathlib.Core.List.{List}
-use Prim.Native.Nat.{ℕ, _+_, _*_, _^_, _≤_, _<_}
-use native.Mathlib.Nat.{mul-le-mul, mul-le-mul-right}
+use Prim.Native.Nat.{ℕ, _+_, _*_, _/_, _^_, _≤_, _<_}
+use native.Mathlib.Nat.{mul-le-mul, mul-le-mul-right, mul-assoc}
 use native.Mathlib.Omega.{arith}
 use lib.Dec.{lit<}
 use lib.Pow.{pow-mono}
 use Rattle.bits.specs.Fields.{field, read}
 use Rattle.bits.proofs.Fields.{read-at}
 use Rattle.table.specs.Formed.{Head, Ranges}
-use Rattle.record.specs.Layout.{header, headOf, bitCount}
+use Rattle.record.specs.Layout.{header, headOf, bitCount, size}
+use Rattle.record.specs.Places.{edgesPlace}
 
 pub power-le : (h : Head) → Ranges h → 2 ^ h .p ≤ 16
 power-le h r = pow-mono {i = h .p} {j = 4} (r .p₂)
@@ -50,3 +51,20 @@ place-le o k d w l e h g = omega (arith, mul-le-mul-right {m = e + 1} {n = k} d 
 -- a product of small numbers
 pub product-le : (e d k m : ℕ) → e ≤ k → d ≤ m → e * d ≤ k * m
 product-le e d k m h g = mul-le-mul {n₁ = e} {m₁ = d} {n₂ = k} {m₂ = m} h g
+
+-- the edges of all states
+pub edge-count-le : (h : Head) (n : ℕ) → Ranges h → n ≡ 2 ^ h .p → h .states * n ≤ 2048
+edge-count-le h n r e = rw e (product-le (h .states) (2 ^ h .p) 128 16 (r .s₂) (power-le h r))
+
+-- the record holds all its fields
+pub size-holds : (h : Head) → bitCount h ≤ 8 * size h
+size-holds h = go (bitCount h)
+  where
+    go : (b : ℕ) → b ≤ 8 * ((b + 7) / 8)
+    go b = omega arith
+
+pub edges-end : (h : Head) (n l : ℕ) → n ≡ 2 ^ h .p → l ≡ size h → edgesPlace h + h .states * n * (h .q + 7) ≤ 8 * l
+edges-end h n l e f =
+    let g : bitCount h ≤ 8 * l = rw f (size-holds h) in
+    let m : h .states * n * (h .q + 7) ≡ h .states * (2 ^ h .p * (h .q + 7)) = rw e (mul-assoc (h .states) (2 ^ h .p) (h .q + 7)) in
+    omega arith

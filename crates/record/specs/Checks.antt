@@ -1,7 +1,8 @@
 -- A record's fields read and checked, before the two checks of the table: "8 below four bytes, header by 7, 8, the rest
 -- by 7"; and what values of the code's structs stand for.
--- In order: headIn; fieldsGood, fieldsChecked; verdictOf, outcomeIn.
+-- In order: headIn; codeAt, restGood, fieldsGood, fieldsChecked; verdictOf, outcomeIn.
 -- Assumes nothing.
+use mathlib.Core.Bool.{Bool}
 use mathlib.Core.List.{List}
 use Prim.Native.Nat.{ℕ}
 use lib.Dec.{leb, eqb}
@@ -26,17 +27,24 @@ headIn f = record {
   start = f .start
 }
 
--- l bytes with the header h and the fields vs: "header by 7, 8, the rest by 7"
+-- the code that the bits bs hold under the header h
+abbrev pub codeAt : Head → List ℕ → Code
+codeAt h bs = codeOf h (read (widths h) bs)
+
+-- the fields behind the header h are in range
+abbrev pub restGood : Head → List ℕ → Bool
+restGood h bs = goodRest h (read (widths h) bs) (codeAt h bs)
+
+-- l bytes with the header h and the bits bs: "header by 7, 8, the rest by 7"
 abbrev pub fieldsGood : ℕ → Head → List ℕ → Outcome Code
-fieldsGood l h vs =
-    unless Field (goodHead h)
-    (unless Length (eqb l (size h)) (unless Field (goodRest h vs (codeOf h vs)) (done (codeOf h vs))))
+fieldsGood l h bs =
+    unless Field (goodHead h) (unless Length (eqb l (size h)) (unless Field (restGood h bs) (done (codeAt h bs))))
 
 -- the code that the bytes' fields name, or the refusal: "8 below four bytes" first
 unfoldable pub fieldsChecked : List ℕ → Outcome Code
 fieldsChecked xs =
     unless Length (leb 4 (length xs))
-    (let bs = bitsOf xs in let h = headOf (read header bs) in fieldsGood (length xs) h (read (widths h) bs))
+    (let bs = bitsOf xs in fieldsGood (length xs) (headOf (read header bs)) bs)
 
 -- a verdict on the code c
 abbrev pub verdictOf : Verdict → Code → Outcome Code

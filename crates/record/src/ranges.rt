@@ -4,11 +4,11 @@ ghost use Prim.Native.Nat.{_+_, _*_, _≤_};
 ghost use lib.Dec.{eqb};
 ghost use lib.ListN.{length};
 ghost use Rattle.laws.specs.Lists.{all, range};
-ghost use Rattle.bits.specs.Fields.{bitsOf, field, read};
+ghost use Rattle.bits.specs.Fields.{bitsOf, field};
 ghost use Rattle.table.specs.Formed.{Ranges};
-ghost use Rattle.record.specs.Layout.{bitCount, size, fill, widths, codeOf};
-ghost use Rattle.record.specs.Parse.{goodField, goodRest};
-ghost use Rattle.record.specs.Checks.{headIn};
+ghost use Rattle.record.specs.Layout.{bitCount, size, fill};
+ghost use Rattle.record.specs.Parse.{goodField};
+ghost use Rattle.record.specs.Checks.{headIn, restGood};
 ghost use Rattle.record.specs.Places.{goodAt, goodTargetAt, edgesPlace};
 use crate::Front;
 use crate::numbers;
@@ -67,4 +67,19 @@ fn good_fill(bytes: &[u8], f: Front) -> bool
 {
     let at = numbers::bit_count(f);
     bits::get(bytes, at, 8 * bytes.len() - at) == 0
+}
+
+// Whether all fields behind the header are in range: otherwise refusal 7.
+pub fn good_rest(bytes: &[u8], f: Front) -> bool
+    requires { ⌜ Ranges (headIn f) × (length (now bytes) ≡ size (headIn f)) ⌝ }
+    ensures answer { λ r. ⌜ r ≡ restGood (headIn f) (bitsOf (now (bytes .entry))) ⌝ }
+{
+    if !good_states(bytes, f.count) {
+        return false;
+    }
+    let edges = f.states * bits::power(f.p);
+    if !good_targets(bytes, f, edges) {
+        return false;
+    }
+    good_fill(bytes, f)
 }
