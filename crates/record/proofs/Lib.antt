@@ -10,3 +10,6 @@ pub mod Sizes
 pub mod Alls
 pub mod Fills
 pub mod RecordChecks
+pub mod RecordTables
+pub mod RecordReady
+pub mod RecordReading

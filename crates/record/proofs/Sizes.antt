@@ -6,13 +6,13 @@ use mathlib.Core.List.{List}
 use Prim.Native.Nat.{ℕ, _+_, _*_, _/_, _^_, _≤_, _<_}
 use native.Mathlib.Nat.{mul-le-mul, mul-le-mul-right, mul-assoc}
 use native.Mathlib.Omega.{arith}
-use lib.Dec.{lit<}
-use lib.Pow.{pow-mono}
+use lib.Dec.{lit<, lit≤}
+use lib.Pow.{pow-mono, pow-pos}
 use Rattle.bits.specs.Fields.{field, read}
 use Rattle.bits.proofs.Fields.{read-at}
 use Rattle.table.specs.Formed.{Head, Ranges}
 use Rattle.record.specs.Layout.{header, headOf, bitCount, size}
-use Rattle.record.specs.Places.{edgesPlace}
+use Rattle.record.specs.Places.{edgesPlace, Reach}
 
 pub power-le : (h : Head) → Ranges h → 2 ^ h .p ≤ 16
 power-le h r = pow-mono {i = h .p} {j = 4} (r .p₂)
@@ -68,3 +68,18 @@ edges-end h n l e f =
     let g : bitCount h ≤ 8 * l = rw f (size-holds h) in
     let m : h .states * n * (h .q + 7) ≡ h .states * (2 ^ h .p * (h .q + 7)) = rw e (mul-assoc (h .states) (2 ^ h .p) (h .q + 7)) in
     omega arith
+
+-- the words and the next states of all edges lie within the record
+module _ (h : Head) (n l : ℕ) (r : Ranges h) (e : n ≡ 2 ^ h .p) (f : l ≡ size h) where
+  pub reach-words : Reach (8 * l) n (h .states * n) (edgesPlace h) (h .q + 7) (h .q)
+  reach-words = record {
+    some = rw e (pow-pos (h .p)); few = rw e (power-le h r); states = mul-le-mul-right n (r .s₂); width = r .q₂;
+    apart = omega (arith, r .q₂); first = omega (arith, r .k₂); last = omega (arith, edges-end h n l e f)
+  }
+
+  pub reach-nexts : Reach (8 * l) n (h .states * n) (edgesPlace h + h .q) (h .q + 7) 7
+  reach-nexts = record {
+    some = rw e (pow-pos (h .p)); few = rw e (power-le h r); states = mul-le-mul-right n (r .s₂);
+    width = lit≤ tt; apart = omega (arith, r .q₂); first = omega (arith, r .k₂, r .q₂);
+    last = omega (arith, edges-end h n l e f)
+  }

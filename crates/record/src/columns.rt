@@ -6,8 +6,14 @@ ghost use lib.ListN.{length};
 ghost use Rattle.laws.specs.Lists.{range};
 ghost use Rattle.bits.specs.Fields.{bitsOf};
 ghost use Rattle.constraint.specs.Value.{constraintOf};
+ghost use Rattle.table.specs.Formed.{Ranges};
+ghost use Rattle.table.specs.Value.{codeIn};
+ghost use Rattle.record.specs.Layout.{size};
+ghost use Rattle.record.specs.Checks.{headIn, codeAt};
 ghost use Rattle.record.specs.Places.{nextIn, stateIn, Column, Reach};
 use constraint::Constraint;
+use table::Table;
+use crate::Front;
 
 // The next state at the bit place `at`, 255 for none.
 fn next_of(bytes: &[u8], at: usize) -> u8
@@ -54,4 +60,29 @@ pub fn column(bytes: &[u8], n: usize, edges: usize, first: usize, step: usize, w
         e += 1;
     }
     a
+}
+
+// The table of a record with the numbers f in front.
+pub fn table_of(bytes: &[u8], f: Front) -> Table
+    requires { ⌜ Ranges (headIn f) × (length (now bytes) ≡ size (headIn f)) ⌝ }
+    ensures answer { λ r. ⌜ codeIn r ≡ codeAt (headIn f) (bitsOf (now (bytes .entry))) ⌝ }
+{
+    let n = bits::power(f.p);
+    let edges = f.states * n;
+    let first = 30 + f.count * 10;
+    let step = f.q + 7;
+    let constraint = states_of(bytes, f.count);
+    let word = column(bytes, n, edges, first, step, f.q);
+    let next = column(bytes, n, edges, first + f.q, step, 7);
+    Table {
+        p: f.p,
+        q: f.q,
+        states: f.states,
+        memory: f.memory,
+        lookahead: f.lookahead,
+        constraint: constraint,
+        start: f.start,
+        word: word,
+        next: next,
+    }
 }
