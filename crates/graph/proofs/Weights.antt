@@ -10,7 +10,7 @@ use native.Mathlib.Nat.{
 }
 use native.Mathlib.Omega.{arith}
 use native.Mathlib.Decide.{decLt}
-use lib.ListN.{length, getD, length-map, replicate, length-replicate, List·getD-eq-default}
+use lib.ListN.{length, getD, length-map, replicate, length-replicate, List·getD-eq-default, getD-replicate}
 use Rattle.laws.specs.Lists.{range, sum}
 use Rattle.laws.proofs.Tests.{length-from, map-range-at}
 use Rattle.graph.specs.Arcs.{Arc, out}
@@ -104,3 +104,17 @@ module _ (n : ℕ) (g : List Arc) where
   weights-greatest cap K u p l h e =
       iterate-keeps (lowered n g) (AtMost u) (λ v k. lowered-keeps u v p e k) (K * cap) (replicate K cap)
       (below-caps u K cap l h)
+
+-- no weight is above cap
+pub weights-cap : (n : ℕ) (g : List Arc) (cap K : ℕ) (s : ℕ) → getD (weights n cap K g) s 0 ≤ cap
+unfolding weights
+weights-cap n g cap K =
+    iterate-keeps (lowered n g) (λ v. (s : ℕ) → getD v s 0 ≤ cap)
+    (λ v h s. le-trans (lowered-below n g v s) (h s)) (K * cap) (replicate K cap) capped
+  where
+    capped : (s : ℕ) → getD (replicate K cap) s 0 ≤ cap
+    capped s = go (decLt s K)
+      where
+        go : Dec (s < K) → getD (replicate K cap) s 0 ≤ cap
+        go (yes h) = le-of-eq (getD-replicate K s cap 0 h)
+        go (no h) = rw (List·getD-eq-default (replicate K cap) 0 {n = s} (rw (length-replicate K cap) (omega arith))) zero-le
