@@ -45,7 +45,7 @@ module _ (c : Constraint) (well : Well c) (n q cap : ℕ) (hn : 0 < n) where
   inside = rw (weights-length n g cap (length c)) (power-inside c well q)
 
   -- a component that weighs something has a live state
-  live-some : 0 < sum (x .weights) → (z : ℕ) × T (elem z (live v))
+  pub live-some : 0 < sum (x .weights) → (z : ℕ) × T (elem z (live v))
   unfolding componentGraph componentStates tableStates tableOf splitAll
   live-some h = go (tot-some (λ s. getD v s 0) (λ s. T (elem s (live v))) C h
       (each-filter (λ s. T (elem s (live v))) _ (live v)
@@ -99,10 +99,10 @@ module _ (c : Constraint) (well : Well c) (n q cap : ℕ) (hn : 0 < n) where
                 (le-trans (tot-filter-le (λ s. 1) _ (range (length (y .weights))))
                     (le-of-eq (tot-length (range (length (y .weights))) ∙ length-from 0 (length (y .weights)))))
 
-    pub coded : length (y .arcs) ≤ 2048
+    pub table-coded : length (y .arcs) ≤ 2048
         → (root : ℕ → ℕ) × Tabled (Reads c q) n (tableOf n y) root × (root 0 ≡ getD C 0 0)
     unfolding componentGraph componentStates tableStates tableOf splitAll
-    coded few = go (splits-rooted Over (length (x .weights)) n (sum (x .weights)) hn (sum (x .weights)) x
+    table-coded few = go (splits-rooted Over (length (x .weights)) n (sum (x .weights)) hn (sum (x .weights)) x
         (λ y. y) first-inv first-rooted)
       where
         I : Inv n (sum (x .weights)) y

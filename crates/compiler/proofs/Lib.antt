@@ -1,3 +1,4 @@
 pub mod Compiled
 pub mod Jobs
 pub mod Compile
+pub mod Accepted

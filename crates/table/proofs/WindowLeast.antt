@@ -14,7 +14,7 @@ use Rattle.laws.specs.Lists.{if_then_else_, range, all, any, first}
 use Rattle.laws.proofs.Tests.{and→, →and, or→, →orL, →orR, all→, any→, all-below→}
 use Rattle.table.specs.Rows.{Rows, Size}
 use Rattle.table.specs.Works.{works}
-use Rattle.table.specs.Search.{sizes, window}
+use Rattle.table.specs.Search.{sizes, window, noSize}
 use Rattle.table.specs.Window.{NoLater}
 
 -- the order of the search as one number
@@ -102,14 +102,14 @@ sizes-small = tt
 
 size-lt : (z : Size) → T (any (same z) sizes) → (z .memory < 16) × (z .lookahead < 16)
 unfolding small
-size-lt z t = go (any→ (same z) (record { memory = 16; lookahead = 16 }) sizes t)
+size-lt z t = go (any→ (same z) noSize sizes t)
   where
-    go : (i : ℕ) × (i < length sizes) × T (same z (getD sizes i (record { memory = 16; lookahead = 16 })))
+    go : (i : ℕ) × (i < length sizes) × T (same z (getD sizes i noSize))
         → (z .memory < 16) × (z .lookahead < 16)
     go (i, h, u) =
-        let w = getD sizes i (record { memory = 16; lookahead = 16 }) in
+        let w = getD sizes i noSize in
         let (a, b) = and→ (ltb (w .memory) 16) (ltb (w .lookahead) 16)
-            (all→ small (record { memory = 16; lookahead = 16 }) sizes sizes-small i h) in
+            (all→ small noSize sizes sizes-small i h) in
         subst (λ v. (v .memory < 16) × (v .lookahead < 16)) (sym (same→ z w u))
             (ltb→lt (w .memory) 16 a, ltb→lt (w .lookahead) 16 b)
 
@@ -120,20 +120,19 @@ no-later z w h l r = go (decLt (z .memory + z .lookahead) (w .memory + w .lookah
     go (yes k) = inl k
     go (no k) = inr (omega arith, omega arith)
 
--- THEOREM
-pub window-least : (g : Rows) →
-    ((window g .memory < 16) × (window g .lookahead < 16) × T (works g (window g))
-        × ((w : Size) → w .memory < 16 → w .lookahead < 16 → T (works g w) → NoLater (window g) w))
-    ⊎ ((window g ≡ record { memory = 16; lookahead = 16 })
-        × ((w : Size) → w .memory < 16 → w .lookahead < 16 → T (works g w) → ⊥))
+-- z is the working window that comes no later than any other; or it is the mark, and none works
+abbrev pub Chosen : Rows → Size → Type 0
+Chosen t z =
+    ((z .memory < 16) × (z .lookahead < 16) × T (works t z)
+    × ((y : Size) → y .memory < 16 → y .lookahead < 16 → T (works t y) → NoLater z y))
+    ⊎ ((z ≡ noSize) × ((y : Size) → y .memory < 16 → y .lookahead < 16 → T (works t y) → ⊥))
+
+pub window-least : (t : Rows) → Chosen t (window t)
 unfolding window
-window-least g = go (window g) (first-least (works g) (record { memory = 16; lookahead = 16 }) 0 sizes sizes-rise)
+window-least t = go (window t) (first-least (works t) noSize 0 sizes sizes-rise)
   where
-    go : (z : Size) → Least (works g) (record { memory = 16; lookahead = 16 }) sizes z
-        → ((z .memory < 16) × (z .lookahead < 16) × T (works g z)
-            × ((w : Size) → w .memory < 16 → w .lookahead < 16 → T (works g w) → NoLater z w))
-          ⊎ ((z ≡ record { memory = 16; lookahead = 16 })
-              × ((w : Size) → w .memory < 16 → w .lookahead < 16 → T (works g w) → ⊥))
-    go z (inl (i, t, f)) = let (a, b) = size-lt z i in
-        inl (a, b, t, λ w h l u. no-later z w b l (f w (in-sizes w h l) u))
-    go z (inr (e, f)) = inr (e, λ w h l u. f w (in-sizes w h l) u)
+    go : (z : Size) → Least (works t) noSize sizes z → Chosen t z
+    go z (inl (i, k, f)) =
+        let (a, b) = size-lt z i in
+        inl (a, b, k, λ y h l u. no-later z y b l (f y (in-sizes y h l) u))
+    go z (inr (e, f)) = inr (e, λ y h l u. f y (in-sizes y h l) u)
