@@ -32,19 +32,19 @@ run-reads g n c f [] s i h = tt
 run-reads g n c f (x ∷ xs) s i (a, h) = let b : x < length (edges g s) = rw (f s i) a in
     (b, refl, run-reads g n c f xs (at g s x .next) (c s x b) h)
 
-same-reading : (g : Rows) (S S' : List Bool) (w w' : ℕ) (ws ws' : List ℕ) → S ≡ S' → w ≡ w' → ws ≡ ws'
+pub same-reading : (g : Rows) (S S' : List Bool) (w w' : ℕ) (ws ws' : List ℕ) → S ≡ S' → w ≡ w' → ws ≡ ws'
     → reading g S w ws ≡ reading g S' w' ws'
 same-reading g S S' w w' ws ws' p q r = rw (p, q, r)
 
 -- the stretch of k + 1 + a words at place n of L, cut up
 module _ (L : List ℕ) (n k a : ℕ) where
-  cut-before : take k (take (suc k + a) (drop n L)) ≡ take k (drop n L)
+  pub cut-before : take k (take (suc k + a) (drop n L)) ≡ take k (drop n L)
   cut-before = take-take k (suc k + a) (drop n L) (omega arith)
 
-  cut-at : getD (take (suc k + a) (drop n L)) k 0 ≡ getD L (n + k) 0
+  pub cut-at : getD (take (suc k + a) (drop n L)) k 0 ≡ getD L (n + k) 0
   cut-at = getD-take (suc k + a) (drop n L) k 0 (omega arith) ∙ getD-drop n L k 0
 
-  cut-ahead : drop (suc k) (take (suc k + a) (drop n L)) ≡ take a (drop (n + suc k) L)
+  pub cut-ahead : drop (suc k) (take (suc k + a) (drop n L)) ≡ take a (drop (n + suc k) L)
   cut-ahead = drop-take (suc k) a (drop n L) ∙ ap (take a) (drop-drop (suc k) n L)
 
 module _ (c : Code) (good : Sound c) (data′ L : List ℕ) (fit : Below (2 ^ c .p) data′) where

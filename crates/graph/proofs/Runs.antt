@@ -31,7 +31,7 @@ mod-diff n a b h =
     let e : b ≡ n * q - n * r = omega (arith, mod-add-div (a + b) n, mod-add-div a n) in
     rw e (mod-eq-zero-of-dvd n (dvd-sub n (dvd-mul-right n q) (dvd-mul-right n r)))
 
-tot-take-add : {A : Type 0} (f : A → ℕ) (i k : ℕ) (l : List A)
+pub tot-take-add : {A : Type 0} (f : A → ℕ) (i k : ℕ) (l : List A)
     → tot f (take (i + k) l) ≡ tot f (take i l) + tot f (take k (drop i l))
 tot-take-add f zero k l = rw (zero-add k) (sym (zero-add _))
 tot-take-add f (suc i) k [] = rw (suc-add i k) (nil k)

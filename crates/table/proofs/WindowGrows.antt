@@ -1,4 +1,5 @@
 -- A window that works goes on working with more memory and with more lookahead.
+-- In order: more-memory; more-lookahead; window-grows-memory, window-grows-lookahead; works-grows.
 -- Assumes nothing.
 use mathlib.Core.Path.{_≡_, sym, ap, subst, subst₂, _∙_}
 use mathlib.Core.List.{List, [], _∷_, _++_, append-assoc}
@@ -13,6 +14,8 @@ use Rattle.table.specs.Works.{works}
 use Rattle.table.proofs.Same.{Same, AgreeSame, WindowSame, same-append, works→}
 use Rattle.table.specs.Paths.{Closed}
 use Rattle.table.proofs.Works.{→works}
+use Rattle.table.specs.Window.{Window}
+use Rattle.table.proofs.Window.{window→same, same→window}
 
 -- ---- more memory
 agree-memory : (g : Rows) → Closed g → (m a : ℕ) → ((s t : ℕ) → s < length g → t < length g → AgreeSame g m a s t)
@@ -22,7 +25,6 @@ agree-memory g c m a f s t (u ∷ us) [] vs vs' x y l l' n n' h = absurd (omega 
 agree-memory g c m a f s t (u ∷ us) (u' ∷ us') vs vs' x y l l' n n' (h, h', w, k) =
     f (at g s u .next) (at g t u' .next) (c s u h) (c t u' h') us us' vs vs' x y (omega arith) (omega arith) n n' k
 
--- THEOREM
 pub more-memory : (g : Rows) → Closed g → 0 < length g → (m a : ℕ)
     → WindowSame g (record { memory = m; lookahead = a }) → WindowSame g (record { memory = suc m; lookahead = a })
 more-memory g c p m a w = record {
@@ -54,12 +56,24 @@ agree-lookahead g m a s t f us us' vs vs' x y l l' n n' h =
     f us us' (take a vs) (take a vs') x y l l' (length-take-le a vs (omega arith))
         (length-take-le a vs' (omega arith)) (same-front g a s t x y us us' vs vs' (l ∙ sym l') n n' h)
 
--- THEOREM
 pub more-lookahead : (g : Rows) (m a : ℕ) → WindowSame g (record { memory = m; lookahead = a })
     → WindowSame g (record { memory = m; lookahead = suc a })
 more-lookahead g m a w = record {
     later = λ s t i j. agree-lookahead g m a s t (w .later s t i j);
     early = λ i h. agree-lookahead g i a 0 0 (w .early i h) }
+
+-- ---- of the sentence on two paths
+pub window-grows-memory : (t : Rows) → Closed t → 0 < length t → (m a : ℕ)
+    → Window t (record { memory = m; lookahead = a }) → Window t (record { memory = suc m; lookahead = a })
+window-grows-memory t c p m a w =
+    same→window t (record { memory = suc m; lookahead = a })
+    (more-memory t c p m a (window→same t (record { memory = m; lookahead = a }) w))
+
+pub window-grows-lookahead : (t : Rows) (m a : ℕ)
+    → Window t (record { memory = m; lookahead = a }) → Window t (record { memory = m; lookahead = suc a })
+window-grows-lookahead t m a w =
+    same→window t (record { memory = m; lookahead = suc a })
+    (more-lookahead t m a (window→same t (record { memory = m; lookahead = a }) w))
 
 -- the same of the test
 pub works-grows : (g : Rows) → Closed g → 0 < length g → (m a : ℕ)
