@@ -2,3 +2,4 @@ pub mod Compiled
 pub mod Jobs
 pub mod Compile
 pub mod Accepted
+pub mod Promises
