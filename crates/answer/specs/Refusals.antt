@@ -4,8 +4,19 @@
 use Prim.Native.Nat.{ℕ}
 use Rattle.answer.specs.declared.Refusal.{Refusal}
 use Rattle.answer.specs.declared.Refusal.the-variants.{
-  Parameters, States, NoCode, TooHeavy, TooManyEdges, NoWindow, Field, Length, Disobeys, WindowFails, BadByte, TooFewWords,
-  ShortOutput
+  Parameters,
+  States,
+  NoCode,
+  TooHeavy,
+  TooManyEdges,
+  NoWindow,
+  Field,
+  Length,
+  Disobeys,
+  WindowFails,
+  BadByte,
+  TooFewWords,
+  ShortOutput,
 }
 
 -- the number of a refusal in document 01's table

@@ -47,8 +47,10 @@ made j a h light few =
     let (z, ez) = live-some (j .constraint) (a .well) n (j .q) (j .cap) (ways-pos j) h in
     let (root, t, s) = table-coded (j .constraint) (a .well) n (j .q) (j .cap) (ways-pos j) z ez few in
     record {
-      root = root; table = t; start = s;
-      few = le-trans (states-few (j .constraint) (a .well) n (j .q) (j .cap) (ways-pos j) z ez) light
+      root = root;
+      table = t;
+      start = s;
+      few = le-trans (states-few (j .constraint) (a .well) n (j .q) (j .cap) (ways-pos j) z ez) light;
     }
 
 -- ---- every recording obeys
@@ -58,19 +60,24 @@ made-obeys j m =
   where
     t : Rows
     t = tableFor j
+
     Root : ℕ → ℕ → Type 0
     Root s k = (s < length (tableFor j)) × (k ≡ m .root s)
+
     datum : (s d : ℕ) → s < length t → d < length (edges t s) → d < ways j
     datum s d hs hd = rw (m .table .full s hs) at hd
+
     reads : (s k d : ℕ) → Root s k → d < length (edges t s)
         → m .root (at t s d .next) ≡ walk (j .constraint) (j .q) (at t s d .word) k
     reads s k d (hs, e) hd =
         m .table .over s d hs (datum s d hs hd) .1 .0
         ∙ ap (walk (j .constraint) (j .q) (at t s d .word)) (sym e)
+
     step : (s k d : ℕ) → Root s k → d < length (edges t s)
         → walk (j .constraint) (j .q) (at t s d .word) k < length (j .constraint)
         → Root (at t s d .next) (walk (j .constraint) (j .q) (at t s d .word) k)
     step s k d r hd l = (m .table .next s d (r .0) (datum s d (r .0) hd), sym (reads s k d r hd))
+
     fails : (s k d : ℕ) → Root s k → d < length (edges t s)
         → (walk (j .constraint) (j .q) (at t s d .word) k ≡ none) → ⊥
     fails s k d r hd e = m .table .over s d (r .0) (datum s d (r .0) hd) .1 .1 (reads s k d r hd ∙ e)
@@ -92,31 +99,33 @@ good-nexts : (c : Constraint) (K : ℕ) → Each (λ r. Target K (r .zero) × Ta
 good-nexts c K h =
     →all (goodNext K) nowhere c
     (λ i l.
-        let r = getD c i nowhere in
-        let (a, b) = each-at (λ r. Target K (r .zero) × Target K (r .one)) nowhere c h i l in
-        →and (goodState K (r .zero)) (goodState K (r .one)) (good-state K (r .zero) a) (good-state K (r .one) b))
+    let r = getD c i nowhere in
+    let (a, b) = each-at (λ r. Target K (r .zero) × Target K (r .one)) nowhere c h i l in
+    →and (goodState K (r .zero)) (goodState K (r .one)) (good-state K (r .zero) a) (good-state K (r .one) b))
 
 good-rows : (j : Job) (m : Made j) → T (all (goodRow (j .p) (j .q) (length (tableFor j))) (tableFor j))
 good-rows j m =
     let t = tableFor j in
     →all (goodRow (j .p) (j .q) (length t)) [] t
     (λ s hs.
-        let full = m .table .full s hs in
-        →and (eqb (length (edges t s)) (2 ^ j .p)) (all (goodEdge (j .q) (length t)) (edges t s))
-        (rw full (eqb-refl (2 ^ j .p)))
-        (→all (goodEdge (j .q) (length t)) (edge 0 0) (edges t s)
-        (λ d hd.
-            let l : d < ways j = rw full at hd in
-            →and (ltb (at t s d .word) (2 ^ j .q)) (ltb (at t s d .next) (length t))
-            (lt→ltb (at t s d .word) (2 ^ j .q) (m .table .over s d hs l .1 .2))
-            (lt→ltb (at t s d .next) (length t) (m .table .next s d hs l)))))
+    let full = m .table .full s hs in
+    →and (eqb (length (edges t s)) (2 ^ j .p)) (all (goodEdge (j .q) (length t)) (edges t s))
+    (rw full (eqb-refl (2 ^ j .p)))
+    (→all (goodEdge (j .q) (length t)) (edge 0 0) (edges t s)
+    (λ d hd.
+    let l : d < ways j = rw full at hd in
+    →and (ltb (at t s d .word) (2 ^ j .q)) (ltb (at t s d .next) (length t))
+    (lt→ltb (at t s d .word) (2 ^ j .q) (m .table .over s d hs l .1 .2))
+    (lt→ltb (at t s d .next) (length t) (m .table .next s d hs l)))))
+
 made-formed : (j : Job) → Allowed j → (m : Made j) → window (tableFor j) .memory ≤ 15
     → T (formed (code j (tableFor j)))
 unfolding formed
 made-formed j a m w =
     let t = tableFor j in
     let h = head (code j t) in
-    let first : startOf j < length (j .constraint) = rw (← (m .start)) (m .table .over 0 0 (m .table .some) (ways-pos j) .0) in
+    let first : startOf j < length (j .constraint) =
+    rw (← (m .start)) (m .table .over 0 0 (m .table .some) (ways-pos j) .0) in
     →and (inRange h) (all (goodNext (length (j .constraint))) (j .constraint)
     && all (goodRow (j .p) (j .q) (length t)) t)
     (→and (leb 1 (j .p) && leb (j .p) 4) _
@@ -150,7 +159,9 @@ compiled-passes j a c e = go c (subst (Reason j) e (reason j))
     go c (coded h light few w) =
         let m : Made j = made j a h light few in
         record {
-          formed = made-formed j a m w; obeys = made-obeys j m; works = window-found (tableFor j) w .1
+          formed = made-formed j a m w;
+          obeys = made-obeys j m;
+          works = window-found (tableFor j) w .1;
         }
 
 -- the compiler's record always passes the checker, and loads as the code

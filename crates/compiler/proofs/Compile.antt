@@ -25,7 +25,15 @@ use Rattle.graph.specs.Component.{componentStates, componentGraph, weightOf}
 use Rattle.graph.proofs.Weights.{weights-length, weights-enough, weights-greatest, weights-cap}
 use Rattle.compiler.specs.Jobs.{Job, Allowed}
 use Rattle.compiler.specs.Compile.{
-  ways, graphOf, weightsOf, componentOf, finishedOf, tableFor, code, compile, Vector
+  ways,
+  graphOf,
+  weightsOf,
+  componentOf,
+  finishedOf,
+  tableFor,
+  code,
+  compile,
+  Vector,
 }
 use Rattle.compiler.proofs.Compiled.{none-weighs}
 
@@ -47,10 +55,13 @@ reason j =
   where
     w : ℕ
     w = sum (componentOf j .weights)
+
     e : ℕ
     e = length (finishedOf j .arcs)
+
     m : ℕ
     m = window (tableFor j) .memory
+
     go : (b₁ : Bool) → ltb 0 w ≡ b₁ → (b₂ : Bool) → leb w 128 ≡ b₂ → (b₃ : Bool) → ltb 2048 e ≡ b₃
         → (b₄ : Bool) → leb m 15 ≡ b₄
         → Reason j (unless NoCode b₁ (unless TooHeavy b₂ (unless TooManyEdges (not b₃)
@@ -71,7 +82,7 @@ pub weights-vector : (j : Job) → Vector j (weightsOf j)
 weights-vector j = record {
   short = le-of-eq (weights-length (ways j) (graphOf j) (j .cap) (length (j .constraint)));
   capped = weights-cap (ways j) (graphOf j) (j .cap) (length (j .constraint));
-  enough = weights-enough (ways j) (graphOf j) (j .cap) (length (j .constraint)) (ways-pos j)
+  enough = weights-enough (ways j) (graphOf j) (j .cap) (length (j .constraint)) (ways-pos j);
 }
 
 pub greatest-vector : (j : Job) (u : List ℕ) → Vector j u → AtMost u (weightsOf j)
@@ -105,9 +116,11 @@ no-code-exact j a = (there, here)
   where
     zero-sum : Reason j (refused NoCode) → sum (componentOf j .weights) ≡ 0
     zero-sum (nothing z) = z
+
     there : compile j ≡ refused NoCode → (u : List ℕ) → Vector j u → (s : ℕ) → getD u s 0 ≡ 0
     there e u v s =
         let z = weighs-nothing j a (zero-sum (subst (Reason j) e (reason j))) s in
         omega (arith, greatest-vector j u v s)
+
     here : ((u : List ℕ) → Vector j u → (s : ℕ) → getD u s 0 ≡ 0) → compile j ≡ refused NoCode
     here f = says-none j (nothing-weighs j (f (weightsOf j) (weights-vector j)))

@@ -28,12 +28,27 @@ use Rattle.graph.specs.Arcs.{out}
 use Rattle.graph.proofs.Loop.{states-le, splitted-end, splitted-full}
 use Rattle.compiler.specs.Jobs.{Job, readJob, readRunLength, Allowed}
 use Rattle.compiler.specs.Compile.{
-  ways, componentOf, finishedOf, tableFor, code, compile, compileInto, compileJob, compileRunLength
+  ways,
+  componentOf,
+  finishedOf,
+  tableFor,
+  code,
+  compile,
+  compileInto,
+  compileJob,
+  compileRunLength,
 }
 use Rattle.compiler.proofs.Compiled.{live-some, first-inv}
 use Rattle.compiler.proofs.Jobs.{readJob-allowed, readRunLength-allowed}
 use Rattle.compiler.proofs.Compile.{
-  ways-pos, Reason, reason, nothing, heavy, crowding, windowless, coded
+  ways-pos,
+  Reason,
+  reason,
+  nothing,
+  heavy,
+  crowding,
+  windowless,
+  coded,
 }
 use Rattle.compiler.proofs.Accepted.{Made, made, window-found, compile-parses}
 
@@ -46,9 +61,10 @@ split-ends j a h =
     let n = ways j in
     let S = sum (componentOf j .weights) in
     let (z, ez) = live-some (j .constraint) (a .well) n (j .q) (j .cap) (ways-pos j) h in
-    let inv = first-inv (j .constraint) (a .well) n (j .q) (j .cap) (ways-pos j) z ez in
-    (states-le n S (ways-pos j) (finishedOf j) (splitted-end n S (ways-pos j) (componentOf j) inv .0),
-    splitted-full n S (ways-pos j) (componentOf j) inv)
+    let inv = first-inv (j .constraint) (a .well) n (j .q) (j .cap) (ways-pos j) z ez in (
+      states-le n S (ways-pos j) (finishedOf j) (splitted-end n S (ways-pos j) (componentOf j) inv .0),
+      splitted-full n S (ways-pos j) (componentOf j) inv,
+    )
 
 -- ---- the window
 pub made-closed : (j : Job) → Made j → Closed (tableFor j)
@@ -56,6 +72,7 @@ made-closed j m s d hd = go (decLt s (length (tableFor j)))
   where
     t : Rows
     t = tableFor j
+
     go : Dec (s < length t) → at t s d .next < length t
     go (yes h) = m .table .next s d h (rw (m .table .full s h) at hd)
     go (no h) = absurd (let z : edges t s ≡ [] = List·getD-eq-default t [] {n = s} (omega arith) in empty (rw z at hd))
@@ -73,17 +90,21 @@ least-window j a c e = go c (subst (Reason j) e (reason j))
     Least c =
         Window (c .table) (c .window)
         × ((y : Size) → y .memory ≤ 15 → y .lookahead ≤ 15 → Window (c .table) y → NoLater (c .window) y)
+
     go : (c : Code) → Reason j (done c) → Least c
     go c (coded h light few w) = found (window-least (tableFor j))
       where
         m : Made j
         m = made j a h light few
+
         t : Rows
         t = tableFor j
+
         found : Chosen t (window t) → Least (code j t)
-        found (inl (_, _, k, f)) =
-            (works-sound t (window t) (made-closed j m) (m .table .some) k,
-            λ y hm ha u. f y (omega arith) (omega arith) (works-complete t y u))
+        found (inl (_, _, k, f)) = (
+          works-sound t (window t) (made-closed j m) (m .table .some) k,
+          λ y hm ha u. f y (omega arith) (omega arith) (works-complete t y u),
+        )
         found (inr (q, f)) = let z : window t .memory ≡ 16 = ap (λ z. z .memory) q in absurd (omega arith)
 
 -- refusal 6 comes exactly when no window up to 15 and 15 does what a window must
@@ -95,15 +116,21 @@ no-window-exact j a h light few = (there, here)
   where
     t : Rows
     t = tableFor j
+
     m : Made j
     m = made j a h light few
+
     wide : Reason j (refused NoWindow) → 15 < window t .memory
     wide (windowless _ _ w) = w
-    none : Chosen t (window t) → 15 < window t .memory → (y : Size) → y .memory ≤ 15 → y .lookahead ≤ 15 → Window t y → ⊥
+
+    none : Chosen t (window t) → 15 < window t .memory
+        → (y : Size) → y .memory ≤ 15 → y .lookahead ≤ 15 → Window t y → ⊥
     none (inl (s, _, _, _)) w = absurd (omega arith)
     none (inr (_, f)) w = λ y hm ha u. f y (omega arith) (omega arith) (works-complete t y u)
+
     there : compile j ≡ refused NoWindow → (y : Size) → y .memory ≤ 15 → y .lookahead ≤ 15 → Window t y → ⊥
     there e = none (window-least t) (wide (subst (Reason j) e (reason j)))
+
     pick : (o : Outcome Code) → Reason j o → ((y : Size) → y .memory ≤ 15 → y .lookahead ≤ 15 → Window t y → ⊥)
         → o ≡ refused NoWindow
     pick _ (nothing z) f = absurd (omega arith)
@@ -113,6 +140,7 @@ no-window-exact j a h light few = (there, here)
     pick _ (coded _ _ _ w) f =
         let (l, k) = window-found t w in
         absurd (f (window t) w (omega arith) (works-sound t (window t) (made-closed j m) (m .table .some) k))
+
     here : ((y : Size) → y .memory ≤ 15 → y .lookahead ≤ 15 → Window t y → ⊥) → compile j ≡ refused NoWindow
     here f = pick (compile j) (reason j) f
 

@@ -57,7 +57,12 @@ tableFor j = tableOf (ways j) (finishedOf j)
 -- the code with the table t and its least window
 abbrev pub code : Job → Rows → Code
 code j t = record {
-  p = j .p; q = j .q; window = window t; constraint = j .constraint; start = startOf j; table = t
+  p = j .p;
+  q = j .q;
+  window = window t;
+  constraint = j .constraint;
+  start = startOf j;
+  table = t;
 }
 
 -- "all weights 0", "component's weights sum over 128", "over 2,048 edges", "no window up to 15 and 15"

@@ -17,7 +17,16 @@ use Rattle.laws.proofs.Tests.{length-from}
 use Rattle.laws.proofs.Sums.{each-always, each-image}
 use Rattle.laws.proofs.Elems.{each-at}
 use Rattle.constraint.specs.Walking.{
-  none, NextStates, Constraint, runLengthState, runLength, nowhere, after, walk, Target, Well
+  none,
+  NextStates,
+  Constraint,
+  runLengthState,
+  runLength,
+  nowhere,
+  after,
+  walk,
+  Target,
+  Well,
 }
 
 -- ---- nothing leads on from none
@@ -39,6 +48,7 @@ module _ (c : Constraint) (well : Well c) where
     where
       of : s < length c → Target (length c) (getD c s nowhere .zero) × Target (length c) (getD c s nowhere .one)
       of h = each-at (λ r. Target (length c) (r .zero) × Target (length c) (r .one)) nowhere c well s h
+
       go : Dec (s < length c) → (t : Bool)
           → Target (length c) (if t then (getD c s nowhere) .zero else (getD c s nowhere) .one)
       go (yes h) true = of h .0
@@ -63,6 +73,7 @@ runLength-well d k =
     longer : (i : ℕ) (b : Bool) → ltb i k ≡ b → Target (k + 1) (if b then i + 1 else none)
     longer i true e = inl (omega (arith, ltb-true i k e))
     longer i false e = inr refl
+
     back : (b : Bool) → Target (k + 1) (if b then 0 else none)
     back true = inl (omega arith)
     back false = inr refl

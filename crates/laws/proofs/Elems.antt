@@ -1,4 +1,6 @@
 -- Members of lists of numbers, and their places.
+-- In order: each-elem, elem-each, elem-filter, →elem-filter, each-at, elem-range, all-each, not-all, range-once,
+-- tot-filter-le, index-lt, at-index, index-at.
 -- Assumes nothing.
 use mathlib.Core.Path.{_≡_, refl, sym, ap, subst}
 use mathlib.Core.Bool.{Bool, true, false, _&&_, _||_}
@@ -13,14 +15,23 @@ use Rattle.laws.specs.Lists.{if_then_else_, from, range, filter, elem, i
 use Rattle.laws.proofs.Tests.{and→, →orL, →orR, →any-below, Whether, so, nay, eqb-is, T→true}
 use Rattle.laws.specs.Sums.{Each, tot, mask, one, times}
 use Rattle.laws.proofs.Sums.{
-  each-map, each-always, each-filter, filter-each, any-each, tot-filter, tot-le, any→count
+  each-map,
+  each-always,
+  each-filter,
+  filter-each,
+  any-each,
+  tot-filter,
+  tot-le,
+  any→count,
 }
 
 pub each-elem : (l : List ℕ) → Each (λ x. T (elem x l)) l
 each-elem [] = tt
-each-elem (x ∷ l) =
-    (→orL (eqb x x) (elem x l) (eqb-refl x), each-map (λ y. T (elem y l)) (λ y. T (elem y (x ∷ l)))
-        (λ y t. →orR (eqb y x) (elem y l) t) l (each-elem l))
+each-elem (x ∷ l) = (
+  →orL (eqb x x) (elem x l) (eqb-refl x),
+  each-map (λ y. T (elem y l)) (λ y. T (elem y (x ∷ l)))
+      (λ y t. →orR (eqb y x) (elem y l) t) l (each-elem l),
+)
 
 -- what holds of each holds of an element
 pub elem-each : (P : ℕ → Type 0) (x : ℕ) (l : List ℕ) → T (elem x l) → Each P l → P x
@@ -114,6 +125,7 @@ index-at (y ∷ l) d (suc i) h =
   where
     inl′ : 0 < times (getD l i 0) l
     inl′ = any→count (eqb (getD l i 0)) l (each-at (λ x. T (elem x l)) 0 l (each-elem l) i (le-of-suc-le-suc h))
+
     go : Whether (getD l i 0 ≡ y) (eqb (getD l i 0) y) → indexOf (getD l i 0) l ≡ i
         → (if eqb (getD l i 0) y then 0 else suc (indexOf (getD l i 0) l)) ≡ suc i
     go (so p q) r = absurd (let u : one (eqb (getD l i 0)) y ≡ 1 = rw q in omega (arith, d (getD l i 0), inl′))

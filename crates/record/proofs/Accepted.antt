@@ -28,7 +28,7 @@ parse-exact xs b c = (
       (a .formed, a .canonical, (obeys-exact c f .0 (a .obeys), window-exact c f .0 (a .works)))),
   (λ (t, e, (o, w)).
       let f = formed→ c t in
-      ap parse (sym e) ∙ parse-pack-good c t (obeys-exact c f .1 o) (window-exact c f .1 w))
+      ap parse (sym e) ∙ parse-pack-good c t (obeys-exact c f .1 o) (window-exact c f .1 w)),
 )
 
 -- the bytes are the record of the code that they hold

@@ -1,4 +1,6 @@
 -- Two paths with equal words, step by step, and where the sets of pairs lead them.
+-- In order: has-into, any-reversed, Same, same-append, has-all, same-ahead, same-past, clear-at, AgreeSame,
+-- WindowSame, end-lt, works→.
 -- Assumes nothing.
 use mathlib.Core.Path.{_≡_, refl, sym, ap, subst, _∙_}
 use mathlib.Core.Bool.{Bool, true, false, not, _&&_}
@@ -19,7 +21,6 @@ use Rattle.table.specs.Paths.{Closed, ends}
 
 -- ---- `any` over the lists that `map`, `filter` and `concat` make
 
-
 -- ---- a pair of a set that `map` makes
 module _ (Q : List Edge → List Edge → Bool) (zl : (fs : List Edge) → Q [] fs ≡ false)
     (zr : (es : List Edge) → Q es [] ≡ false) where
@@ -35,7 +36,7 @@ has-into g P s t = has-map (meet P) (λ fs. refl) (λ es. any-none es) g g s t
 -- the edges turned round: those into t
 pub any-reversed : (p : Edge → Bool) (g : Rows) (t : ℕ) → t < length g
     → any p (edges (reversed g) t) ≡ any (λ s. any (λ e. eqb (e .next) t && p (edge (e .word) s)) (edges g s))
-        (range (length g))
+    (range (length g))
 any-reversed p g t h =
     ap (any p) (map-range-at (entering g) (length g) t [] h) ∙ simp (any-concat, any-map, any-filter)
 
@@ -66,8 +67,8 @@ into-intro : (g : Rows) (P : Pairs) (s t x y : ℕ) → x < length (edges g s) �
     → T (has P (at g s x .next) (at g t y .next)) → T (has (into g P) s t)
 into-intro g P s t x y a b w h =
     rw has-into (→any _ (edge 0 0) (edges g s) x a (→any _ (edge 0 0) (edges g t) y b
-        (→and (eqb (at g s x .word) (at g t y .word)) (has P (at g s x .next) (at g t y .next))
-            (rw w (eqb-refl (at g t y .word))) h)))
+    (→and (eqb (at g s x .word) (at g t y .word)) (has P (at g s x .next) (at g t y .next))
+    (rw w (eqb-refl (at g t y .word))) h)))
 
 pub has-all : (g : Rows) (s t : ℕ) → s < length g → t < length g → T (has (allPairs g) s t)
 has-all g s t i j = subst T
@@ -82,21 +83,21 @@ same-ahead g c (x ∷ xs) [] s t i j h = absurd h
 same-ahead g c (x ∷ xs) (y ∷ ys) s t i j (a, b, w, h) =
     let ih = same-ahead g c xs ys (at g s x .next) (at g t y .next) (c s x a) (c t y b) h in
     rw (iterate-suc (into g) (length xs) (allPairs g))
-        (into-intro g (iterate (into g) (length xs) (allPairs g)) s t x y a b w ih)
+    (into-intro g (iterate (into g) (length xs) (allPairs g)) s t x y a b w ih)
 
 -- ---- the past: where two equal readings lead
 reversed-intro : (p : Edge → Bool) (g : Rows) (s x : ℕ) → Closed g → s < length g → x < length (edges g s)
     → T (p (edge (at g s x .word) s)) → T (any p (edges (reversed g) (at g s x .next)))
 reversed-intro p g s x c i a h =
     rw (any-reversed p g (at g s x .next) (c s x a)) (→any-below _ (length g) s i (→any _ (edge 0 0) (edges g s) x a
-        (→and (eqb (at g s x .next) (at g s x .next)) (p (edge (at g s x .word) s)) (eqb-refl (at g s x .next)) h)))
+    (→and (eqb (at g s x .next) (at g s x .next)) (p (edge (at g s x .word) s)) (eqb-refl (at g s x .next)) h)))
 
 onward : (g : Rows) (Q : Pairs) (s t x y : ℕ) → Closed g → s < length g → t < length g → x < length (edges g s)
     → y < length (edges g t) → at g s x .word ≡ at g t y .word
     → T (has Q s t) → T (has (into (reversed g) Q) (at g s x .next) (at g t y .next))
 onward g Q s t x y c i j a b w h =
     rw has-into (reversed-intro _ g s x c i a (reversed-intro _ g t y c j b
-        (→and (eqb (at g s x .word) (at g t y .word)) (has Q s t) (rw w (eqb-refl (at g t y .word))) h)))
+    (→and (eqb (at g s x .word) (at g t y .word)) (has Q s t) (rw w (eqb-refl (at g t y .word))) h)))
 
 pub same-past : (g : Rows) → Closed g → (Q : Pairs) (xs ys : List ℕ) (s t : ℕ) → s < length g → t < length g
     → Same g s t xs ys → T (has Q s t)
@@ -106,7 +107,7 @@ same-past g c Q [] (y ∷ ys) s t i j h q = absurd h
 same-past g c Q (x ∷ xs) [] s t i j h q = absurd h
 same-past g c Q (x ∷ xs) (y ∷ ys) s t i j (a, b, w, h) q =
     same-past g c (into (reversed g) Q) xs ys (at g s x .next) (at g t y .next) (c s x a) (c t y b) h
-        (onward g Q s t x y c i j a b w q)
+    (onward g Q s t x y c i j a b w q)
 
 -- ---- no clash
 pub clear-at : (g : Rows) (F P : Pairs) → T (clear g F P) → (s t x y : ℕ) → s < length g → t < length g
@@ -116,14 +117,15 @@ clear-at g F P k s t x y i j a b p w f = go (eqb x y) refl
   where
     no-clash : T (not (clash g F s t))
     no-clash = imp→ (has P s t) (not (clash g F s t)) (all-below→ _ (length g) (all-below→ _ (length g) k s i) t j) p
+
     go : (q : Bool) → eqb x y ≡ q → x ≡ y
     go true e = eqb→eq x y (rw e tt)
     go false e = absurd (T-not (clash g F s t) no-clash
         (→any-below _ (length (edges g s)) x a (→any-below _ (length (edges g t)) y b
         (→and (not (eqb x y)) (eqb (at g s x .word) (at g t y .word) && has F (at g s x .next) (at g t y .next))
-            (rw e tt)
+        (rw e tt)
         (→and (eqb (at g s x .word) (at g t y .word)) (has F (at g s x .next) (at g t y .next))
-            (rw w (eqb-refl (at g t y .word))) f)))))
+        (rw w (eqb-refl (at g t y .word))) f)))))
 
 -- ---- the window
 -- two paths from s and t that agree in m words, in one more and in a more carry the same data on that one
@@ -156,9 +158,9 @@ agree g c m a Q k s t i j q us us' vs vs' x y l l' n n' h =
         let s' = ends g s us in
         let t' = ends g t us' in
         clear-at g (iterate (into g) a (allPairs g)) (iterate (into (reversed g)) m Q) k s' t' x y (e .0) (e .1) a' b'
-            (subst (λ n. T (has (iterate (into (reversed g)) n Q) s' t')) l (same-past g c Q us us' s t i j h₁ q)) w
-            (subst (λ n. T (has (iterate (into g) n (allPairs g)) (at g s' x .next) (at g t' y .next))) n
-                (same-ahead g c vs vs' (at g s' x .next) (at g t' y .next) (c s' x a') (c t' y b') h₂))
+        (subst (λ n. T (has (iterate (into (reversed g)) n Q) s' t')) l (same-past g c Q us us' s t i j h₁ q)) w
+        (subst (λ n. T (has (iterate (into g) n (allPairs g)) (at g s' x .next) (at g t' y .next))) n
+        (same-ahead g c vs vs' (at g s' x .next) (at g t' y .next) (c s' x a') (c t' y b') h₂))
 
 has-start : (g : Rows) → 0 < length g → T (has (startPair g) 0 0)
 has-start [] h = absurd (not-suc-le-zero h)
@@ -169,9 +171,9 @@ unfolding works
 works→ g z c p k =
     let F = iterate (into g) (z .lookahead) (allPairs g) in
     let (k₁, k₂) = and→ (clear g F (iterate (into (reversed g)) (z .memory) (allPairs g)))
-        (all (λ i. clear g F (iterate (into (reversed g)) i (startPair g))) (range (z .memory))) k in
+    (all (λ i. clear g F (iterate (into (reversed g)) i (startPair g))) (range (z .memory))) k in
     record {
       later = λ s t i j. agree g c (z .memory) (z .lookahead) (allPairs g) k₁ s t i j (has-all g s t i j);
       early = λ i h. agree g c i (z .lookahead) (startPair g) (all-below→ _ (z .memory) k₂ i h) 0 0 p p
-          (has-start g p)
+          (has-start g p);
     }

@@ -1,5 +1,5 @@
--- "every recording under it, followed bit by bit from the constraint start, always finds a next state": the sentence, and
--- the test by pairs of a table state and a constraint state that recordings reach.
+-- "every recording under it, followed bit by bit from the constraint start, always finds a next state": the sentence,
+-- and the test by pairs of a table state and a constraint state that recordings reach.
 -- In order: Obeys; carries, arrive, reachMore, reachedPairs; finds, obeys.
 -- Assumes nothing.
 use mathlib.Core.Bool.{Bool, not, _&&_, _||_}

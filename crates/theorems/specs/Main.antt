@@ -31,18 +31,25 @@ use Rattle.codec.proofs.Promises as codec
 use Rattle.graph.specs.Arcs.{Arc, Work, out}
 use Rattle.graph.specs.Weights.{AtMost, total}
 use Rattle.graph.specs.Splitting.{stretch, divisible, chosen, kept, split, unfinished}
-use Rattle.graph.specs.Invariant.{Inv}
-use Rattle.graph.proofs.PartedInv.{Part}
+use Rattle.graph.specs.Invariant.{Inv, Part}
 use Rattle.graph.proofs.Split.{split-part}
 use Rattle.graph.proofs.RunUnique as runs
 use Rattle.compiler.specs.Jobs.{Job, readJob, readRunLength, Allowed}
 use Rattle.compiler.specs.Compile.{
-  ways, Vector, weightsOf, componentOf, finishedOf, tableFor, compile, compileJob, compileRunLength
+  ways,
+  Vector,
+  weightsOf,
+  componentOf,
+  finishedOf,
+  tableFor,
+  compile,
+  compileJob,
+  compileRunLength,
 }
 use Rattle.compiler.proofs.Compile.{no-code-exact, weights-vector, greatest-vector}
 use Rattle.compiler.proofs.Promises as compiler
-use Rattle.sets.specs.Sets.{codes, readSet, writeSet}
-use Rattle.sets.proofs.Sets.{Readable, set-back, set-canonical}
+use Rattle.sets.specs.Sets.{codes, readSet, writeSet, Readable}
+use Rattle.sets.proofs.Sets.{set-back, set-canonical}
 
 -- The compiler says "no code" exactly when no vector of whole numbers from 0 to cap, not all 0, meets the inequality.
 pub no-code : (j : Job) → Allowed j
@@ -60,7 +67,8 @@ pub each-split : (n S : ℕ) (x : Work) → 0 < n → Inv n S x → T (unfinishe
     Part n x s keep (total (x .weights) keep / n)
 each-split = split-part
 
--- Splitting ends, with at most 128 states where the weights sum to that, and with n edges a state unless refusal 5 comes.
+-- Splitting ends, with at most 128 states where the weights sum to that, and with n edges a state unless refusal 5
+-- comes.
 pub splits-end : (j : Job) → Allowed j → 0 < sum (componentOf j .weights)
     → (length (finishedOf j .weights) ≤ sum (componentOf j .weights))
     × (length (finishedOf j .arcs) ≤ 2048
@@ -96,7 +104,8 @@ pub run-length-passes : (xs : List ℕ) (room : ℕ) (r : List ℕ) → compileR
     → (j : Job) × (c : Code) × (readRunLength xs ≡ done j) × (compile j ≡ done c) × (pack c ≡ r) × (parse r ≡ done c)
 run-length-passes = compiler.run-length-passes
 
--- The checker accepts exactly the records of tables whose every recording obeys and whose every window settles its block.
+-- The checker accepts exactly the records of tables whose every recording obeys and whose every window settles its
+-- block.
 pub checker-exact : (xs : List ℕ) → Below 256 xs → (c : Code)
     → (parse xs ≡ done c) ↔ (T (formed c) × (pack c ≡ xs) × Accepted c)
 checker-exact = parse-exact
@@ -154,5 +163,6 @@ pub set-read : (cs : List Code) → Readable cs → readSet (writeSet cs) ≡ co
 set-read = set-back
 
 -- A set is written as it was read.
-pub set-written : (xs : List ℕ) (cs : List Code) → Below 256 xs → readSet xs ≡ codes cs → (writeSet cs ≡ xs) × Readable cs
+pub set-written : (xs : List ℕ) (cs : List Code) → Below 256 xs → readSet xs ≡ codes cs
+    → (writeSet cs ≡ xs) × Readable cs
 set-written = set-canonical
