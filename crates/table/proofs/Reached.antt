@@ -3,33 +3,19 @@
 -- Assumes nothing.
 use mathlib.Core.Path.{_≡_, sym, subst, subst₂}
 use mathlib.Core.Logic.{_⊎_, inl, inr}
-use mathlib.Core.Bool.{_&&_, _||_}
+use mathlib.Core.Bool.{_&&_}
 use mathlib.Core.List.{List, [], _∷_}
 use Prim.Native.Nat.{ℕ, _*_, _<_}
 use lib.Dec.{T, T-not, not-T, eqb, eqb→eq, eqb-refl}
 use lib.ListN.{length}
 use Rattle.laws.specs.Lists.{all, any}
 use Rattle.laws.proofs.Tests.{
-  and→,
-  →and,
-  or→,
-  →orL,
-  →orR,
-  imp→,
-  →imp,
-  all→,
-  →all,
-  any→,
-  →any,
-  all-below→,
-  →all-below,
-  any-below→,
-  →any-below,
+  and→, →and, or→, →orL, →orR, imp→, →imp, all→, →all, any→, →any, all-below→, →all-below, any-below→, →any-below
 }
 use Rattle.constraint.specs.Walking.{Constraint, none, walk}
 use Rattle.table.specs.Rows.{edge, edges, at, Code}
 use Rattle.laws.specs.Sets.{Pairs, has, grid}
-use Rattle.table.specs.Obeys.{carries, arrive, reachMore, reachedPairs, finds, obeys}
+use Rattle.table.specs.Obeys.{carries, arrive, reachMore, reachedPairs, finds, obeys, reachedFrom}
 use Rattle.laws.proofs.Settle.{iterate-keeps}
 use Rattle.laws.proofs.Grids.{grid→, →grid, rests}
 use Rattle.table.specs.Paths.{Closed, Path}
@@ -50,13 +36,13 @@ WalksInside C = (q w k : ℕ) → k < length C → (walk C q w k ≡ none) ⊎ (
 
 module _ (c : Code) where
   pub fixed : reachMore c (reachedPairs c) ≡ reachedPairs c
-  fixed = rests (length (c .table)) (length (c .constraint)) (λ P t k. has P t k || arrive c P t k)
-      (λ P s k h l u. →orL (has P s k) (arrive c P s k) u) (λ t k. eqb t 0 && eqb k (c .start))
+  fixed = rests (length (c .table)) (length (c .constraint)) (reachedFrom c)
+      (λ P s k h l u. →orL (has P s k) _ u) (λ t k. eqb t 0 && eqb k (c .start))
 
   pub reached-lt : (s k : ℕ) → T (has (reachedPairs c) s k) → (s < length (c .table)) × (k < length (c .constraint))
   reached-lt s k u =
       let (a, b, v) = grid→ (length (c .table)) (length (c .constraint))
-      (λ t k. has (reachedPairs c) t k || arrive c (reachedPairs c) t k) s k
+      (reachedFrom c (reachedPairs c)) s k
       (subst (λ P. T (has P s k)) (sym fixed) u) in
       (a, b)
 
@@ -66,7 +52,7 @@ module _ (c : Code) where
   reached-start h l =
       iterate-keeps (reachMore c) (λ P. T (has P 0 (c .start)))
       (λ P u. →grid (length (c .table)) (length (c .constraint)) _ 0 (c .start) h l
-      (→orL (has P 0 (c .start)) (arrive c P 0 (c .start)) u))
+      (→orL (has P 0 (c .start)) _ u))
       (length (c .table) * length (c .constraint))
       (grid (length (c .table)) (length (c .constraint)) (λ t k. eqb t 0 && eqb k (c .start)))
       (→grid (length (c .table)) (length (c .constraint)) (λ t k. eqb t 0 && eqb k (c .start)) 0 (c .start) h l
@@ -134,7 +120,7 @@ module _ (c : Code) where
   unfolding AllSafe
   safe-step P f t k u =
       go (or→ (has P t k) (arrive c P t k)
-      (grid→ (length (c .table)) (length (c .constraint)) (λ t k. has P t k || arrive c P t k) t k u .2))
+      (grid→ (length (c .table)) (length (c .constraint)) (reachedFrom c P) t k u .2))
     where
       go : T (has P t k) ⊎ T (arrive c P t k) → Safe c t k
       go (inl v) = f t k v
