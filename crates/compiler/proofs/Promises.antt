@@ -2,24 +2,20 @@
 -- In order: split-ends; made-closed; least-window; no-window-exact; packed; job-passes, run-length-passes.
 -- Assumes nothing.
 use mathlib.Core.Path.{_≡_, refl, sym, ap, subst, _∙_}
-use mathlib.Core.Logic.{_⊎_, inl, inr, _↔_}
-use mathlib.Core.Bool.{Bool, true, false, not}
+use mathlib.Core.Logic.{inl, inr, _↔_}
 use mathlib.Core.List.{List, []}
-use Prim.Native.Nat.{ℕ, _+_, _≤_, _<_}
-use native.Mathlib.Nat.{le-trans}
+use Prim.Native.Nat.{ℕ, _≤_, _<_}
 use native.Mathlib.Omega.{arith}
 use native.Mathlib.Decide.{decLt}
-use lib.Dec.{T, ltb, leb}
 use lib.ListN.{length, List·getD-eq-default}
 use Rattle.laws.specs.Lists.{sum}
-use Rattle.answer.specs.declared.Refusal.the-variants.{NoCode, TooHeavy, TooManyEdges, NoWindow}
-use Rattle.answer.specs.Outcomes.{Outcome, done, refused, onward, fitting}
+use Rattle.answer.specs.declared.Refusal.the-variants.{NoWindow}
+use Rattle.answer.specs.Outcomes.{Outcome, done, refused}
 use Rattle.answer.proofs.Outcomes.{onward→, fitting→}
 use Rattle.table.specs.Rows.{Rows, edges, at, Size, Code}
 use Rattle.table.specs.Paths.{Closed}
 use Rattle.table.specs.Window.{Window, NoLater}
-use Rattle.table.specs.Works.{works}
-use Rattle.table.specs.Search.{noSize, window}
+use Rattle.table.specs.Search.{window}
 use Rattle.table.proofs.Window.{works-sound, works-complete}
 use Rattle.table.proofs.WindowLeast.{Chosen, window-least}
 use Rattle.record.specs.Layout.{pack}
@@ -27,29 +23,11 @@ use Rattle.record.specs.Parse.{parse, packInto}
 use Rattle.graph.specs.Arcs.{out}
 use Rattle.graph.proofs.Loop.{states-le, splitted-end, splitted-full}
 use Rattle.compiler.specs.Jobs.{Job, readJob, readRunLength, Allowed}
-use Rattle.compiler.specs.Compile.{
-  ways,
-  componentOf,
-  finishedOf,
-  tableFor,
-  code,
-  compile,
-  compileInto,
-  compileJob,
-  compileRunLength,
-}
+use Rattle.compiler.specs.Compile.{ways, componentOf, finishedOf, tableFor, code, compile, compileInto}
+use Rattle.compiler.specs.Compile.{compileJob, compileRunLength}
 use Rattle.compiler.proofs.Compiled.{live-some, first-inv}
 use Rattle.compiler.proofs.Jobs.{readJob-allowed, readRunLength-allowed}
-use Rattle.compiler.proofs.Compile.{
-  ways-pos,
-  Reason,
-  reason,
-  nothing,
-  heavy,
-  crowding,
-  windowless,
-  coded,
-}
+use Rattle.compiler.proofs.Compile.{ways-pos, Reason, reason, nothing, heavy, crowding, windowless, coded}
 use Rattle.compiler.proofs.Accepted.{Made, made, window-found, compile-parses}
 
 -- ---- splitting ends with n edges a state or too many edges, and with no more states than the weights sum to

@@ -2,9 +2,8 @@
 -- In order: after-none, walk-none; after-target, walk-target; length-runLength, runLength-well.
 -- Assumes nothing.
 use mathlib.Core.Path.{_≡_, refl, ap, _∙_}
-use mathlib.Core.Logic.{_⊎_, inl, inr}
+use mathlib.Core.Logic.{inl, inr}
 use mathlib.Core.Bool.{Bool, true, false}
-use mathlib.Core.List.{List, map}
 use Prim.Native.Nat.{ℕ, zero, suc, _+_, _/_, _%_, _^_, _≤_, _<_}
 use native.Mathlib.Omega.{arith}
 use native.Mathlib.Decide.{decLt}
@@ -12,22 +11,11 @@ use lib.Dec.{ltb, leb, eqb}
 use borrow.Author.Tests.{ltb-true}
 use lib.ListN.{length, getD, length-map, List·getD-eq-default}
 use Rattle.laws.specs.Lists.{if_then_else_, range}
-use Rattle.laws.specs.Sums.{Each}
 use Rattle.laws.proofs.Tests.{length-from}
 use Rattle.laws.proofs.Sums.{each-always, each-image}
 use Rattle.laws.proofs.Elems.{each-at}
-use Rattle.constraint.specs.Walking.{
-  none,
-  NextStates,
-  Constraint,
-  runLengthState,
-  runLength,
-  nowhere,
-  after,
-  walk,
-  Target,
-  Well,
-}
+use Rattle.constraint.specs.Walking.{none, Constraint, runLengthState, runLength, nowhere, after, walk}
+use Rattle.constraint.specs.Walking.{Target, Well}
 
 -- ---- nothing leads on from none
 pub after-none : (c : Constraint) (b : ℕ) → length c ≤ 255 → after c none b ≡ none

@@ -6,19 +6,8 @@ use mathlib.Core.Logic.{_⊎_, inl, inr}
 use mathlib.Core.Bool.{Bool, true, false}
 use mathlib.Core.List.{List, [], _∷_}
 use Prim.Native.Nat.{ℕ, zero, suc, _+_, _*_, _≤_, _<_, zero-le, suc-le-suc}
-use native.Mathlib.Nat.{
-  not-suc-le-zero,
-  le-trans,
-  le-of-eq,
-  zero-add,
-  mul-comm,
-  le-of-mul-le-mul-right,
-  lt-of-mul-lt-mul-right,
-  le-max-left,
-  le-max-right,
-  max-eq-left,
-  max-eq-right,
-}
+use native.Mathlib.Nat.{not-suc-le-zero, le-trans, le-of-eq, zero-add, mul-comm, le-of-mul-le-mul-right}
+use native.Mathlib.Nat.{lt-of-mul-lt-mul-right, le-max-left, le-max-right, max-eq-left, max-eq-right}
 use native.Mathlib.Omega.{arith}
 use native.Mathlib.Decide.{decLe}
 use lib.Dec.{T, eqb, ltb, eqb→eq, eqb-refl, ltb→lt}
@@ -27,7 +16,8 @@ use lib.ListN.{length, getD}
 use Rattle.laws.specs.Lists.{from, range, any}
 use Rattle.laws.proofs.Tests.{and→, →and, or→, any-below→, →any-below}
 use Rattle.laws.specs.Sums.{Each}
-use Rattle.laws.proofs.Sums.{each-map, each-always, each-both, filter-each, each-any, first-passes, tot-le, tot-const}
+use Rattle.laws.proofs.Sums.{each-map, each-always, each-both, filter-each, each-any, first-passes, tot-le}
+use Rattle.laws.proofs.Sums.{tot-const}
 use Rattle.graph.specs.Invariant.{Inside, Stays, Inv}
 use Rattle.graph.specs.Arcs.{Arc, Work, leaves, out}
 use Rattle.graph.specs.Weights.{weight, total}

@@ -2,22 +2,10 @@
 -- In order: mod-diff, tot-take-add, run-exists, PartOf, run-is.
 -- Assumes nothing.
 use mathlib.Core.Path.{_≡_, refl, sym, ap, _∙_}
-use mathlib.Core.Bool.{Bool}
 use mathlib.Core.List.{List, [], _∷_, map}
 use Prim.Native.Nat.{ℕ, zero, suc, _+_, _*_, _-_, _/_, _%_, _≤_, _<_, zero-le, suc-le-suc}
-use native.Mathlib.Nat.{
-  le-of-suc-le-suc,
-  not-suc-le-zero,
-  le-trans,
-  zero-add,
-  mod-add-div,
-  mod-lt,
-  mod-eq-zero-of-dvd,
-  dvd-sub,
-  dvd-mul-right,
-  mod-add-div',
-  suc-add,
-}
+use native.Mathlib.Nat.{le-of-suc-le-suc, not-suc-le-zero, le-trans, zero-add, mod-add-div, mod-lt}
+use native.Mathlib.Nat.{mod-eq-zero-of-dvd, dvd-sub, dvd-mul-right, mod-add-div', suc-add}
 use native.Mathlib.Omega.{arith}
 use lib.Dec.{T, eqb→eq}
 use lib.ListN.{length, take, drop}

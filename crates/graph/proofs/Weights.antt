@@ -5,18 +5,8 @@ use mathlib.Core.Path.{_≡_, refl, sym, ap, ap₂, _∙_}
 use mathlib.Core.Logic.{_⊎_, inl, inr}
 use mathlib.Core.List.{List, [], _∷_}
 use Prim.Native.Nat.{ℕ, zero, suc, _*_, _/_, _≤_, _<_, zero-le, min}
-use native.Mathlib.Nat.{
-  le-of-suc-le-suc,
-  not-suc-le-zero,
-  le-trans,
-  le-of-eq,
-  add-le-add,
-  zero-mul,
-  min-le-left,
-  le-min,
-  zero-min,
-  le-div-iff-mul-le,
-}
+use native.Mathlib.Nat.{le-of-suc-le-suc, not-suc-le-zero, le-trans, le-of-eq, add-le-add, zero-mul, min-le-left}
+use native.Mathlib.Nat.{le-min, zero-min, le-div-iff-mul-le}
 use native.Mathlib.Omega.{arith}
 use native.Mathlib.Decide.{decLt}
 use lib.ListN.{length, getD, length-map, replicate, length-replicate, List·getD-eq-default, getD-replicate}

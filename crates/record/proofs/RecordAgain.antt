@@ -15,19 +15,8 @@ use Rattle.laws.proofs.Tests.{and→, →and, →orR}
 use Rattle.constraint.specs.Walking.{none}
 use Rattle.bits.specs.Fields.{Fits}
 use Rattle.table.specs.Formed.{Head, head, goodState, goodNext, goodEdge, goodRow}
-use Rattle.record.specs.Layout.{
-  fill,
-  present,
-  shown,
-  nexts,
-  pairs,
-  rows,
-  opened,
-  nextsOf,
-  edgesOf,
-  rowsOf,
-  codeOf,
-}
+use Rattle.record.specs.Layout.{fill, present, shown, nexts, pairs, rows, opened, nextsOf, edgesOf, rowsOf}
+use Rattle.record.specs.Layout.{codeOf}
 use Rattle.record.specs.Parse.{goodField, goodFields, goodTarget}
 
 -- ---- fields that are written again

@@ -80,29 +80,13 @@ fits-values c f =
     let lq : c .q < 16 = omega (arith, r .q₂) in
     let ls : length (c .table) - 1 < 128 = omega (arith, r .s₁, r .s₂) in
     let lk : length (c .constraint) - 1 < 16 = omega (arith, r .k₁, r .k₂) in
-    let lz : c .start < 16 = omega (arith, r .start, r .k₂) in (
-      lp,
-      (
-        lq,
-        (
-          ls,
-          (
-            r .m,
-            (
-              r .a,
-              (
-                lk,
-                (
-                  lz,
-                  fits-append (repeat (length (c .constraint)) (1 ∷ 4 ∷ 1 ∷ 4 ∷ [])) (nexts (c .constraint)) _
-                      (rows (c .table) ++ (0 ∷ [])) (fits-nexts (length (c .constraint)) (c .constraint) (r .k₂) (f .nexts))
-                      (fits-append (repeat (length (c .table)) (repeat (2 ^ c .p) (c .q ∷ 7 ∷ []))) (rows (c .table))
-                      (fill (head c) ∷ []) (0 ∷ []) (fits-rows (c .p) (c .q) (length (c .table)) (c .table) (r .s₂) (f .rows))
-                      (pow-pos (fill (head c)), tt)),
-                ),
-              ),
-            ),
-          ),
-        ),
-      ),
-    )
+    let lz : c .start < 16 = omega (arith, r .start, r .k₂) in
+    let K = length (c .constraint) in
+    let S = length (c .table) in
+    let last : Fits (fill (head c) ∷ []) (0 ∷ []) = (pow-pos (fill (head c)), tt) in
+    let tables = fits-append (repeat S (repeat (2 ^ c .p) (c .q ∷ 7 ∷ []))) (rows (c .table)) (fill (head c) ∷ [])
+    (0 ∷ [])
+    (fits-rows (c .p) (c .q) S (c .table) (r .s₂) (f .rows)) last in
+    let rest = fits-append (repeat K (1 ∷ 4 ∷ 1 ∷ 4 ∷ [])) (nexts (c .constraint)) _ (rows (c .table) ++ (0 ∷ []))
+    (fits-nexts K (c .constraint) (r .k₂) (f .nexts)) tables in
+    (lp, (lq, (ls, (r .m, (r .a, (lk, (lz, rest)))))))

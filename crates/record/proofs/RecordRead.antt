@@ -22,15 +22,8 @@ use Rattle.bits.proofs.Fields.{below-write, length-write, fits-read, write-read
 use Rattle.table.specs.Formed.{Head, head, inRange, goodNext, goodRow, formed}
 use Rattle.record.specs.Layout.{header, headOf, size, fill, widths, values, pack, nextsOf, rowsOf, codeOf}
 use Rattle.record.specs.Parse.{goodHead, goodFields, goodTarget, filler, goodRest, judged, parsed, parse}
-use Rattle.record.proofs.RecordAgain.{
-  nexts-again,
-  nexts-good,
-  rows-good,
-  length-nextsOf,
-  length-rowsOf,
-  tail-again,
-  head-again,
-}
+use Rattle.record.proofs.RecordAgain.{nexts-again, nexts-good, rows-good, length-nextsOf, length-rowsOf}
+use Rattle.record.proofs.RecordAgain.{tail-again, head-again}
 use Rattle.record.proofs.RecordFits.{sum-widths}
 use Rattle.answer.proofs.Outcomes.{unless→}
 

@@ -20,36 +20,10 @@ use Rattle.table.specs.Works.{works}
 use Rattle.bits.specs.Fields.{read, write, bitsOf}
 use Rattle.bits.proofs.Fields.{regroup, read-back, length-read}
 use Rattle.table.specs.Formed.{Head, head, goodState, goodNext, goodEdge, goodRow, formed, Formed, Ranges}
-use Rattle.record.specs.Layout.{
-  header,
-  headOf,
-  size,
-  widths,
-  present,
-  shown,
-  nexts,
-  pairs,
-  rows,
-  values,
-  pack,
-  opened,
-  nextsOf,
-  edgesOf,
-  rowsOf,
-  codeOf,
-}
-use Rattle.record.specs.Parse.{
-  goodHead,
-  goodField,
-  goodFields,
-  goodTarget,
-  filler,
-  goodRest,
-  judged,
-  checked,
-  parsed,
-  parse,
-}
+use Rattle.record.specs.Layout.{header, headOf, size, widths, present, shown, nexts, pairs, rows, values}
+use Rattle.record.specs.Layout.{pack, opened, nextsOf, edgesOf, rowsOf, codeOf}
+use Rattle.record.specs.Parse.{goodHead, goodField, goodFields, goodTarget, filler, goodRest, judged, checked}
+use Rattle.record.specs.Parse.{parsed, parse}
 use Rattle.table.specs.Obeys.{obeys}
 use Rattle.table.proofs.Formed.{formed→}
 use Rattle.record.proofs.RecordFits.{sum-widths, fits-values}

@@ -1,7 +1,6 @@
 -- The main theorems, each written out in full; its proof is one citation.
 -- In order: no-code, greatest, each-split, splits-end, shortest-idle, least-window, no-window, compiled-passes,
--- checker-exact, read-as-written, written-as-read, returns, recognised, demand-3, local, local-start, different-data,
--- grows, set-read, set-written.
+-- run-length-passes, checker-exact, records, returns, recognised, demand-3, local, different-data, grows, sets.
 -- Assumes nothing.
 use mathlib.Core.Path.{_≡_}
 use mathlib.Core.Logic.{_↔_}
@@ -30,22 +29,13 @@ use Rattle.codec.proofs.Local.{block-local, block-local-start}
 use Rattle.codec.proofs.Promises as codec
 use Rattle.graph.specs.Arcs.{Arc, Work, out}
 use Rattle.graph.specs.Weights.{AtMost, total}
-use Rattle.graph.specs.Splitting.{stretch, divisible, chosen, kept, split, unfinished}
+use Rattle.graph.specs.Splitting.{stretch, divisible, chosen, kept, unfinished}
 use Rattle.graph.specs.Invariant.{Inv, Part}
 use Rattle.graph.proofs.Split.{split-part}
 use Rattle.graph.proofs.RunUnique as runs
 use Rattle.compiler.specs.Jobs.{Job, readJob, readRunLength, Allowed}
-use Rattle.compiler.specs.Compile.{
-  ways,
-  Vector,
-  weightsOf,
-  componentOf,
-  finishedOf,
-  tableFor,
-  compile,
-  compileJob,
-  compileRunLength,
-}
+use Rattle.compiler.specs.Compile.{ways, Vector, weightsOf, componentOf, finishedOf, tableFor, compile, compileJob}
+use Rattle.compiler.specs.Compile.{compileRunLength}
 use Rattle.compiler.proofs.Compile.{no-code-exact, weights-vector, greatest-vector}
 use Rattle.compiler.proofs.Promises as compiler
 use Rattle.sets.specs.Sets.{codes, readSet, writeSet, Readable}
@@ -110,13 +100,10 @@ pub checker-exact : (xs : List ℕ) → Below 256 xs → (c : Code)
     → (parse xs ≡ done c) ↔ (T (formed c) × (pack c ≡ xs) × Accepted c)
 checker-exact = parse-exact
 
--- A record is read as it was written: up to refusals 9 and 10 every code with its fields in range comes back.
-pub read-as-written : (c : Code) → T (formed c) → parse (pack c) ≡ judged c
-read-as-written = parse-pack
-
--- A record is written as it was read.
-pub written-as-read : (xs : List ℕ) → Below 256 xs → (c : Code) → parse xs ≡ done c → pack c ≡ xs
-written-as-read = parse-canonical
+-- A record is read as it was written, up to refusals 9 and 10, and written as it was read.
+pub records : ((c : Code) → T (formed c) → parse (pack c) ≡ judged c)
+    × ((xs : List ℕ) → Below 256 xs → (c : Code) → parse xs ≡ done c → pack c ≡ xs)
+records = (parse-pack, parse-canonical)
 
 -- Decoding a recording returns its data.
 pub returns : (rec : List ℕ) → Below 256 rec → (room room′ : ℕ) (ds R : List ℕ) → length ds ≤ room′
@@ -137,16 +124,12 @@ pub demand-3 : (rec : List ℕ) → Below 256 rec → (c : Code) → parse rec �
     × ((i j : ℕ) → i < length ds → StandsClear c (recording c ds) L i j → getD out j mark ≡ getD ds i 0)
 demand-3 = codec.demand-3
 
--- The reading of a block depends on its window alone: on words j − m to j + a.
-pub local : (c : Code) → let m = c .window .memory in let a = c .window .lookahead in (L L′ : List ℕ) (j j′ : ℕ)
-    → m ≤ j → m ≤ j′ → take (m + 1 + a) (drop (j - m) L) ≡ take (m + 1 + a) (drop (j′ - m) L′)
-    → block c L j ≡ block c L′ j′
-local = block-local
-
--- And below m on words 0 to j + a.
-pub local-start : (c : Code) → let m = c .window .memory in let a = c .window .lookahead in (L L′ : List ℕ) (j : ℕ)
-    → j < m → take (j + 1 + a) L ≡ take (j + 1 + a) L′ → block c L j ≡ block c L′ j
-local-start = block-local-start
+-- The reading of a block depends on its window alone: on words j − m to j + a, and below m on words 0 to j + a.
+pub local : (c : Code) → let m = c .window .memory in let a = c .window .lookahead in
+    ((L L′ : List ℕ) (j j′ : ℕ) → m ≤ j → m ≤ j′
+    → take (m + 1 + a) (drop (j - m) L) ≡ take (m + 1 + a) (drop (j′ - m) L′) → block c L j ≡ block c L′ j′)
+    × ((L L′ : List ℕ) (j : ℕ) → j < m → take (j + 1 + a) L ≡ take (j + 1 + a) L′ → block c L j ≡ block c L′ j)
+local c = (block-local c, block-local-start c)
 
 -- Recordings of different data differ.
 pub different-data : (rec : List ℕ) → Below 256 rec → (room room′ : ℕ) (ds es R : List ℕ)
@@ -158,11 +141,7 @@ pub grows : (t : Rows) → Closed t → 0 < length t → (m a : ℕ) → Window 
     → Window t (record { memory = suc m; lookahead = a }) × Window t (record { memory = m; lookahead = suc a })
 grows t closed some m a w = (window-grows-memory t closed some m a w, window-grows-lookahead t m a w)
 
--- A set of readable codes is read as it was written.
-pub set-read : (cs : List Code) → Readable cs → readSet (writeSet cs) ≡ codes cs
-set-read = set-back
-
--- A set is written as it was read.
-pub set-written : (xs : List ℕ) (cs : List Code) → Below 256 xs → readSet xs ≡ codes cs
-    → (writeSet cs ≡ xs) × Readable cs
-set-written = set-canonical
+-- A set of readable codes is read as it was written, and a set that the walk accepts is written as it was read.
+pub sets : ((cs : List Code) → Readable cs → readSet (writeSet cs) ≡ codes cs)
+    × ((xs : List ℕ) (cs : List Code) → Below 256 xs → readSet xs ≡ codes cs → (writeSet cs ≡ xs) × Readable cs)
+sets = (set-back, set-canonical)
