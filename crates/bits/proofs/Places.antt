@@ -11,9 +11,7 @@ use lib.ListN.{length, take, drop, getD}
 use lib.Seq.{take-at, drop-at, drop-nil, drop-drop, drop-cons}
 use lib.Pow.{shr-shr, high}
 use Rattle.bits.specs.Fields.{bits, value, bitsOf}
-use Rattle.laws.specs.Sums.{Below}
 use Rattle.bits.proofs.Fields.{length-bits, value-bits, bits-low}
-use Rattle.laws.proofs.Lists.{below-at}
 
 -- the bits of a number are those of its upper part and of its lower part
 pub bits-split : (j k x : ℕ) → bits (j + k) x ≡ bits j (x / 2 ^ k) ++ bits k x
@@ -73,10 +71,10 @@ field-one xs i r n h l =
     ^ n) e (part-front r n k (getD xs i 0) (bitsOf (drop (suc i) xs)))
 
 -- a field that begins in byte i and ends in byte i or the next
-pub field-two : (xs : List ℕ) (i r n : ℕ) → Below 256 xs → suc i < length xs → r + n ≤ 16
+pub field-two : (xs : List ℕ) (i r n : ℕ) → suc i < length xs → getD xs (suc i) 0 < 256 → r + n ≤ 16
     → value (take n (drop (i * 8 + r) (bitsOf xs))) ≡ (getD xs i 0 * 256 + getD xs (suc i) 0) / 2 ^
     (16 - r - n) % 2 ^ n
-field-two xs i r n b h l =
+field-two xs i r n h b l =
     let k = 16 - r - n in
     let x = getD xs i 0 in
     let y = getD xs (suc i) 0 in
@@ -84,7 +82,7 @@ field-two xs i r n b h l =
     let e : r + (n + k) ≡ 16 = omega arith in
     let two : bits 8 x ++ bitsOf (drop (suc i) xs) ≡ bits 16 (x * 256 + y) ++ rest =
     ap (λ t. bits 8 x ++ bitsOf t) (drop-cons xs (suc i) 0 h) ∙ sym (append-assoc (bits 8 x) (bits 8 y) rest)
-    ∙ ap (λ t. t ++ rest) (bits-join 8 8 x y (below-at 256 xs (suc i) b h)) in
+    ∙ ap (λ t. t ++ rest) (bits-join 8 8 x y b) in
     ap (λ t. value (take n t)) (front i r xs (omega arith) ∙ ap (drop r) two)
     ∙ subst (λ w. value (take n (drop r (bits w (x * 256 + y) ++ rest))) ≡ (x * 256 + y) / 2 ^ k % 2 ^ n) e
     (part-front r n k (x * 256 + y) rest)

@@ -97,7 +97,7 @@ edges-good (suc n) q m us (a ∷ b ∷ vs) (fa, (fb, f)) t =
     →and (ltb a (2 ^ q) && ltb b m) (all (goodEdge q m) (edgesOf n vs))
     (→and (ltb a (2 ^ q)) (ltb b m) (lt→ltb a (2 ^ q) fa) x) (edges-good n q m us vs f y)
 
-length-edgesOf : (n : ℕ) (vs : List ℕ) → length (edgesOf n vs) ≡ n
+pub length-edgesOf : (n : ℕ) (vs : List ℕ) → length (edgesOf n vs) ≡ n
 length-edgesOf zero vs = refl
 length-edgesOf (suc n) vs = ap suc (length-edgesOf n (drop 2 vs))
 

@@ -16,15 +16,15 @@ use Rattle.table.specs.Formed.{Head}
 use Rattle.record.specs.Layout.{header, fill, widths, opened, nextsOf, edgesOf, rowsOf, codeOf}
 use Rattle.laws.proofs.Lists.{sum-repeat, length-repeat}
 
-field-drop : (bs : List ℕ) (k o o' w : ℕ) → k + o ≡ o' → field (drop k bs) o w ≡ field bs o' w
+pub field-drop : (bs : List ℕ) (k o o' w : ℕ) → k + o ≡ o' → field (drop k bs) o w ≡ field bs o' w
 field-drop bs k o o' w e = ap (λ l. value (take w l)) (drop-drop o k bs ∙ ap (λ n. drop n bs) e)
 
-drop-read : (ws us bs : List ℕ) → drop (length ws) (read (ws ++ us) bs) ≡ read us (drop (sum ws) bs)
+pub drop-read : (ws us bs : List ℕ) → drop (length ws) (read (ws ++ us) bs) ≡ read us (drop (sum ws) bs)
 drop-read [] us bs = refl
 drop-read (w ∷ ws) us bs = drop-read ws us (drop w bs) ∙ ap (read us) (drop-drop (sum ws) w bs)
 
 -- the fields behind n groups of widths
-behind : (n m : ℕ) (ws us bs : List ℕ) → n * length ws ≡ m
+pub behind : (n m : ℕ) (ws us bs : List ℕ) → n * length ws ≡ m
     → drop m (read (repeat n ws ++ us) bs) ≡ read us (drop (n * sum ws) bs)
 behind n m ws us bs e =
     ap (λ k. drop k (read (repeat n ws ++ us) bs)) (sym (length-repeat n ws ∙ e)) ∙ drop-read (repeat n ws) us bs
@@ -108,11 +108,11 @@ row-at (suc s) (suc i) n d q us bs h l =
 
 -- ---- the code that is read from the bits bs under the header h
 module _ (h : Head) (bs : List ℕ) where
-  abbrev fields : List ℕ
+  abbrev pub fields : List ℕ
   fields = repeat (h .count) (1 ∷ 4 ∷ 1 ∷ 4 ∷ []) ++
       (repeat (h .states) (repeat (2 ^ h .p) (h .q ∷ 7 ∷ [])) ++ (fill h ∷ []))
 
-  behind-head : drop 7 (read (widths h) bs) ≡ read fields (drop 30 bs)
+  pub behind-head : drop 7 (read (widths h) bs) ≡ read fields (drop 30 bs)
   behind-head = drop-read header fields bs
 
   pub constraint-at : (k : ℕ) (d : NextStates) → k < h .count
