@@ -1,2 +1,3 @@
 pub mod Walking
 pub mod Follow
+pub mod Values
