@@ -1,11 +1,11 @@
 -- Laws of constraints: nothing leads on from none, next states stay states, and a run-length constraint is well made.
--- In order: after-none, walk-none; after-target, walk-target; length-runLength, runLength-well.
+-- In order: after-none, walk-none; walk-step; after-target, walk-target; length-runLength, runLength-well.
 -- Assumes nothing.
 use mathlib.Core.Path.{_≡_, refl, ap, _∙_}
 use mathlib.Core.Logic.{_⊎_, inl, inr}
 use mathlib.Core.Bool.{Bool, true, false}
 use mathlib.Core.List.{List, map}
-use Prim.Native.Nat.{ℕ, zero, suc, _+_, _/_, _%_, _^_, _≤_, _<_}
+use Prim.Native.Nat.{ℕ, zero, suc, _+_, _-_, _/_, _%_, _^_, _≤_, _<_}
 use native.Mathlib.Omega.{arith}
 use native.Mathlib.Decide.{decLt}
 use lib.Dec.{ltb, leb, eqb}
@@ -31,6 +31,12 @@ after-none c b h = rw (List·getD-eq-default c nowhere {n = none} h) (both (eqb 
 pub walk-none : (c : Constraint) (q w : ℕ) → length c ≤ 255 → walk c q w none ≡ none
 walk-none c zero w h = refl
 walk-none c (suc q) w h = ap (walk c q w) (after-none c (w / 2 ^ q % 2) h) ∙ walk-none c q w h
+
+-- ---- one bit and then the rest of the word
+pub walk-step : (c : Constraint) (q w s : ℕ) → 0 < q
+    → walk c q w s ≡ walk c (q - 1) w (after c s (w / 2 ^ (q - 1) % 2))
+walk-step c zero w s h = absurd (omega arith)
+walk-step c (suc q) w s h = let e : suc q - 1 ≡ q = omega arith in rw e
 
 -- ---- next states stay states
 module _ (c : Constraint) (well : Well c) where
