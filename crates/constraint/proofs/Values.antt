@@ -1,12 +1,13 @@
 -- Laws of the struct's constraint: its states and their next states; and of arrays filled place by place.
--- In order: length-constraintOf; after-outside, after-zero-at, after-one-at, after-beyond; is-map, map-below; Filled, fill-none,
--- fill-more, filled-read.
+-- In order: length-constraintOf; after-outside, after-zero-at, after-one-at, after-beyond; is-map, map-below;
+-- fill-none, fill-more, fill-skip, filled-read.
 -- Assumes nothing.
 use mathlib.Core.Path.{_≡_, refl, sym, ap, _∙_}
 use mathlib.Core.Bool.{Bool, true, false}
 use mathlib.Core.List.{List, map}
 use Prim.Native.Nat.{ℕ, zero, suc, _+_, _≤_, _<_}
 use native.Mathlib.Omega.{arith}
+use native.Mathlib.Decide.{decLt}
 use borrow.Author.Tests.{eq-eqb, ne-eqb}
 use borrow.Author.Count.{below-more}
 use lib.Dec.{eqb}
@@ -16,8 +17,9 @@ use Rattle.laws.specs.Lists.{if_then_else_, range}
 use Rattle.laws.proofs.Tests.{length-from, map-range-at}
 use Rattle.laws.proofs.Lists.{getD-any}
 use Rattle.constraint.specs.declared.Constraint.{Constraint}
-use Rattle.constraint.specs.Walking.{none, NextStates, nowhere, after}
+use Rattle.constraint.specs.Walking.{none, nowhere, after}
 use Rattle.constraint.specs.Value.{nextStatesAt, constraintOf}
+use Rattle.constraint.specs.PowerTable.{Filled}
 
 -- ---- the next states of a state
 module _ (c : Constraint) where
@@ -69,16 +71,12 @@ module _ {A : Type 0} where
   map-below d f g n h =
       is-map d g n (map f (range n)) (length-map-range f n) (λ i l. map-range-at f n i d l ∙ h i l)
 
--- k places, of which those below i hold f and the others v
-pub record Filled {A : Type 0} (f : ℕ → A) (v : A) (k i : ℕ) (R : List A) : Type 0 where
-  pub long : length R ≡ k
-  pub done : (x : ℕ) → x < i → getD R x v ≡ f x
-  pub left : (x : ℕ) → i ≤ x → getD R x v ≡ v
-
 module _ {A : Type 0} (f : ℕ → A) (v : A) (k : ℕ) where
   pub fill-none : Filled f v k 0 (replicate k v)
   fill-none = record {
-    long = length-replicate k v; done = λ x l. absurd (omega arith); left = λ x l. blank k x
+    long = length-replicate k v;
+    done = λ x l. absurd (omega arith);
+    left = λ x l. blank k x;
   }
     where
       blank : (k x : ℕ) → getD (replicate k v) x v ≡ v
@@ -92,8 +90,21 @@ module _ {A : Type 0} (f : ℕ → A) (v : A) (k : ℕ) where
     done = below-more (λ x. getD (set R i a) x v ≡ f x) i
         (λ x l. getD-set-other R i x a v (λ q. omega arith) ∙ m .done x l)
         (getD-set-same R i a v (let n = m .long in omega arith) ∙ e);
-    left = λ x l. getD-set-other R i x a v (λ q. omega arith) ∙ m .left x (omega arith)
+    left = λ x l. getD-set-other R i x a v (λ q. omega arith) ∙ m .left x (omega arith);
   }
+
+  -- places that hold v anyway
+  pub fill-skip : (i j : ℕ) (R : List A) → ((x : ℕ) → i ≤ x → x < j → f x ≡ v) → i ≤ j → Filled f v k i R
+      → Filled f v k j R
+  fill-skip i j R e h m = record {
+    long = m .long;
+    done = λ x l. go x l (decLt x i);
+    left = λ x l. m .left x (omega arith);
+  }
+    where
+      go : (x : ℕ) → x < j → Dec (x < i) → getD R x v ≡ f x
+      go x l (yes u) = m .done x u
+      go x l (no u) = m .left x (omega arith) ∙ sym (e x (omega arith) l)
 
 -- the code reads an array with 0 beyond its end
 pub filled-read : (f : ℕ → ℕ) (v k i : ℕ) (R : List ℕ) → Filled f v k i R → (x : ℕ) → x < i → i ≤ k → getD R x 0 ≡ f x

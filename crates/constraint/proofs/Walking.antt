@@ -2,9 +2,8 @@
 -- In order: after-none, walk-none; walk-step; after-target, walk-target; length-runLength, runLength-well.
 -- Assumes nothing.
 use mathlib.Core.Path.{_≡_, refl, ap, _∙_}
-use mathlib.Core.Logic.{_⊎_, inl, inr}
+use mathlib.Core.Logic.{inl, inr}
 use mathlib.Core.Bool.{Bool, true, false}
-use mathlib.Core.List.{List, map}
 use Prim.Native.Nat.{ℕ, zero, suc, _+_, _-_, _/_, _%_, _^_, _≤_, _<_}
 use native.Mathlib.Omega.{arith}
 use native.Mathlib.Decide.{decLt}
@@ -12,12 +11,11 @@ use lib.Dec.{ltb, leb, eqb}
 use borrow.Author.Tests.{ltb-true}
 use lib.ListN.{length, getD, length-map, List·getD-eq-default}
 use Rattle.laws.specs.Lists.{if_then_else_, range}
-use Rattle.laws.specs.Sums.{Each}
 use Rattle.laws.proofs.Tests.{length-from}
 use Rattle.laws.proofs.Sums.{each-always, each-image}
 use Rattle.laws.proofs.Elems.{each-at}
 use Rattle.constraint.specs.Walking.{
-  none, NextStates, Constraint, runLengthState, runLength, nowhere, after, walk, Target, Well
+  none, Constraint, runLengthState, runLength, nowhere, after, walk, Target, Well
 }
 
 -- ---- nothing leads on from none
@@ -33,10 +31,9 @@ walk-none c zero w h = refl
 walk-none c (suc q) w h = ap (walk c q w) (after-none c (w / 2 ^ q % 2) h) ∙ walk-none c q w h
 
 -- ---- one bit and then the rest of the word
-pub walk-step : (c : Constraint) (q w s : ℕ) → 0 < q
-    → walk c q w s ≡ walk c (q - 1) w (after c s (w / 2 ^ (q - 1) % 2))
-walk-step c zero w s h = absurd (omega arith)
-walk-step c (suc q) w s h = let e : suc q - 1 ≡ q = omega arith in rw e
+pub walk-step : (c : Constraint) (q i w s : ℕ) → i < q
+    → walk c (q - i) w s ≡ walk c (q - (i + 1)) w (after c s (w / 2 ^ (q - (i + 1)) % 2))
+walk-step c q i w s h = let e : q - i ≡ suc (q - (i + 1)) = omega arith in ap (λ n. walk c n w s) e
 
 -- ---- next states stay states
 module _ (c : Constraint) (well : Well c) where
@@ -45,6 +42,7 @@ module _ (c : Constraint) (well : Well c) where
     where
       of : s < length c → Target (length c) (getD c s nowhere .zero) × Target (length c) (getD c s nowhere .one)
       of h = each-at (λ r. Target (length c) (r .zero) × Target (length c) (r .one)) nowhere c well s h
+
       go : Dec (s < length c) → (t : Bool)
           → Target (length c) (if t then (getD c s nowhere) .zero else (getD c s nowhere) .one)
       go (yes h) true = of h .0
@@ -69,6 +67,7 @@ runLength-well d k =
     longer : (i : ℕ) (b : Bool) → ltb i k ≡ b → Target (k + 1) (if b then i + 1 else none)
     longer i true e = inl (omega (arith, ltb-true i k e))
     longer i false e = inr refl
+
     back : (b : Bool) → Target (k + 1) (if b then 0 else none)
     back true = inl (omega arith)
     back false = inr refl
