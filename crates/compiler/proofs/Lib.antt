@@ -1,0 +1,3 @@
+pub mod Compiled
+pub mod Jobs
+pub mod Compile
