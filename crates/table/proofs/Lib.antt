@@ -12,4 +12,7 @@ pub mod Shape
 pub mod Reached
 pub mod AnyClosure
 pub mod Obeys
+pub mod PairQueue
+pub mod PairTests
+pub mod PairPlaces
 pub mod Accepted

@@ -7,3 +7,4 @@ pub mod Obeys
 pub mod Formed
 pub mod Accepted
 pub mod Value
+pub mod Obeying
