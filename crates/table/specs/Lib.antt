@@ -7,3 +7,5 @@ pub mod Obeys
 pub mod Formed
 pub mod Accepted
 pub mod Value
+pub mod Marks
+pub mod Edges
