@@ -1,2 +1,17 @@
+pub mod Paths
+pub mod Same
+pub mod Works
+pub mod Window
+pub mod WindowGrows
+pub mod WindowLeast
+pub mod WindowOnly
+pub mod Clashes
+pub mod Search
+pub mod Formed
+pub mod Shape
+pub mod Reached
+pub mod AnyClosure
+pub mod Obeys
+pub mod Accepted
 pub mod Marks
 pub mod Edges
