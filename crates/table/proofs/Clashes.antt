@@ -34,7 +34,7 @@ pub record Hit (g : Rows) (P : Pairs) (u v : ℕ) : Type 0 where
   pub next : at g s x .next ≡ u
   pub next′ : at g t y .next ≡ v
 
-hits→ : (g : Rows) (P : Pairs) (u v : ℕ) → T (has (hits g P) u v) → Hit g P u v
+pub hits→ : (g : Rows) (P : Pairs) (u v : ℕ) → T (has (hits g P) u v) → Hit g P u v
 hits→ g P u v k =
     let (s, hs, k₁) = any-below→ (λ s. any (λ t. has P s t && hitFrom g u v s t) (range (length g))) (length g)
         (grid→ (length g) (length g)
@@ -54,7 +54,7 @@ hits→ g P u v k =
       word = eqb→eq (at g s x .word) (at g t y .word) w; next = eqb→eq (at g s x .next) u a; next′ =
           eqb→eq (at g t y .next) v b }
 
-→hits : (g : Rows) → Closed g → (P : Pairs) (s t x y : ℕ) → s < length g → t < length g → x < length (edges g s)
+pub →hits : (g : Rows) → Closed g → (P : Pairs) (s t x y : ℕ) → s < length g → t < length g → x < length (edges g s)
     → y < length (edges g t) → T (has P s t) → T (not (eqb x y)) → at g s x .word ≡ at g t y .word
     → T (has (hits g P) (at g s x .next) (at g t y .next))
 →hits g c P s t x y hs ht hx hy i n w =

@@ -15,3 +15,4 @@ pub mod Obeys
 pub mod Accepted
 pub mod Marks
 pub mod Edges
+pub mod Joins

@@ -91,7 +91,7 @@ reversed-intro p g s x c i a h =
     rw (any-reversed p g (at g s x .next) (c s x a)) (→any-below _ (length g) s i (→any _ (edge 0 0) (edges g s) x a
         (→and (eqb (at g s x .next) (at g s x .next)) (p (edge (at g s x .word) s)) (eqb-refl (at g s x .next)) h)))
 
-onward : (g : Rows) (Q : Pairs) (s t x y : ℕ) → Closed g → s < length g → t < length g → x < length (edges g s)
+pub onward : (g : Rows) (Q : Pairs) (s t x y : ℕ) → Closed g → s < length g → t < length g → x < length (edges g s)
     → y < length (edges g t) → at g s x .word ≡ at g t y .word
     → T (has Q s t) → T (has (into (reversed g) Q) (at g s x .next) (at g t y .next))
 onward g Q s t x y c i j a b w h =

@@ -83,7 +83,7 @@ pub record Back (g : Rows) (Q : Pairs) (k s t : ℕ) : Type 0 where
   pub stop : ends g s₀ us ≡ s
   pub stop′ : ends g t₀ us' ≡ t
 
-back-one : (g : Rows) (Q : Pairs) (s t : ℕ) → s < length g → t < length g → T (has (into (reversed g) Q) s t)
+pub back-one : (g : Rows) (Q : Pairs) (s t : ℕ) → s < length g → t < length g → T (has (into (reversed g) Q) s t)
     → (s₀ : ℕ) × (t₀ : ℕ) × (x : ℕ) × (y : ℕ) × (s₀ < length g) × (t₀ < length g) × T (has Q s₀ t₀)
         × (x < length (edges g s₀)) × (y < length (edges g t₀)) × (at g s₀ x .word ≡ at g t₀ y .word)
         × (at g s₀ x .next ≡ s) × (at g t₀ y .next ≡ t)

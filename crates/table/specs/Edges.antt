@@ -1,7 +1,7 @@
 -- The edges of a table as places e = s * 16 + d of its arrays, and for each word the chain of its edges, from the last to
 -- the first.
 -- In order: Arrays, the part of a table that its paths use, and lent; rowsOf; Fits, what the code needs of it; places,
--- isEdge, wordOf, nextOf, bears; lastBelow; Chained, what chains say.
+-- isEdge, wordOf, nextOf, bears; lastBelow; Chained, what chains say; Linked, a table with its chains.
 -- Assumes nothing.
 use mathlib.Core.Path.{_≡_}
 use mathlib.Core.Bool.{Bool, true, _&&_}
@@ -78,3 +78,8 @@ pub record Chained (t : Arrays) (b : ℕ) (head link : List ℕ) : Type 0 where
   pub linkLong : length link ≡ 2048
   pub heads : (w : ℕ) → w < 256 → getD head w 0 ≡ lastBelow t w b
   pub links : (e : ℕ) → e < b → isEdge t e ≡ true → getD link e 0 ≡ lastBelow t (wordOf t e) e
+
+-- a table that fits, with the chains of all its edges
+pub record Linked (t : Arrays) (head link : List ℕ) : Type 0 where
+  pub fits : Fits t
+  pub chained : Chained t (places t) head link

@@ -9,3 +9,4 @@ pub mod Accepted
 pub mod Value
 pub mod Marks
 pub mod Edges
+pub mod PairSets
