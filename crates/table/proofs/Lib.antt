@@ -16,3 +16,6 @@ pub mod Accepted
 pub mod Marks
 pub mod Edges
 pub mod Joins
+pub mod RowsOf
+pub mod PairSets
+pub mod TwoEdges
