@@ -19,3 +19,4 @@ pub mod Joins
 pub mod RowsOf
 pub mod PairSets
 pub mod TwoEdges
+pub mod SetLaws

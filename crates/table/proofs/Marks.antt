@@ -1,5 +1,5 @@
 -- Laws of tests over the numbers below n, and of loops that mark places of a set.
--- In order: some-more, none-start, some-at, found, some-same; put-member; mark-none, mark-blank, marked-member, mark-more,
+-- In order: some-suc, some-more, none-start, found, some-at, none-more, some-stop; put-member; mark-none, mark-blank, marked-member, mark-more,
 -- mark-row, mark-skip, mark-put; Left, the same from the last turn to the first, and left-start to left-skip.
 -- Assumes nothing.
 use mathlib.Core.Path.{_≡_, refl, sym, ap, ap₂, subst, _∙_}
@@ -45,6 +45,12 @@ found f n t = any-below→ f n t
 pub some-at : (f : ℕ → Bool) (n i : ℕ) → i < n → T (f i) → T (some f n)
 unfolding some
 some-at f n i h t = →any-below f n i h t
+
+pub none-more : (f : ℕ → Bool) (n : ℕ) → some f n ≡ false → f n ≡ false → some f (n + 1) ≡ false
+none-more f n a b = some-more f n ∙ ap₂ (λ x y. x || y) a b
+
+pub some-stop : (f : ℕ → Bool) (n i : ℕ) → i < n → f i ≡ true → some f n ≡ true
+some-stop f n i h e = T→true (some f n) (some-at f n i h (subst T (sym e) tt))
 
 -- ---- a loop that marks places of a set: turn i marks every x with hit x i
 pub put-member : (R : List Bool) (y x : ℕ) → y < length R → member (set R y true) x ≡ (member R x || eqb y x)

@@ -1,10 +1,10 @@
 -- Sets of pairs of states in an array, the pair of x and y at x * 128 + y, and the tests by which the code marks them.
--- In order: pairsIn; counts, joins, leftOut, joinsAny, two edges with one word.
+-- In order: pairsIn; counts, joins, leftOut, joinsAny, two edges with one word; holdsAt, addsAt.
 -- Assumes nothing.
 use mathlib.Core.Bool.{Bool, false, not, _&&_}
 use mathlib.Core.List.{List}
 use Prim.Native.Nat.{ℕ, _+_, _*_, _/_, _%_}
-use lib.Dec.{eqb}
+use lib.Dec.{eqb, ltb}
 use lib.ListN.{getD}
 use Rattle.laws.specs.Lists.{if_then_else_}
 use Rattle.laws.specs.Sets.{member, Pairs, grid}
@@ -30,3 +30,11 @@ leftOut apart i = if apart then i % 16 else 16
 -- the edge i and some edge with its word, and with other data where they must differ, lead from a pair of P to the place z
 abbrev pub joinsAny : Arrays → List Bool → Bool → ℕ → ℕ → Bool
 joinsAny t P apart z i = isEdge t i && some (joins t P (leftOut apart i) i z) (places t)
+
+-- the place z holds a pair of P of n states
+abbrev pub holdsAt : ℕ → List Bool → ℕ → Bool
+holdsAt n P z = ltb (z % 128) n && member P z
+
+-- turn z adds the place x
+abbrev pub addsAt : List Bool → ℕ → ℕ → Bool
+addsAt Q x z = member Q z && eqb z x

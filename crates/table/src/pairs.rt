@@ -4,9 +4,11 @@ ghost use mathlib.Core.Bool.{Bool, true, false};
 ghost use Prim.Native.Nat.{ℕ, _+_, _*_, _≤_, _<_};
 ghost use lib.ListN.{length, getD};
 ghost use Rattle.laws.specs.Sets.{member};
+ghost use Rattle.table.specs.Works.{into, reversed};
+ghost use Rattle.table.specs.Search.{hits};
 ghost use Rattle.table.specs.Marks.{some, Marked};
-ghost use Rattle.table.specs.Edges.{arrays, places, isEdge, Linked};
-ghost use Rattle.table.specs.PairSets.{counts, joins, leftOut, joinsAny};
+ghost use Rattle.table.specs.Edges.{arrays, rowsOf, places, isEdge, Linked};
+ghost use Rattle.table.specs.PairSets.{pairsIn, counts, joins, leftOut, joinsAny};
 
 use crate::chains::wide;
 
@@ -90,4 +92,41 @@ fn joined(
         i += 1;
     }
     out
+}
+
+// The pairs that one common word leads to from the pairs.
+pub fn forward(
+    states: usize,
+    n: usize,
+    word: &[u8; 2048],
+    next: &[u8; 2048],
+    head: &[u16; 256],
+    link: &[u16; 2048],
+    pairs: &[bool; 16384],
+) -> [bool; 16384]
+    requires { ⌜ Linked (arrays states n (now word) (now next)) (now head) (now link) ⌝ }
+    ensures answer { λ r. ⌜
+        pairsIn states r
+        ≡ into (reversed (rowsOf (arrays states n (now (word .entry)) (now (next .entry)))))
+        (pairsIn states (now (pairs .entry))) ⌝ }
+{
+    joined(states, n, word, next, head, link, pairs, false)
+}
+
+// The pairs that a clash leads to from the pairs.
+pub fn clashes(
+    states: usize,
+    n: usize,
+    word: &[u8; 2048],
+    next: &[u8; 2048],
+    head: &[u16; 256],
+    link: &[u16; 2048],
+    pairs: &[bool; 16384],
+) -> [bool; 16384]
+    requires { ⌜ Linked (arrays states n (now word) (now next)) (now head) (now link) ⌝ }
+    ensures answer { λ r. ⌜
+        pairsIn states r
+        ≡ hits (rowsOf (arrays states n (now (word .entry)) (now (next .entry)))) (pairsIn states (now (pairs .entry))) ⌝ }
+{
+    joined(states, n, word, next, head, link, pairs, true)
 }
