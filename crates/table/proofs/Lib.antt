@@ -20,3 +20,4 @@ pub mod RowsOf
 pub mod PairSets
 pub mod TwoEdges
 pub mod SetLaws
+pub mod Steps

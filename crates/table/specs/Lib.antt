@@ -10,3 +10,4 @@ pub mod Value
 pub mod Marks
 pub mod Edges
 pub mod PairSets
+pub mod Steps
