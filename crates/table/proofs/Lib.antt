@@ -21,3 +21,4 @@ pub mod PairSets
 pub mod TwoEdges
 pub mod SetLaws
 pub mod Steps
+pub mod Lookahead

@@ -1,5 +1,5 @@
 -- The rows that a table's arrays stand for.
--- In order: length-rows, row-at, edge-at, state-of, closed-rows; fits-ready, the arrays of a table that is ready.
+-- In order: length-rows, row-at, edge-at, state-of, closed-rows; fits-ready, fits-lent, the arrays of a table that is ready.
 -- Assumes nothing.
 use mathlib.Core.Path.{_≡_, refl, sym, ap, subst, _∙_}
 use mathlib.Core.Bool.{true}
@@ -16,7 +16,7 @@ use Rattle.table.specs.declared.Table.{Table}
 use Rattle.table.specs.Rows.{edge, edges, at}
 use Rattle.table.specs.Paths.{Closed}
 use Rattle.table.specs.Value.{Ready}
-use Rattle.table.specs.Edges.{Arrays, Fits, lent, edgeOf, rowOf, rowsOf, places, isEdge, nextOf}
+use Rattle.table.specs.Edges.{Arrays, Fits, arrays, lent, edgeOf, rowOf, rowsOf, places, isEdge, nextOf}
 
 module _ (t : Arrays) where
   pub length-rows : length (rowsOf t) ≡ t .states
@@ -85,3 +85,7 @@ fits-ready t r = record {
   inside = λ e h q. subst (λ k. getD (t .next) k 0 < t .states) (place e)
       (r .inside (e / 16) (e % 16) (omega arith) (ltb-true _ _ q));
 }
+
+-- the arrays as the code lends them, with the number of data that it has computed
+pub fits-lent : (t : Table) (n : ℕ) → Ready t → n ≡ 2 ^ t .p → Fits (arrays (t .states) n (t .word) (t .next))
+fits-lent t n r e = rw e (fits-ready t r)

@@ -43,7 +43,7 @@ module _ (t : Rows) where
 
 -- ---- steps until a set is empty: the set after k of them, none of those before it empty
 pub record Stepped (t : Rows) (n : ℕ) (H : Pairs) (most : ℕ) (cur : List Bool) (k : ℕ) : Type 0 where
-  pub within : k ≤ most + 1
+  pub within : k ≤ most
   pub set : pairsIn n cur ≡ iterate (into (reversed t)) k H
   pub sooner : (j : ℕ) → j < k → empty t (iterate (into (reversed t)) j H) ≡ false
 
@@ -51,7 +51,7 @@ module _ (t : Rows) (n : ℕ) (H : Pairs) (most : ℕ) (cur : List Bool) where
   pub stepped-start : pairsIn n cur ≡ H → Stepped t n H most cur 0
   stepped-start e = record { within = omega arith; set = e; sooner = λ j h. absurd (omega arith) }
 
-  pub stepped-more : (k : ℕ) (r : List Bool) → Stepped t n H most cur k → k ≤ most
+  pub stepped-more : (k : ℕ) (r : List Bool) → Stepped t n H most cur k → k < most
       → empty t (pairsIn n cur) ≡ false → pairsIn n r ≡ into (reversed t) (pairsIn n cur)
       → Stepped t n H most r (k + 1)
   stepped-more k r h l e s = record {
@@ -63,8 +63,14 @@ module _ (t : Rows) (n : ℕ) (H : Pairs) (most : ℕ) (cur : List Bool) where
 
   pub stepped-stop : (k : ℕ) → Stepped t n H most cur k → empty t (pairsIn n cur) ≡ true → Emptied t H most k
   stepped-stop k h e = record {
-    within = h .within; sooner = h .sooner; there = λ l. sym (ap (empty t) (h .set)) ∙ e
+    within = omega (arith, h .within); sooner = h .sooner; there = λ l. sym (ap (empty t) (h .set)) ∙ e
   }
 
-  pub stepped-end : (k : ℕ) → Stepped t n H most cur k → most + 1 ≤ k → Emptied t H most k
-  stepped-end k h l = record { within = h .within; sooner = h .sooner; there = λ m. absurd (omega arith) }
+  pub stepped-end : (k : ℕ) → Stepped t n H most cur k → most ≤ k → empty t (pairsIn n cur) ≡ false
+      → Emptied t H most (k + 1)
+  stepped-end k h l e = record {
+    within = omega (arith, h .within);
+    sooner = below-more (λ j. empty t (iterate (into (reversed t)) j H) ≡ false) k (h .sooner)
+        (sym (ap (empty t) (h .set)) ∙ e);
+    there = λ m. absurd (omega arith);
+  }

@@ -1,5 +1,5 @@
 -- What the search for a window keeps while it steps sets of pairs.
--- In order: Reached, the sets that i common words lead to; Emptied, the number of steps until a set is empty.
+-- In order: size; Reached, the sets that i common words lead to; Emptied, the number of steps until a set is empty.
 -- Assumes nothing.
 use mathlib.Core.Path.{_≡_}
 use mathlib.Core.Bool.{true, false}
@@ -7,10 +7,14 @@ use Prim.Native.Nat.{ℕ, _+_, _≤_, _<_}
 use Rattle.laws.specs.Lists.{iterate}
 use Rattle.laws.specs.Sets.{Pairs}
 use Rattle.table.specs.declared.windows.Pasts.{Pasts}
-use Rattle.table.specs.Rows.{Rows}
+use Rattle.table.specs.Rows.{Rows, Size}
 use Rattle.table.specs.Works.{into, reversed, past, started}
 use Rattle.table.specs.Search.{starts, empty}
 use Rattle.table.specs.PairSets.{pairsIn}
+
+-- memory m and lookahead a
+abbrev pub size : ℕ → ℕ → Size
+size m a = record { memory = m; lookahead = a }
 
 -- the pairs that i common words lead to from any two states and from the start, and those that fewer lead to from the start
 pub record Reached (t : Rows) (n i : ℕ) (g : Pasts) : Type 0 where

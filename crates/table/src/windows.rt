@@ -3,11 +3,16 @@ ghost use mathlib.Core.Path.{_≡_};
 ghost use Prim.Native.Nat.{ℕ, _+_, _*_, _^_, _≤_, _<_};
 ghost use lib.ListN.{length, getD};
 ghost use Rattle.table.specs.Rows.{Rows, Size};
+ghost use Rattle.table.specs.Value.{Ready, rowsIn};
+ghost use Rattle.table.specs.Works.{works};
 ghost use Rattle.table.specs.Search.{hits, pasts};
 ghost use Rattle.table.specs.Edges.{arrays, rowsOf, Linked};
 ghost use Rattle.table.specs.PairSets.{pairsIn};
-ghost use Rattle.table.specs.Steps.{Reached, Emptied};
+ghost use Rattle.table.specs.Steps.{size, Reached, Emptied};
 
+use crate::Table;
+use crate::chains::chain;
+use crate::chains::ways;
 use crate::pairs::clashes;
 use crate::pairs::forward;
 use crate::pair_sets::all_pairs;
@@ -122,7 +127,7 @@ fn emptied(
 {
     let mut cur = set;
     let mut k = 0;
-    while k <= most {
+    while k < most {
         if is_empty(states, &cur) {
             return k;
         }
@@ -130,5 +135,42 @@ fn emptied(
         cur = r;
         k += 1;
     }
-    k
+    if is_empty(states, &cur) {
+        return k;
+    }
+    k + 1
+}
+
+// The window with this memory and lookahead does what a window must, by chains.
+fn works_by(
+    states: usize,
+    n: usize,
+    word: &[u8; 2048],
+    next: &[u8; 2048],
+    head: &[u16; 256],
+    link: &[u16; 2048],
+    memory: usize,
+    lookahead: usize,
+) -> bool
+    requires { ⌜ Linked (arrays states n (now word) (now next)) (now head) (now link) × (lookahead ≤ 15) ⌝ }
+    ensures answer { λ r. ⌜
+        r ≡ works (rowsOf (arrays states n (now (word .entry)) (now (next .entry)))) (size memory lookahead) ⌝ }
+{
+    let g = after(states, n, word, next, head, link, memory);
+    let h = hits_of(states, n, word, next, head, link, g);
+    emptied(states, n, word, next, head, link, h, lookahead) <= lookahead
+}
+
+// The window with this memory and lookahead does what a window must.
+pub fn works(t: Table, memory: usize, lookahead: usize) -> bool
+    requires { ⌜ Ready t × (lookahead ≤ 15) ⌝ }
+    ensures answer { λ r. ⌜ r ≡ works (rowsIn t) (size memory lookahead) ⌝ }
+{
+    let n = ways(t.p);
+    let word = t.word;
+    let next = t.next;
+    let c = chain(t.states, n, &word, &next);
+    let head = c.head;
+    let link = c.link;
+    works_by(t.states, n, &word, &next, &head, &link, memory, lookahead)
 }

@@ -1,5 +1,5 @@
 -- After k turns the set is the one after k steps, and none of the sets before it was empty.
-use Prim.Native.Nat.{_+_, _-_}
+use Prim.Native.Nat.{_-_}
 use mathlib.Core.Path.{refl, sym, _∙_}
 use native.Mathlib.Omega.{arith}
 use denote.Ref.{now}
@@ -16,7 +16,7 @@ Inv-loop states n word next head link most cur₀ k₀ cur k =
     Stepped (rowsOf (arrays states n word next)) states (pairsIn states cur₀) most cur k
 
 abbrev μ-loop : tie.MeasureT-loop
-μ-loop states n word next head link most cur₀ k₀ cur k = most + 1 - k
+μ-loop states n word next head link most cur₀ k₀ cur k = most - k
 
 abbrev table : tie.Start Inv-loop μ-loop → Arrays
 table s = arrays (s .args .states) (s .args .n) (now (s .args .word)) (now (s .args .next))
@@ -52,10 +52,25 @@ loop-again c =
     stepped-more (rowsOf t) (s .args .states) _ _ (l .cur) (l .k) (c .forward .result) (l .inv) (omega arith)
     (sym (e .before .is-empty .ensures (rowsOf t) (length-rows t)) ∙ e .if1 .left) (c .forward .ensures)
 
+is-empty-requires-2 : tie.Need-is-empty-requires-2 Inv-loop μ-loop
+is-empty-requires-2 c κs = search needs
+
 returns-2 : tie.Need-returns-2 Inv-loop μ-loop
 returns-2 c =
-    let l = c .before .loop in
-    stepped-end _ _ _ _ (l .cur) (l .k) (l .inv) (omega arith)
+    let l = c .before .before .before .before .loop in
+    let t = table (c .before .before .before .before .before) in
+    stepped-stop (rowsOf t) _ _ _ (l .cur) (l .k) (l .inv)
+    (sym (c .before .is-empty2 .ensures (rowsOf t) (length-rows t)) ∙ c .if2 .taken)
+
+add-result : tie.Need-add-result Inv-loop μ-loop
+add-result c = search needs
+
+returns-3 : tie.Need-returns-3 Inv-loop μ-loop
+returns-3 c =
+    let l = c .before .before .before .before .loop in
+    let t = table (c .before .before .before .before .before) in
+    stepped-end (rowsOf t) _ _ _ (l .cur) (l .k) (l .inv) (omega arith)
+    (sym (c .before .is-empty2 .ensures (rowsOf t) (length-rows t)) ∙ c .if2 .left)
 
 pub emptied-spec : {M : Type 1} → statement M
 emptied-spec =
@@ -70,4 +85,7 @@ emptied-spec =
     add-k
     loop-less
     loop-again
-    returns-2)
+    is-empty-requires-2
+    returns-2
+    add-result
+    returns-3)
