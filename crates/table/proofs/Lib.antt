@@ -22,3 +22,4 @@ pub mod TwoEdges
 pub mod SetLaws
 pub mod Steps
 pub mod Lookahead
+pub mod Leading
