@@ -1,6 +1,6 @@
 -- "Weights" (in the field: an approximate eigenvector of the graph of words).
--- In order: wordsBetween, A(s, t); product, A v; Enough, the inequality; lower, lowered, weights; weight and total, the
--- weights to which edges lead.
+-- In order: wordsBetween, A(s, t); product, A v; Enough, the inequality; AtMost, the order of vectors; lower, lowered,
+-- weights; weight and total, the weights to which edges lead.
 -- Assumes nothing.
 use mathlib.Core.List.{List, map}
 use Prim.Native.Nat.{ℕ, _*_, _/_, _≤_, min}
@@ -24,6 +24,10 @@ product g v s = tot (term g v s) (range (length v))
 -- the inequality "A v ≥ n v"
 abbrev pub Enough : ℕ → List Arc → List ℕ → Type 0
 Enough n g v = (s : ℕ) → getD v s 0 * n ≤ product g v s
+
+-- u is at most v in every entry
+abbrev pub AtMost : List ℕ → List ℕ → Type 0
+AtMost u v = (s : ℕ) → getD u s 0 ≤ getD v s 0
 
 -- "the smaller of the old weight and the sum, divided by n and rounded down"
 abbrev pub lower : ℕ → List Arc → List ℕ → ℕ → ℕ

@@ -1,0 +1,32 @@
+-- Bytes parse to a code exactly when they are the record of it, its fields are in range, and its table is accepted.
+-- In order: parse-exact.
+-- Assumes nothing.
+use mathlib.Core.Path.{_≡_, sym, ap, _∙_}
+use mathlib.Core.Logic.{_↔_}
+use mathlib.Core.List.{List}
+use Prim.Native.Nat.{ℕ}
+use lib.Dec.{T}
+use Rattle.laws.specs.Sums.{Below}
+use Rattle.answer.specs.Outcomes.{done}
+use Rattle.table.specs.Rows.{Code}
+use Rattle.table.specs.Formed.{formed}
+use Rattle.table.specs.Accepted.{Accepted}
+use Rattle.table.proofs.Formed.{formed→}
+use Rattle.table.proofs.Obeys.{obeys-exact}
+use Rattle.table.proofs.Accepted.{window-exact}
+use Rattle.record.specs.Layout.{pack}
+use Rattle.record.specs.Parse.{parse}
+use Rattle.record.proofs.RecordWrite.{parse-pack-good}
+use Rattle.record.proofs.RecordRead.{parse-good}
+
+pub parse-exact : (xs : List ℕ) → Below 256 xs → (c : Code)
+    → (parse xs ≡ done c) ↔ (T (formed c) × (pack c ≡ xs) × Accepted c)
+parse-exact xs b c = (
+  (λ e.
+      let a = parse-good xs b c e in
+      let f = formed→ c (a .formed) in
+      (a .formed, a .canonical, (obeys-exact c f .0 (a .obeys), window-exact c f .0 (a .works)))),
+  (λ (t, e, (o, w)).
+      let f = formed→ c t in
+      ap parse (sym e) ∙ parse-pack-good c t (obeys-exact c f .1 o) (window-exact c f .1 w))
+)

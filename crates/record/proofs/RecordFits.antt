@@ -1,0 +1,87 @@
+-- The fields of a code fit their widths, and fill the bytes of its record.
+-- Assumes nothing.
+use mathlib.Core.Path.{_≡_, subst}
+use mathlib.Core.Bool.{Bool, true, false, _||_}
+use mathlib.Core.List.{List, [], _∷_, _++_}
+use Prim.Native.Nat.{ℕ, zero, _+_, _*_, _-_, _/_, _^_, _≤_, _<_}
+use native.Mathlib.Omega.{arith}
+use lib.Dec.{T, ltb, eqb, eqb→eq, ltb→lt}
+use lib.ListN.{length, replicate}
+use lib.Pow.{pow-pos}
+use Rattle.laws.specs.Lists.{if_then_else_, all, sum, repeat}
+use Rattle.laws.proofs.Tests.{and→}
+use Rattle.constraint.specs.Walking.{NextStates, none}
+use Rattle.table.specs.Rows.{Edge, Rows, Code}
+use Rattle.bits.specs.Fields.{Fits}
+use Rattle.bits.proofs.Fields.{fits-append}
+use Rattle.table.specs.Formed.{Head, head, goodState, goodNext, goodEdge, goodRow, Formed}
+use Rattle.record.specs.Layout.{size, fill, widths, present, shown, nexts, pairs, rows, values}
+use Rattle.laws.proofs.Lists.{sum-repeat, sum-replicate, sum-append}
+
+-- ---- sums and lengths
+
+-- a record's fields, the fill among them, fill its bytes
+filled : (b : ℕ) → b + (8 * ((b + 7) / 8) - b) ≡ (b + 7) / 8 * 8
+filled b = omega arith
+
+pub sum-widths : (h : Head) → sum (widths h) ≡ sum (replicate (size h) 8)
+sum-widths h = simp (sum-append, sum-repeat, sum-replicate)
+    (omega (arith, filled (30 + 10 * h .count + h .states * (2 ^ h .p * (h .q + 7)))))
+
+-- ---- a code's values fit their widths
+
+present-lt : (s : ℕ) → present s < 2
+present-lt s = go (eqb s none)
+  where
+    go : (b : Bool) → (if b then 0 else 1) < 2
+    go true = omega arith
+    go false = omega arith
+
+shown-lt : (k s : ℕ) → k ≤ 16 → T (goodState k s) → shown s < 16
+shown-lt k s h t = go (eqb s none) t
+  where
+    go : (b : Bool) → T (b || ltb s k) → (if b then 0 else s) < 16
+    go true u = omega arith
+    go false u = omega (arith, ltb→lt s k u)
+
+fits-nexts : (k : ℕ) (c : List NextStates) → k ≤ 16 → T (all (goodNext k) c)
+    → Fits (repeat (length c) (1 ∷ 4 ∷ 1 ∷ 4 ∷ [])) (nexts c)
+fits-nexts k [] h t = tt
+fits-nexts k (r ∷ c) h t =
+    let (a, b) = and→ (goodNext k r) (all (goodNext k) c) t in
+    let (x, y) = and→ (goodState k (r .zero)) (goodState k (r .one)) a in
+    (present-lt (r .zero),
+        (shown-lt k (r .zero) h x, (present-lt (r .one), (shown-lt k (r .one) h y, fits-nexts k c h b))))
+
+fits-pairs : (q n : ℕ) (es : List Edge) → n ≤ 128 → T (all (goodEdge q n) es)
+    → Fits (repeat (length es) (q ∷ 7 ∷ [])) (pairs es)
+fits-pairs q n [] h t = tt
+fits-pairs q n (e ∷ es) h t =
+    let (a, b) = and→ (goodEdge q n e) (all (goodEdge q n) es) t in
+    let (x, y) = and→ (ltb (e .word) (2 ^ q)) (ltb (e .next) n) a in
+    (ltb→lt (e .word) (2 ^ q) x, (omega (arith, ltb→lt (e .next) n y), fits-pairs q n es h b))
+
+fits-rows : (p q n : ℕ) (g : Rows) → n ≤ 128 → T (all (goodRow p q n) g)
+    → Fits (repeat (length g) (repeat (2 ^ p) (q ∷ 7 ∷ []))) (rows g)
+fits-rows p q n [] h t = tt
+fits-rows p q n (es ∷ g) h t =
+    let (a, b) = and→ (goodRow p q n es) (all (goodRow p q n) g) t in
+    let (l, x) = and→ (eqb (length es) (2 ^ p)) (all (goodEdge q n) es) a in
+    fits-append (repeat (2 ^ p) (q ∷ 7 ∷ [])) (pairs es) (repeat (length g) (repeat (2 ^ p) (q ∷ 7 ∷ []))) (rows g)
+        (subst (λ m. Fits (repeat m (q ∷ 7 ∷ [])) (pairs es)) (eqb→eq (length es) (2 ^ p) l) (fits-pairs q n es h x))
+            (fits-rows p q n g h b)
+
+pub fits-values : (c : Code) → Formed c → Fits (widths (head c)) (values c)
+fits-values c f =
+    let r = f .range in
+    let lp : c .p < 8 = omega (arith, r .p₂) in
+    let lq : c .q < 16 = omega (arith, r .q₂) in
+    let ls : length (c .table) - 1 < 128 = omega (arith, r .s₁, r .s₂) in
+    let lk : length (c .constraint) - 1 < 16 = omega (arith, r .k₁, r .k₂) in
+    let lz : c .start < 16 = omega (arith, r .start, r .k₂) in
+    (lp, (lq, (ls, (r .m, (r .a, (lk, (lz,
+     fits-append (repeat (length (c .constraint)) (1 ∷ 4 ∷ 1 ∷ 4 ∷ [])) (nexts (c .constraint)) _
+         (rows (c .table) ++ (0 ∷ [])) (fits-nexts (length (c .constraint)) (c .constraint) (r .k₂) (f .nexts))
+        (fits-append (repeat (length (c .table)) (repeat (2 ^ c .p) (c .q ∷ 7 ∷ []))) (rows (c .table))
+            (fill (head c) ∷ []) (0 ∷ []) (fits-rows (c .p) (c .q) (length (c .table)) (c .table) (r .s₂) (f .rows))
+            (pow-pos (fill (head c)), tt)))))))))

@@ -1,0 +1,15 @@
+pub mod Paths
+pub mod Same
+pub mod Works
+pub mod Window
+pub mod WindowGrows
+pub mod WindowLeast
+pub mod WindowOnly
+pub mod Clashes
+pub mod Search
+pub mod Formed
+pub mod Shape
+pub mod Reached
+pub mod AnyClosure
+pub mod Obeys
+pub mod Accepted
