@@ -23,3 +23,5 @@ pub mod Split
 pub mod Loop
 pub mod Roots
 pub mod TableOf
+pub mod CodeLists
+pub mod CodeFirst

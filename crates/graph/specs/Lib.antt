@@ -5,4 +5,4 @@ pub mod Splitting
 pub mod TableOf
 pub mod Invariant
 pub mod Value
-pub mod Keys
+pub mod EdgeKeys
