@@ -25,3 +25,7 @@ pub mod Roots
 pub mod TableOf
 pub mod CodeLists
 pub mod CodeFirst
+pub mod CodeFind
+pub mod CodeChoose
+pub mod CodeRun
+pub mod CodeCandidates

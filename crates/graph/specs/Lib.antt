@@ -6,3 +6,4 @@ pub mod TableOf
 pub mod Invariant
 pub mod Value
 pub mod EdgeKeys
+pub mod SplitParts
