@@ -1,3 +1,5 @@
+pub mod CodeKeys
+pub mod CodeCarry
 pub mod Arcs
 pub mod Exchange
 pub mod Weights
@@ -22,3 +24,9 @@ pub mod Split
 pub mod Loop
 pub mod Roots
 pub mod TableOf
+pub mod CodeLists
+pub mod CodeFirst
+pub mod CodeFind
+pub mod CodeChoose
+pub mod CodeRun
+pub mod CodeCandidates
