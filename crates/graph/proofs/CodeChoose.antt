@@ -63,6 +63,7 @@ module _ (hit : ℕ → Bool) (source : ℕ → ℕ) (i best : ℕ) (w : Lowest 
           pick (yes l) = inr (i, omega arith, rw q tt, omega arith)
           pick (no l) = let u : best ≡ b = omega arith in
               subst (λ x. (x ≡ 128) ⊎ ((k : ℕ) × (k < i + 1) × T (hit k) × (source k ≡ x))) u (keep (w .found))
+
       go : (b : Bool) → hit i ≡ b → Lowest hit source (i + 1) (if b then min best (source i) else best)
       go true q = less (min best (source i)) q refl
       go false q = record { low = low-more best (omega arith) (λ t. absurd (subst T q t)); found = keep (w .found) }
@@ -89,14 +90,14 @@ module _ (g : Graph) (M : ℕ) where
         let (a, b) = and→ (eqb (weightAt g (sourceAt k)) M) (ltb (weightAt g (getD (g .target) k 0)) M) t in
         let at : getD (arcsIn g) k (arc 0 0 0) ≡ arcAt g k = map-range-at (arcAt g) (g .edges) k (arc 0 0 0) h in
         let light : T (lighter v (greatest v) (arcAt g k)) =
-            rw (weigh (getD (g .target) k 0) (f .target k h), ← e) b in
+        rw (weigh (getD (g .target) k 0) (f .target k h), ← e) b in
         →and (eqb (getD v (sourceAt k) 0) (greatest v)) (any (lighter v (greatest v)) (out (arcsIn g) (sourceAt k)))
         (rw (weigh (sourceAt k) (f .source k h), ← e) a)
         (rw (any-filter (lighter v (greatest v)) (leaves (sourceAt k)) (arcsIn g))
-            (→any (λ x. leaves (sourceAt k) x && lighter v (greatest v) x) (arc 0 0 0) (arcsIn g) k
-            (rw (length-map-range (arcAt g) (g .edges)) h)
-            (subst (λ x. T (leaves (sourceAt k) x && lighter v (greatest v) x)) (sym at)
-            (→and (eqb (sourceAt k) (sourceAt k)) (lighter v (greatest v) (arcAt g k)) (eqb-refl (sourceAt k)) light))))
+        (→any (λ x. leaves (sourceAt k) x && lighter v (greatest v) x) (arc 0 0 0) (arcsIn g) k
+        (rw (length-map-range (arcAt g) (g .edges)) h)
+        (subst (λ x. T (leaves (sourceAt k) x && lighter v (greatest v) x)) (sym at)
+        (→and (eqb (sourceAt k) (sourceAt k)) (lighter v (greatest v) (arcAt g k)) (eqb-refl (sourceAt k)) light))))
 
     -- a splittable state has such an edge
     splits→ : (s : ℕ) → s < g .states → T (splittable v (arcsIn g) s)
@@ -104,15 +105,19 @@ module _ (g : Graph) (M : ℕ) where
     splits→ s h t =
         let (a, b) = and→ (eqb (getD v s 0) (greatest v)) (any (lighter v (greatest v)) (out (arcsIn g) s)) t in
         let u : T (any (λ x. leaves s x && lighter v (greatest v) x) (arcsIn g)) =
-            rw (← any-filter (lighter v (greatest v)) (leaves s) (arcsIn g)) b in
+        rw (← any-filter (lighter v (greatest v)) (leaves s) (arcsIn g)) b in
         let (k, l, w) = any→ (λ x. leaves s x && lighter v (greatest v) x) (arc 0 0 0) (arcsIn g) u in
         let hk : k < g .edges = rw (length-map-range (arcAt g) (g .edges)) at l in
         let at : getD (arcsIn g) k (arc 0 0 0) ≡ arcAt g k = map-range-at (arcAt g) (g .edges) k (arc 0 0 0) hk in
         let (c, d) = and→ (leaves s (arcAt g k)) (lighter v (greatest v) (arcAt g k))
-            (subst (λ x. T (leaves s x && lighter v (greatest v) x)) at w) in
-        let q : sourceAt k ≡ s = eqb→eq (sourceAt k) s c in
-        (k, hk, →and (eqb (weightAt g (sourceAt k)) M) (ltb (weightAt g (getD (g .target) k 0)) M)
-            (rw (q, ← weigh s h, e) a) (rw (← weigh (getD (g .target) k 0) (f .target k hk), e) d), q)
+        (subst (λ x. T (leaves s x && lighter v (greatest v) x)) at w) in
+        let q : sourceAt k ≡ s = eqb→eq (sourceAt k) s c in (
+          k,
+          hk,
+          →and (eqb (weightAt g (sourceAt k)) M) (ltb (weightAt g (getD (g .target) k 0)) M)
+              (rw (q, ← weigh s h, e) a) (rw (← weigh (getD (g .target) k 0) (f .target k hk), e) d),
+          q,
+        )
 
     pub choose-is : T (any (splittable v (arcsIn g)) (range (length v))) → (best : ℕ)
         → Lowest lightens sourceAt (g .edges) best → (best ≡ chosen v (arcsIn g)) × (best < g .states)
@@ -121,10 +126,12 @@ module _ (g : Graph) (M : ℕ) where
       where
         K : length v ≡ g .states
         K = length-map-range (weightAt g) (g .states)
+
         none : (s : ℕ) → s < best → best < g .states → (b : Bool) → splittable v (arcsIn g) s ≡ b → b ≡ false
         none s h l false q = refl
         none s h l true q =
             let (k, hk, u, r) = splits→ s (omega arith) (rw q tt) in absurd (omega (arith, w .low k hk u))
+
         go : (i : ℕ) × (i < length v) × T (splittable v (arcsIn g) i)
             → (best ≡ 128) ⊎ ((k : ℕ) × (k < g .edges) × T (lightens k) × (sourceAt k ≡ best))
             → (best ≡ chosen v (arcsIn g)) × (best < g .states)
@@ -133,6 +140,8 @@ module _ (g : Graph) (M : ℕ) where
             absurd (omega (arith, w .low k hk u, f .few, f .source k hk))
         go (i, h, u) (inr (k, hk, y, q)) =
             let l : best < g .states = subst (λ x. x < g .states) q (f .source k hk) in
-            let z : T (splittable v (arcsIn g) best) = subst (λ x. T (splittable v (arcsIn g) x)) q (→splits k hk y) in
-            (sym (first-least (splittable v (arcsIn g)) 0 (length v) best (λ s b. none s b l (splittable v (arcsIn g) s) refl)
-                (rw K l) (T→true (splittable v (arcsIn g) best) z)), l)
+            let z : T (splittable v (arcsIn g) best) = subst (λ x. T (splittable v (arcsIn g) x)) q (→splits k hk y) in (
+              sym (first-least (splittable v (arcsIn g)) 0 (length v) best (λ s b. none s b l (splittable v (arcsIn g) s) refl)
+                  (rw K l) (T→true (splittable v (arcsIn g) best) z)),
+              l,
+            )

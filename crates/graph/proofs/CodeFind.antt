@@ -52,15 +52,15 @@ module _ {A : Type 0} (p : A → Bool) (d : A) where
         let q : p (f i) ≡ false = subst (λ k. p (f k) ≡ false) (add-zero i) (h 0 (omega arith)) in
         let up : (k : ℕ) → suc i + k ≡ i + suc k = λ k. omega arith in
         let (a, b) = at-from (suc i) m j
-            (λ k b. subst (λ x. p (f x) ≡ false) (sym (up k)) (h (suc k) (omega arith))) (omega arith)
-            (subst (λ x. p (f x) ≡ true) (sym (up j)) e) in
+        (λ k b. subst (λ x. p (f x) ≡ false) (sym (up k)) (h (suc k) (omega arith))) (omega arith)
+        (subst (λ x. p (f x) ≡ true) (sym (up j)) e) in
         (first-no (f i) (map f (from (suc i) m)) q ∙ a ∙ ap f (up j), any-no (f i) (map f (from (suc i) m)) q ∙ b)
 
     pub first-at : (m j : ℕ) → ((k : ℕ) → k < j → p (f k) ≡ false) → j < m → p (f j) ≡ true
         → (first p d (map f (range m)) ≡ f j) × (any p (map f (range m)) ≡ true)
     first-at m j h l e =
         let (a, b) = at-from 0 m j (λ k b. subst (λ x. p (f x) ≡ false) (sym (zero-add k)) (h k b)) l
-            (subst (λ x. p (f x) ≡ true) (sym (zero-add j)) e) in
+        (subst (λ x. p (f x) ≡ true) (sym (zero-add j)) e) in
         (a ∙ ap f (zero-add j), b)
 
   -- ---- of the lists f 0, f 1, .. the first that has one that passes
@@ -76,7 +76,7 @@ module _ {A : Type 0} (p : A → Bool) (d : A) where
         let up : (k : ℕ) → suc i + k ≡ i + suc k = λ k. omega arith in
         first-back (f i) (concat (map f (from (suc i) m))) q
         ∙ part-from (suc i) m j (λ k b. subst (λ x. any p (f x) ≡ false) (sym (up k)) (h (suc k) (omega arith)))
-            (omega arith) (subst (λ x. any p (f x) ≡ true) (sym (up j)) e)
+        (omega arith) (subst (λ x. any p (f x) ≡ true) (sym (up j)) e)
         ∙ ap (λ k. first p d (f k)) (up j)
 
     pub first-part : (m j : ℕ) → ((k : ℕ) → k < j → any p (f k) ≡ false) → j < m → any p (f j) ≡ true

@@ -58,10 +58,10 @@ module _ (n : ℕ) (A : List ℕ) (m j i s : ℕ) (la : length A ≡ 16) (hm : m
   stretch-more =
       let a : suc (j - i) ≡ j + 1 - i = omega arith in
       let b : drop (j - i) W ≡ getD A (j - i) 0 ∷ drop (j + 1 - i) W =
-          drop-cons W (j - i) 0 (rw long (omega arith))
-          ∙ ap₂ (λ x k. x ∷ drop k W) (getD-take m A (j - i) 0 (omega arith)) a in
+      drop-cons W (j - i) 0 (rw long (omega arith))
+      ∙ ap₂ (λ x k. x ∷ drop k W) (getD-take m A (j - i) 0 (omega arith)) a in
       let d : stretchSum W j i ≡ getD A (j - i) 0 + sum (take i (drop (j + 1 - i) W)) =
-          ap (λ k. sum (take k (drop (j - i) W))) (add-one i) ∙ ap (λ l. sum (take (suc i) l)) b in
+      ap (λ k. sum (take k (drop (j - i) W))) (add-one i) ∙ ap (λ l. sum (take (suc i) l)) b in
       omega (arith, c .whole)
 
   pub stretch-small : s + getD A (j - i) 0 ≤ 128 * (i + 1)
@@ -70,8 +70,8 @@ module _ (n : ℕ) (A : List ℕ) (m j i s : ℕ) (la : length A ≡ 16) (hm : m
   pub summed-more : ((s + getD A (j - i) 0) % n ≡ 0 → ⊥) → Summed n W j (i + 1) (s + getD A (j - i) 0)
   summed-more f = record {
     whole =
-      let e : j + 1 - (i + 1) ≡ j - i = omega arith in
-      stretch-more ∙ ap (λ k. sum (take (i + 1) (drop k W))) (sym e);
+        let e : j + 1 - (i + 1) ≡ j - i = omega arith in
+        stretch-more ∙ ap (λ k. sum (take (i + 1) (drop k W))) (sym e);
     small = stretch-small;
     fails = below-more (λ k. stretchSum W j k % n ≡ 0 → ⊥) i (c .fails)
         (λ e. f (ap (λ x. x % n) stretch-more ∙ e));
@@ -88,11 +88,11 @@ module _ (n : ℕ) (A : List ℕ) (m j i s : ℕ) (la : length A ≡ 16) (hm : m
   run-found q = record {
     inside = rw long (omega arith);
     some = λ v es e h.
-      let (a, b) = first-at (divisible n v) [] (stretch es j) (j + 1) i
-          (λ k l. ne-eqb (total v (stretch es j k) % n) 0 (λ z. c .fails k l (ap (λ x. x % n) (sym (total-is v es e k)) ∙ z)))
-          (omega arith)
-          (eq-eqb (total v (stretch es j i) % n) 0 (ap (λ x. x % n) (total-is v es e i ∙ sym stretch-more) ∙ q)) in
-      (b, a, total-is v es e i ∙ sym stretch-more);
+        let (a, b) = first-at (divisible n v) [] (stretch es j) (j + 1) i
+        (λ k l. ne-eqb (total v (stretch es j k) % n) 0 (λ z. c .fails k l (ap (λ x. x % n) (sym (total-is v es e k)) ∙ z)))
+        (omega arith)
+        (eq-eqb (total v (stretch es j i) % n) 0 (ap (λ x. x % n) (total-is v es e i ∙ sym stretch-more) ∙ q)) in
+        (b, a, total-is v es e i ∙ sym stretch-more);
     none = λ v es e z. absurd (omega arith);
   }
 
@@ -102,12 +102,12 @@ run-none n W j i s h c = record {
   inside = omega arith;
   some = λ v es e l. absurd (omega arith);
   none = λ v es e z.
-    any-false (divisible n v) [] (runsTo es j)
-    (λ k l. let b : k < j + 1 = rw (length-map-range (stretch es j) (j + 1)) at l in
-        let at : getD (runsTo es j) k [] ≡ stretch es j k = map-range-at (stretch es j) (j + 1) k [] b in
-        rw at (ne-eqb (total v (stretch es j k) % n) 0
-        (λ q. c .fails k (omega arith) (ap (λ x. sum x % n) (sym (map-take (weight v) (k + 1) (drop (j - k) es)
-            ∙ ap (take (k + 1)) (map-drop (weight v) (j - k) es ∙ ap (drop (j - k)) e))) ∙ q))));
+      any-false (divisible n v) [] (runsTo es j)
+      (λ k l. let b : k < j + 1 = rw (length-map-range (stretch es j) (j + 1)) at l in
+      let at : getD (runsTo es j) k [] ≡ stretch es j k = map-range-at (stretch es j) (j + 1) k [] b in
+      rw at (ne-eqb (total v (stretch es j k) % n) 0
+      (λ q. c .fails k (omega arith) (ap (λ x. sum x % n) (sym (map-take (weight v) (k + 1) (drop (j - k) es)
+      ∙ ap (take (k + 1)) (map-drop (weight v) (j - k) es ∙ ap (drop (j - k)) e))) ∙ q))));
 }
 
 -- no run ends before place j
@@ -123,15 +123,15 @@ pub first-found : (n : ℕ) (W : List ℕ) (j : ℕ) (r : Run) → RunTo n W j r
 first-found n W j r t h l f = record {
   inside = t .inside;
   run = λ v es e.
-    let (a, b, d) = t .some v es e h in
-    let m : length es ≡ length W = sym (length-map es (weight v)) ∙ ap length e in
-    (first-part (divisible n v) [] (runsTo es) (length es) j (f v es e) (omega arith) a ∙ b, d);
+      let (a, b, d) = t .some v es e h in
+      let m : length es ≡ length W = sym (length-map es (weight v)) ∙ ap length e in
+      (first-part (divisible n v) [] (runsTo es) (length es) j (f v es e) (omega arith) a ∙ b, d);
 }
 
 pub first-nowhere : (n : ℕ) (W : List ℕ) → Without n W (length W) → FirstRun n W (record { from = 0; count = 0; total = 0 })
 first-nowhere n W f = record {
   inside = omega arith;
   run = λ v es e.
-    let m : length es ≡ length W = sym (length-map es (weight v)) ∙ ap length e in
-    (first-none (divisible n v) [] (runsTo es) (length es) (λ k l. f v es e k (omega arith)), refl);
+      let m : length es ≡ length W = sym (length-map es (weight v)) ∙ ap length e in
+      (first-none (divisible n v) [] (runsTo es) (length es) (λ k l. f v es e k (omega arith)), refl);
 }

@@ -106,6 +106,7 @@ module _ (t : Arrays) (e : ℕ) (head link : List ℕ) (k : Chained t e head lin
       at-word w h (no d) =
           getD-set-other head (wordOf t e) w (e + 1) 0 d ∙ k .heads w h
           ∙ sym (skip-word w (ap₂ (λ a b. a && b) q (ne-eqb (wordOf t e) w (λ r. d (sym r)))))
+
       at-edge : (f : ℕ) → f < e + 1 → isEdge t f ≡ true → Dec (f ≡ e)
           → getD (set link e (getD head (wordOf t e) 0)) f 0 ≡ lastBelow t (wordOf t f) f
       at-edge f h r (no d) =

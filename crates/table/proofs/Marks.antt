@@ -127,7 +127,8 @@ module _ (S : List Bool) (hit : ℕ → ℕ → Bool) (n : ℕ) where
   module _ (c : ℕ) (R : List Bool) (m : Left S hit n c R) where
     pub left-jump : (c' : ℕ) → ((x : ℕ) → some (hit x) c ≡ some (hit x) c') → Left S hit n c' R
     left-jump c' h = record {
-      long = m .long; holds = λ x. m .holds x ∙ ap (λ b. member R x || b) (h x)
+      long = m .long;
+      holds = λ x. m .holds x ∙ ap (λ b. member R x || b) (h x);
     }
 
     last : (x : ℕ) → 0 < c → some (hit x) c ≡ (some (hit x) (c - 1) || hit x (c - 1))

@@ -54,9 +54,9 @@ module _ (g : Rows) (Q : Pairs) where
   into-grid =
       map-map (λ es. map (meet Q es) (reversed g)) (entering g) (range (length g))
       ∙ map-same (λ s. map (meet Q (entering g s)) (reversed g))
-        (λ s. map (has (into (reversed g) Q) s) (range (length g))) (length g)
-        (λ s hs. map-map (meet Q (entering g s)) (entering g) (range (length g))
-            ∙ map-same (λ u. meet Q (entering g s) (entering g u)) (has (into (reversed g) Q) s) (length g)
-              (λ u hu. sym (has-into (reversed g) Q s u
-                  ∙ ap₂ (meet Q) (map-range-at (entering g) (length g) s [] hs)
-                    (map-range-at (entering g) (length g) u [] hu))))
+      (λ s. map (has (into (reversed g) Q) s) (range (length g))) (length g)
+      (λ s hs. map-map (meet Q (entering g s)) (entering g) (range (length g))
+      ∙ map-same (λ u. meet Q (entering g s) (entering g u)) (has (into (reversed g) Q) s) (length g)
+      (λ u hu. sym (has-into (reversed g) Q s u
+      ∙ ap₂ (meet Q) (map-range-at (entering g) (length g) s [] hs)
+      (map-range-at (entering g) (length g) u [] hu))))

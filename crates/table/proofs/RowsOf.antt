@@ -40,7 +40,7 @@ module _ (t : Arrays) where
       go (yes l) = l
       go (no l) =
           let e : edges (rowsOf t) s ≡ [] =
-              List·getD-eq-default (rowsOf t) [] {n = s} (rw length-rows (omega arith)) in
+          List·getD-eq-default (rowsOf t) [] {n = s} (rw length-rows (omega arith)) in
           let q : d < 0 = subst (λ r. d < length r) e h in
           absurd (omega arith)
 

@@ -63,7 +63,9 @@ module _ (t : Rows) (n : ℕ) (H : Pairs) (most : ℕ) (cur : List Bool) where
 
   pub stepped-stop : (k : ℕ) → Stepped t n H most cur k → empty t (pairsIn n cur) ≡ true → Emptied t H most k
   stepped-stop k h e = record {
-    within = omega (arith, h .within); sooner = h .sooner; there = λ l. sym (ap (empty t) (h .set)) ∙ e
+    within = omega (arith, h .within);
+    sooner = h .sooner;
+    there = λ l. sym (ap (empty t) (h .set)) ∙ e;
   }
 
   pub stepped-end : (k : ℕ) → Stepped t n H most cur k → most ≤ k → empty t (pairsIn n cur) ≡ false

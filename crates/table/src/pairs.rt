@@ -9,7 +9,6 @@ ghost use Rattle.table.specs.Search.{hits};
 ghost use Rattle.table.specs.Marks.{some, Marked};
 ghost use Rattle.table.specs.Edges.{arrays, rowsOf, places, isEdge, Linked};
 ghost use Rattle.table.specs.PairSets.{pairsIn, counts, joins, leftOut, joinsAny};
-
 use crate::chains::wide;
 
 // The pair of x and the state of edge j is in the set, and j does not carry the datum k.
@@ -87,7 +86,18 @@ fn joined(
     let mut i = 0;
     while i < states * 16 {
         if i % 16 < n {
-            mark_edge(states, n, word, next, head, link, pairs, left_out(apart, i), i, &mut out);
+            mark_edge(
+                states,
+                n,
+                word,
+                next,
+                head,
+                link,
+                pairs,
+                left_out(apart, i),
+                i,
+                &mut out,
+            );
         }
         i += 1;
     }

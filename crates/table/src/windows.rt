@@ -11,17 +11,16 @@ ghost use Rattle.table.specs.Search.{window, hits, pasts};
 ghost use Rattle.table.specs.Edges.{arrays, rowsOf, Linked};
 ghost use Rattle.table.specs.PairSets.{pairsIn};
 ghost use Rattle.table.specs.Steps.{size, Reached, Emptied, Leading, Room, foundSize};
-
 use crate::Table;
 use crate::chains::chain;
 use crate::chains::ways;
-use crate::pairs::clashes;
-use crate::pairs::forward;
 use crate::pair_sets::all_pairs;
 use crate::pair_sets::is_empty;
 use crate::pair_sets::no_pairs;
 use crate::pair_sets::start_pair;
 use crate::pair_sets::union_of;
+use crate::pairs::clashes;
+use crate::pairs::forward;
 
 // The pairs that a number of common words lead to from any two states and from the start, and those that fewer lead to
 // from the start.

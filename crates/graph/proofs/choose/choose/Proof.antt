@@ -49,9 +49,12 @@ loop-less c = search needs
 loop-again : tie.Need-loop-again Inv-loop μ-loop
 loop-again c =
     let l = c .before .before .before .before .before .before .loop in
-    let p = c .before .before .before .before .before .before .before .args in
-    (omega arith, refl, subst (Lowest (lightens (p .t1) (p .m)) (sourceAt (p .t1) (p .m)) (l .i + 1)) (sym (c .lower-source .ensures))
-        (lowest-more (lightens (p .t1) (p .m)) (sourceAt (p .t1) (p .m)) (l .i) (l .best) (l .inv .2)))
+    let p = c .before .before .before .before .before .before .before .args in (
+      omega arith,
+      refl,
+      subst (Lowest (lightens (p .t1) (p .m)) (sourceAt (p .t1) (p .m)) (l .i + 1)) (sym (c .lower-source .ensures))
+          (lowest-more (lightens (p .t1) (p .m)) (sourceAt (p .t1) (p .m)) (l .i) (l .best) (l .inv .2)),
+    )
 
 returns : tie.Need-returns Inv-loop μ-loop
 returns c =
@@ -59,7 +62,7 @@ returns c =
     let p = c .before .before .args in
     let e : l .i ≡ p .t1 .edges = omega arith in
     choose-is (p .t1) (p .m) (c .before .before .pre .0) (c .before .before .pre .1) (c .before .before .pre .2) (l .best)
-        (subst (λ k. Lowest (lightens (p .t1) (p .m)) (sourceAt (p .t1) (p .m)) k (l .best)) e (l .inv .2))
+    (subst (λ k. Lowest (lightens (p .t1) (p .m)) (sourceAt (p .t1) (p .m)) k (l .best)) e (l .inv .2))
 
 pub choose-spec : {M : Type 1} → statement M
 choose-spec =

@@ -40,7 +40,7 @@ loop-again c =
     let g = c .before .before .before .before .args .t1 in
     let e = greatest-more (weightAt g) (l .i) in
     ⊎-elim (λ w. (omega arith, refl, omega arith, omega (arith, w .2, w .0 .taken)))
-        (λ w. (omega arith, refl, omega arith, omega (arith, w .1, w .0 .left)))
+    (λ w. (omega arith, refl, omega arith, omega (arith, w .1, w .0 .left)))
     (c .if1 .came)
 
 returns : tie.Need-returns Inv-loop μ-loop

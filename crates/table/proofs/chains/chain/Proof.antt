@@ -68,11 +68,21 @@ loop-again c =
     let r : l .e < 2048 = omega arith in
     let k = l .inv .3 in
     ⊎-elim
-    (λ u. (l .inv .0, l .inv .1, omega arith, rw (u .3, u .4)
-        (chain-put t (l .e) (l .head) (l .link) k r (u .2 .result) (lt-ltb _ _ (u .0 .taken)) (u .2 .ensures .0)
-        (u .2 .ensures .1))))
-    (λ u. (l .inv .0, l .inv .1, omega arith, rw (u .1, u .2)
-        (chain-skip t (l .e) (l .head) (l .link) k r (le-ltb _ _ (u .0 .left)))))
+    (λ u. (
+      l .inv .0,
+      l .inv .1,
+      omega arith,
+      rw (u .3, u .4)
+          (chain-put t (l .e) (l .head) (l .link) k r (u .2 .result) (lt-ltb _ _ (u .0 .taken)) (u .2 .ensures .0)
+          (u .2 .ensures .1)),
+    ))
+    (λ u. (
+      l .inv .0,
+      l .inv .1,
+      omega arith,
+      rw (u .1, u .2)
+          (chain-skip t (l .e) (l .head) (l .link) k r (le-ltb _ _ (u .0 .left))),
+    ))
     (c .if1 .came)
 
 returns : tie.Need-returns Inv-loop μ-loop

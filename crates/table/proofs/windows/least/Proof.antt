@@ -34,11 +34,15 @@ loop-holds : tie.Need-loop-holds Inv-loop μ-loop
 loop-holds c =
     let s = c .before in
     let t = table s in
-    let e : length (rowsOf t) ≡ s .args .states = length-rows t in
-    (omega arith, omega arith, omega arith, inl refl,
-        (λ l. subst (λ k. Reached (rowsOf t) k 0 (c .begin .result)) e
-            (c .begin .ensures (rowsOf t) (rw e (s .pre .fits .few)))),
-        lead-start (rowsOf t))
+    let e : length (rowsOf t) ≡ s .args .states = length-rows t in (
+      omega arith,
+      omega arith,
+      omega arith,
+      inl refl,
+      (λ l. subst (λ k. Reached (rowsOf t) k 0 (c .begin .result)) e
+          (c .begin .ensures (rowsOf t) (rw e (s .pre .fits .few)))),
+      lead-start (rowsOf t),
+    )
 
 better-requires : tie.Need-better-requires Inv-loop μ-loop
 better-requires c κs =
@@ -63,10 +67,14 @@ loop-again : tie.Need-loop-again Inv-loop μ-loop
 loop-again c =
     let b = c .before .before in
     let l = b .before .before .loop in
-    let r = c .before .stop-of .ensures in
-    (omega arith, r .0, r .1, r .2,
-        (λ h. c .more-if .ensures (l .m) (lt-ltb _ _ h) (l .inv .4 (b .before .loop-test .taken))),
-        b .better .ensures)
+    let r = c .before .stop-of .ensures in (
+      omega arith,
+      r .0,
+      r .1,
+      r .2,
+      (λ h. c .more-if .ensures (l .m) (lt-ltb _ _ h) (l .inv .4 (b .before .loop-test .taken))),
+      b .better .ensures,
+    )
 
 returns : tie.Need-returns Inv-loop μ-loop
 returns c =
