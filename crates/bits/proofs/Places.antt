@@ -1,5 +1,6 @@
 -- A field at any bit place of bytes, by shift and mask: in one byte and across a byte border; and fields joined and
 -- cut.
+-- In order: bits-split, bits-join, bits-part, value-part, field-one, field-two.
 -- Assumes nothing.
 use mathlib.Core.Path.{_≡_, refl, sym, ap, ap₂, subst, _∙_}
 use mathlib.Core.List.{List, [], _∷_, _++_, append-assoc}
@@ -12,7 +13,7 @@ use lib.Pow.{shr-shr, high}
 use Rattle.bits.specs.Fields.{bits, value, bitsOf}
 use Rattle.bits.proofs.Fields.{length-bits, value-bits, bits-low}
 
--- THE LAW: the bits of a number are those of its upper part and of its lower part
+-- the bits of a number are those of its upper part and of its lower part
 pub bits-split : (j k x : ℕ) → bits (j + k) x ≡ bits j (x / 2 ^ k) ++ bits k x
 bits-split zero k x = rw (zero-add k)
 bits-split (suc j) k x =
@@ -59,7 +60,7 @@ front : (i r : ℕ) (xs : List ℕ) → i < length xs
 front i r xs h = sym (drop-drop r (i * 8) (bitsOf xs))
     ∙ ap (drop r) (drop-bytes i xs ∙ ap bitsOf (drop-cons xs i 0 h))
 
--- THEOREM: a field inside byte i, from its bit r on
+-- a field inside byte i, from its bit r on
 pub field-one : (xs : List ℕ) (i r n : ℕ) → i < length xs → r + n ≤ 8
     → value (take n (drop (i * 8 + r) (bitsOf xs))) ≡ getD xs i 0 / 2 ^ (8 - r - n) % 2 ^ n
 field-one xs i r n h l =
@@ -69,7 +70,7 @@ field-one xs i r n h l =
     ∙ subst (λ w. value (take n (drop r (bits w (getD xs i 0) ++ bitsOf (drop (suc i) xs)))) ≡ getD xs i 0 / 2 ^ k % 2
     ^ n) e (part-front r n k (getD xs i 0) (bitsOf (drop (suc i) xs)))
 
--- THEOREM: a field that begins in byte i and ends in byte i or the next
+-- a field that begins in byte i and ends in byte i or the next
 pub field-two : (xs : List ℕ) (i r n : ℕ) → suc i < length xs → getD xs (suc i) 0 < 256 → r + n ≤ 16
     → value (take n (drop (i * 8 + r) (bitsOf xs))) ≡ (getD xs i 0 * 256 + getD xs (suc i) 0) / 2 ^
     (16 - r - n) % 2 ^ n

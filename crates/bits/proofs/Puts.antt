@@ -9,8 +9,15 @@ use native.Mathlib.Nat.{add-zero, add-assoc, zero-mul, suc-mul, mod-lt, mul-le-m
 use native.Mathlib.Omega.{arith}
 use lib.ListN.{length, take, drop, getD, set, replicate, length-append, length-take, length-set, take-append-drop}
 use lib.Seq.{
-  take-at, drop-append-le, take-append-le, take-append-add, drop-append-add, length-take-le, split-at, set-split,
-  drop-drop
+  take-at,
+  drop-append-le,
+  take-append-le,
+  take-append-add,
+  drop-append-add,
+  length-take-le,
+  split-at,
+  set-split,
+  drop-drop,
 }
 use lib.Pow.{pow-pos, shr-lt}
 use Rattle.bits.specs.Fields.{bits, write, bitsOf}

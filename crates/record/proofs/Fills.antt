@@ -56,7 +56,7 @@ module _ (l n k o d w e : ℕ) (r : Reach l n k o d w) (h : e < k) where
   column-more bs a v q c = record {
     whole = length-set a (spot n e) v ∙ c .whole;
     filled = fill-more (spot n) (λ i. field bs (o + i * d) w) a e v (λ i g. spot-once n e i (r .some) (r .few))
-        (subst (λ m. spot n e < m) (sym (c .whole)) reach-spot) q (c .filled)
+        (subst (λ m. spot n e < m) (sym (c .whole)) reach-spot) q (c .filled);
   }
 
 map-from : {A : Type 0} (f g : ℕ → A) (i n : ℕ) → ((k : ℕ) → k < i + n → f k ≡ g k) → map f (from i n) ≡ map g (from i n)

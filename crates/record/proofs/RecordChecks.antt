@@ -71,12 +71,12 @@ module _ (bs us : List ℕ) (K : ℕ) where
       let w : o + 1 * 5 ≡ o + 5 = omega arith in
       let t : o + 5 + 5 ≡ o + 10 = omega arith in
       let d : drop 4 (drop 1 (drop 4 (drop 1 (drop o bs)))) ≡ drop (o + 10) bs =
-              ap (λ l. drop 4 (drop 1 l)) (five o) ∙ five (o + 5) ∙ ap (λ m. drop m bs) t in
+      ap (λ l. drop 4 (drop 1 l)) (five o) ∙ five (o + 5) ∙ ap (λ m. drop m bs) t in
       ap₂ (λ u v. (goodField K (value (take 1 (drop o bs))) (value (take 4 (drop 1 (drop o bs))))
-          && goodField K (value (take 1 u)) (value (take 4 (drop 1 u))))
-          && goodFields K n (read (repeat n (1 ∷ 4 ∷ 1 ∷ 4 ∷ []) ++ us) v)) (five o) d
+      && goodField K (value (take 1 u)) (value (take 4 (drop 1 u))))
+      && goodFields K n (read (repeat n (1 ∷ 4 ∷ 1 ∷ 4 ∷ []) ++ us) v)) (five o) d
       ∙ ap₂ _&&_ (ap₂ _&&_ (next-good o 0 o z) (next-good o 1 (o + 5) w ∙ and-true (nextGood bs K o 1)))
-          (states-good n (o + 10) ∙ sym (all-shift (nextGood bs K o) (nextGood bs K (o + 10)) 2 0 (2 * n) (shifted o)))
+      (states-good n (o + 10) ∙ sym (all-shift (nextGood bs K o) (nextGood bs K (o + 10)) 2 0 (2 * n) (shifted o)))
       ∙ sym (ap (λ m. all (nextGood bs K o) (range m)) e ∙ all-split (nextGood bs K o) 0 2 (2 * n))
     where
       shifted : (o j : ℕ) → nextGood bs K o (2 + j) ≡ nextGood bs K (o + 10) j
@@ -105,10 +105,10 @@ module _ (bs : List ℕ) (q S : ℕ) where
   edges-good (suc n) o us =
       let z : o + q ≡ o + q + 0 * (q + 7) = omega arith in
       let d : drop 7 (drop q (drop o bs)) ≡ drop (o + 1 * (q + 7)) bs =
-              ap (drop 7) (past bs q o (o + q) refl) ∙ past bs 7 (o + q) (o + 1 * (q + 7)) (omega arith) in
+      ap (drop 7) (past bs q o (o + q) refl) ∙ past bs 7 (o + q) (o + 1 * (q + 7)) (omega arith) in
       ap₂ _&&_ (ap (λ l. ltb (value (take 7 l)) S) (past bs q o (o + q + 0 * (q + 7)) z))
-          (ap (λ l. all (goodTarget S) (edgesOf n (read (repeat n (q ∷ 7 ∷ []) ++ us) l))) d ∙ edges-good n (o + 1 * (q + 7)) us
-          ∙ sym (all-shift (targetGood o) (targetGood (o + 1 * (q + 7))) 1 0 n (moved o 1)))
+      (ap (λ l. all (goodTarget S) (edgesOf n (read (repeat n (q ∷ 7 ∷ []) ++ us) l))) d ∙ edges-good n (o + 1 * (q + 7)) us
+      ∙ sym (all-shift (targetGood o) (targetGood (o + 1 * (q + 7))) 1 0 n (moved o 1)))
 
   rows-good : (s n o : ℕ) (us : List ℕ)
       → all (all (goodTarget S)) (rowsOf s n (read (repeat s (repeat n (q ∷ 7 ∷ [])) ++ us) (drop o bs)))
@@ -121,12 +121,12 @@ module _ (bs : List ℕ) (q S : ℕ) where
       let z : 0 + n ≡ n + 0 = omega arith in
       ap (λ ws. all (all (goodTarget S)) (rowsOf (suc s) n (read ws (drop o bs)))) (append-assoc A B us)
       ∙ ap₂ _&&_ (edges-good n o (B ++ us))
-          (ap (λ vs. all (all (goodTarget S)) (rowsOf s n vs)) (behind n (n * 2) (q ∷ 7 ∷ []) (B ++ us) (drop o bs) refl
-              ∙ ap (read (B ++ us)) (past bs (n * (q + 7)) o (o + n * (q + 7)) refl))
-          ∙ rows-good s n (o + n * (q + 7)) us
-          ∙ sym (all-shift (targetGood o) (targetGood (o + n * (q + 7))) n 0 (s * n) (moved o n)))
+      (ap (λ vs. all (all (goodTarget S)) (rowsOf s n vs)) (behind n (n * 2) (q ∷ 7 ∷ []) (B ++ us) (drop o bs) refl
+      ∙ ap (read (B ++ us)) (past bs (n * (q + 7)) o (o + n * (q + 7)) refl))
+      ∙ rows-good s n (o + n * (q + 7)) us
+      ∙ sym (all-shift (targetGood o) (targetGood (o + n * (q + 7))) n 0 (s * n) (moved o n)))
       ∙ sym (ap (λ m. all (targetGood o) (range m)) e ∙ all-split (targetGood o) 0 n (s * n)
-          ∙ ap (λ m. all (targetGood o) (range n) && all (targetGood o) (from m (s * n))) z)
+      ∙ ap (λ m. all (targetGood o) (range n) && all (targetGood o) (from m (s * n))) z)
 
 -- behind the constraint's fields
 behind-states : (h : Head) (bs : List ℕ) → drop (h .count * 4) (drop 7 (read (widths h) bs))
@@ -151,7 +151,7 @@ fill-checked h bs =
     let e : edgesPlace h + h .states * (n * (h .q + 7)) ≡ bitCount h = omega arith in
     ap (λ vs. getD (drop (h .states * (n * 2)) vs) 0 0) (behind-states h bs)
     ∙ ap (λ vs. getD vs 0 0) (behind (h .states) (h .states * (n * 2)) (repeat n (h .q ∷ 7 ∷ [])) (fill h ∷ [])
-        (drop (edgesPlace h) bs) (ap (λ m. h .states * m) (length-repeat n (h .q ∷ 7 ∷ []))))
+    (drop (edgesPlace h) bs) (ap (λ m. h .states * m) (length-repeat n (h .q ∷ 7 ∷ []))))
     ∙ ap (λ m. value (take (fill h) (drop (h .states * m) (drop (edgesPlace h) bs)))) (sum-repeat n (h .q ∷ 7 ∷ []))
     ∙ ap (λ l. value (take (fill h) l)) (past bs (h .states * (n * (h .q + 7))) (edgesPlace h) (bitCount h) e)
 

@@ -23,8 +23,13 @@ use Rattle.record.specs.Parse.{goodHead, goodRest}
 -- the numbers in front
 abbrev pub headIn : Front → Head
 headIn f = record {
-  p = f .p; q = f .q; states = f .states; memory = f .memory; lookahead = f .lookahead; count = f .count;
-  start = f .start
+  p = f .p;
+  q = f .q;
+  states = f .states;
+  memory = f .memory;
+  lookahead = f .lookahead;
+  count = f .count;
+  start = f .start;
 }
 
 -- the code that the bits bs hold under the header h

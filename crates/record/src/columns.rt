@@ -49,7 +49,14 @@ pub fn states_of(bytes: &[u8], count: usize) -> Constraint
 
 // For each of `edges` edges, n a state, the field of `width` bits: the first at the bit place `first`, each of the others
 // `step` bits behind the one before.
-pub fn column(bytes: &[u8], n: usize, edges: usize, first: usize, step: usize, width: usize) -> [u8; 2048]
+pub fn column(
+    bytes: &[u8],
+    n: usize,
+    edges: usize,
+    first: usize,
+    step: usize,
+    width: usize,
+) -> [u8; 2048]
     requires { ⌜ Reach (8 * length (now bytes)) n edges first step width ⌝ }
     ensures answer { λ r. ⌜ Column (bitsOf (now (bytes .entry))) n edges first step width r ⌝ }
 {

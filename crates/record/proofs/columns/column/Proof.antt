@@ -27,17 +27,17 @@ loop-holds : tie.Need-loop-holds Inv-loop μ-loop
 loop-holds c = (omega arith, record { whole = length-replicate {A = ℕ} 2048 0; filled = λ k h. absurd (omega arith) })
 
 mul-get : tie.Need-mul-get Inv-loop μ-loop
-mul-get c = 
+mul-get c =
     let a = c .before .before .before .args in
     record { fits = omega (arith, reach-step (8 * length (now (a .bytes))) (a .n) (a .edges) (a .first) (a .step) (a .width) (c .before .loop .e) (c .before .before .before .pre) (omega arith)) }
 
 add-get : tie.Need-add-get Inv-loop μ-loop
-add-get c = 
+add-get c =
     let a = c .before .before .before .args in
     record { fits = omega (arith, c .before .before .before .pre .first, reach-step (8 * length (now (a .bytes))) (a .n) (a .edges) (a .first) (a .step) (a .width) (c .before .loop .e) (c .before .before .before .pre) (omega arith)) }
 
 get-requires : tie.Need-get-requires Inv-loop μ-loop
-get-requires c κs = 
+get-requires c κs =
     let a = c .before .before .before .args in
     (c .before .before .before .pre .width, reach-end (8 * length (now (a .bytes))) (a .n) (a .edges) (a .first) (a .step) (a .width) (c .before .loop .e) (c .before .before .before .pre) (omega arith))
 
@@ -45,7 +45,7 @@ div-a : tie.Need-div-a Inv-loop μ-loop
 div-a c = c .before .before .before .before .pre .some
 
 mul-a : tie.Need-mul-a Inv-loop μ-loop
-mul-a c = 
+mul-a c =
     let a = c .before .before .before .before .args in
     record { fits = omega (arith, reach-spot (8 * length (now (a .bytes))) (a .n) (a .edges) (a .first) (a .step) (a .width) (c .before .before .loop .e) (c .before .before .before .before .pre) (omega arith)) }
 
@@ -53,12 +53,12 @@ rem-a : tie.Need-rem-a Inv-loop μ-loop
 rem-a c = c .before .before .before .before .pre .some
 
 add-a : tie.Need-add-a Inv-loop μ-loop
-add-a c = 
+add-a c =
     let a = c .before .before .before .before .args in
     record { fits = omega (arith, reach-spot (8 * length (now (a .bytes))) (a .n) (a .edges) (a .first) (a .step) (a .width) (c .before .before .loop .e) (c .before .before .before .before .pre) (omega arith)) }
 
 array-write-a : tie.Need-array-write-a Inv-loop μ-loop
-array-write-a c = 
+array-write-a c =
     let a = c .before .before .before .before .args in
     reach-spot (8 * length (now (a .bytes))) (a .n) (a .edges) (a .first) (a .step) (a .width) (c .before .before .loop .e) (c .before .before .before .before .pre) (omega arith)
 
@@ -69,13 +69,15 @@ loop-less : tie.Need-loop-less Inv-loop μ-loop
 loop-less c = omega arith
 
 loop-again : tie.Need-loop-again Inv-loop μ-loop
-loop-again c = 
-    let a = c .before .before .before .before .args in
-    (omega arith, column-more (8 * length (now (a .bytes))) (a .n) (a .edges) (a .first) (a .step) (a .width) (c .before .before .loop .e) (c .before .before .before .before .pre) (omega arith)
-        (bitsOf (now (a .bytes))) (c .before .before .loop .a) (c .get .result) (c .get .ensures) (c .before .before .loop .inv .1))
+loop-again c =
+    let a = c .before .before .before .before .args in (
+      omega arith,
+      column-more (8 * length (now (a .bytes))) (a .n) (a .edges) (a .first) (a .step) (a .width) (c .before .before .loop .e) (c .before .before .before .before .pre) (omega arith)
+          (bitsOf (now (a .bytes))) (c .before .before .loop .a) (c .get .result) (c .get .ensures) (c .before .before .loop .inv .1),
+    )
 
 returns : tie.Need-returns Inv-loop μ-loop
-returns c = 
+returns c =
     let a = c .before .before .before .args in
     let e : c .before .loop .e ≡ a .edges = omega arith in
     subst (λ k. Column (bitsOf (now (a .bytes))) (a .n) k (a .first) (a .step) (a .width) (c .before .loop .a)) e (c .before .loop .inv .1)

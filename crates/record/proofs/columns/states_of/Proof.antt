@@ -15,7 +15,7 @@ use Rattle.record.proofs.columns.states_of.Statement.{statement}
 use Rattle.record.proofs.columns.states_of.Tie as tie
 
 abbrev Inv-loop : tie.InvT-loop
-Inv-loop bytes count zero₀ one₀ s₀ zero one s = 
+Inv-loop bytes count zero₀ one₀ s₀ zero one s =
     (s ≤ count) × (length zero ≡ 16) × (length one ≡ 16)
     × ((k : ℕ) → k < s → getD zero k 0 ≡ nextIn (bitsOf bytes) (30 + k * 10))
     × ((k : ℕ) → k < s → getD one k 0 ≡ nextIn (bitsOf bytes) (35 + k * 10))
@@ -57,16 +57,19 @@ loop-less : tie.Need-loop-less Inv-loop μ-loop
 loop-less c = omega arith
 
 loop-again : tie.Need-loop-again Inv-loop μ-loop
-loop-again c = 
+loop-again c =
     let b = c .before .before .before in
     let bs = bitsOf (now (b .before .before .args .bytes)) in
-    let s = b .loop .s in
-    (omega arith, simp length-set (b .loop .inv .1), simp length-set (b .loop .inv .2),
-        fill-more (λ k. k) (λ k. nextIn bs (30 + k * 10)) (b .loop .zero) s (c .before .next-of .result) (λ k h q. q) (omega arith) (c .before .next-of .ensures) (b .loop .inv .3),
-        fill-more (λ k. k) (λ k. nextIn bs (35 + k * 10)) (b .loop .one) s (c .next-of2 .result) (λ k h q. q) (omega arith) (c .next-of2 .ensures) (b .loop .inv .4))
+    let s = b .loop .s in (
+      omega arith,
+      simp length-set (b .loop .inv .1),
+      simp length-set (b .loop .inv .2),
+      fill-more (λ k. k) (λ k. nextIn bs (30 + k * 10)) (b .loop .zero) s (c .before .next-of .result) (λ k h q. q) (omega arith) (c .before .next-of .ensures) (b .loop .inv .3),
+      fill-more (λ k. k) (λ k. nextIn bs (35 + k * 10)) (b .loop .one) s (c .next-of2 .result) (λ k h q. q) (omega arith) (c .next-of2 .ensures) (b .loop .inv .4),
+    )
 
 returns : tie.Need-returns Inv-loop μ-loop
-returns c = 
+returns c =
     let b = c .before in
     let a = b .before .before .args in
     (map-range _ _ (a .count) (λ k h. ap₂ (λ x y. record { zero = x; one = y }) (b .loop .inv .3 k (omega arith)) (b .loop .inv .4 k (omega arith))), refl)

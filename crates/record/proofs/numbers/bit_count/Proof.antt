@@ -22,24 +22,28 @@ add-result-2 : tie.Need-add-result-2
 add-result-2 c = search needs
 
 mul-result-2 : tie.Need-mul-result-2
-mul-result-2 c = 
+mul-result-2 c =
     let f = headIn (c .before .before .before .args .f) in
     record { fits = rw (c .before .before .power .ensures) (omega (arith, row-le f (c .before .before .before .pre))) }
 
 mul-result-3 : tie.Need-mul-result-3
-mul-result-3 c = 
+mul-result-3 c =
     let f = headIn (c .before .before .before .before .args .f) in
-    record { fits = rw (c .before .before .before .power .ensures)
-        (omega (arith, edges-le f (c .before .before .before .before .pre))) }
+    record {
+      fits = rw (c .before .before .before .power .ensures)
+          (omega (arith, edges-le f (c .before .before .before .before .pre)));
+    }
 
 add-result-3 : tie.Need-add-result-3
-add-result-3 c = 
+add-result-3 c =
     let f = headIn (c .before .before .before .before .args .f) in
-    record { fits = rw (c .before .before .before .power .ensures)
-        (omega (arith, edges-le f (c .before .before .before .before .pre), c .before .before .before .before .pre .k₂)) }
+    record {
+      fits = rw (c .before .before .before .power .ensures)
+          (omega (arith, edges-le f (c .before .before .before .before .pre), c .before .before .before .before .pre .k₂));
+    }
 
 returns : tie.Need-returns
-returns c = 
+returns c =
     let f = c .before .before .before .before .args .f in
     ap (λ n. 30 + 10 * f .count + f .states * (n * (f .q + 7))) (c .before .before .before .power .ensures)
 

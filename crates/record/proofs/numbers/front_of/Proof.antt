@@ -56,7 +56,7 @@ cast-start : tie.Need-cast-start
 cast-start c = search needs
 
 returns : tie.Need-returns
-returns c = 
+returns c =
     let b = c .before .before .before .before .before .before in
     front-is (bitsOf (now (b .before .before .args .bytes))) _ _ _ _ _ _ _ (b .get .ensures)
     (c .before .before .before .before .before .get2 .ensures) (c .before .before .before .before .get3 .ensures)

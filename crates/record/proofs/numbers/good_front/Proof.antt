@@ -16,16 +16,24 @@ between-requires-2 : tie.Need-between-requires-2
 between-requires-2 c κs = search needs
 
 returns-2 : tie.Need-returns-2
-returns-2 c = 
+returns-2 c =
     let b = c .before .before in
-    rw (← b .before .between .ensures, not-false (b .before .between .result) (b .if1 .left), ← c .before .between2 .ensures,
-        not-true (c .before .between2 .result) (c .if2 .taken))
+    rw (
+      ← b .before .between .ensures,
+      not-false (b .before .between .result) (b .if1 .left),
+      ← c .before .between2 .ensures,
+      not-true (c .before .between2 .result) (c .if2 .taken),
+    )
 
 returns-3 : tie.Need-returns-3
-returns-3 c = 
+returns-3 c =
     let b = c .before .before .before in
-    rw (← b .before .between .ensures, not-false (b .before .between .result) (b .if1 .left), ← c .before .before .between2 .ensures,
-        not-false (c .before .before .between2 .result) (c .before .if2 .left))
+    rw (
+      ← b .before .between .ensures,
+      not-false (b .before .between .result) (b .if1 .left),
+      ← c .before .before .between2 .ensures,
+      not-false (c .before .before .between2 .result) (c .before .if2 .left),
+    )
 
 pub good-front-spec : {M : Type 1} → statement M
 good-front-spec =

@@ -18,7 +18,7 @@ bit-count-requires : tie.Need-bit-count-requires
 bit-count-requires c κs = search needs
 
 mul-get : tie.Need-mul-get
-mul-get c = 
+mul-get c =
     let a = c .before .before in
     record { fits = omega (arith, bitCount-le (headIn (a .args .f)) (a .pre .0), a .pre .1) }
 
@@ -29,11 +29,11 @@ get-requires : tie.Need-get-requires
 get-requires c κs = search needs
 
 returns : tie.Need-returns
-returns c = 
+returns c =
     let a = c .before .before .before in
     let h = headIn (a .args .f) in
     ap (λ x. eqb x 0) (c .get .ensures ∙ ap₂ (λ o l. field (bitsOf (now (a .args .bytes))) o (8 * l - o))
-        (c .before .bit-count .ensures) (a .pre .1))
+    (c .before .bit-count .ensures) (a .pre .1))
 
 pub good-fill-spec : {M : Type 1} → statement M
 good-fill-spec = tie.close (tie.spec bit-count-requires mul-get sub-get get-requires returns)

@@ -36,7 +36,7 @@ good-next-requires : tie.Need-good-next-requires Inv-loop μ-loop
 good-next-requires c κs = (omega arith, omega arith)
 
 returns : tie.Need-returns Inv-loop μ-loop
-returns c = 
+returns c =
     let a = c .before .before .before .before .before .args in
     all-not (goodAt (bitsOf (now (a .bytes))) (a .count)) (2 * a .count) (c .before .before .before .loop .i) (omega arith)
     (sym (c .before .good-next .ensures) ∙ not-true (c .before .good-next .result) (c .if1 .taken))
@@ -48,12 +48,14 @@ loop-less : tie.Need-loop-less Inv-loop μ-loop
 loop-less c = omega arith
 
 loop-again : tie.Need-loop-again Inv-loop μ-loop
-loop-again c = 
-    (omega arith, below-more _ _ (c .before .before .before .loop .inv .1)
-        (sym (c .before .good-next .ensures) ∙ not-false (c .before .good-next .result) (c .if1 .left)))
+loop-again c = (
+  omega arith,
+  below-more _ _ (c .before .before .before .loop .inv .1)
+      (sym (c .before .good-next .ensures) ∙ not-false (c .before .good-next .result) (c .if1 .left)),
+)
 
 returns-2 : tie.Need-returns-2 Inv-loop μ-loop
-returns-2 c = 
+returns-2 c =
     let a = c .before .before .before .args in
     all-yes (goodAt (bitsOf (now (a .bytes))) (a .count)) (2 * a .count)
     (λ k h. c .before .loop .inv .1 k (omega arith))

@@ -42,27 +42,29 @@ loop-holds : tie.Need-loop-holds Inv-loop μ-loop
 loop-holds c = (omega arith, λ k h. absurd (omega arith))
 
 mul-get : tie.Need-mul-get Inv-loop μ-loop
-mul-get c = 
+mul-get c =
     let a = c .before .before .before .before .before .before in
     record { fits = omega (arith, product-le (c .before .loop .e) (a .args .f .q + 7) 2048 15 (omega arith) (omega (arith, a .pre .0 .q₂))) }
 
 add-get : tie.Need-add-get Inv-loop μ-loop
-add-get c = 
+add-get c =
     let a = c .before .before .before .before .before .before in
     record { fits = omega (arith, product-le (c .before .loop .e) (a .args .f .q + 7) 2048 15 (omega arith) (omega (arith, a .pre .0 .q₂)), a .pre .0 .q₂, a .pre .0 .k₂) }
 
 get-requires : tie.Need-get-requires Inv-loop μ-loop
-get-requires c κs = 
+get-requires c κs =
     let a = c .before .before .before .before .before .before in
-    let f = a .args .f in
-    (omega arith, place-le (30 + f .count * 10 + f .q) (a .args .edges) (f .q + 7) 7 (8 * length (now (a .args .bytes)))
-        (c .before .loop .e) (omega arith) (omega (arith, a .pre .2)))
+    let f = a .args .f in (
+      omega arith,
+      place-le (30 + f .count * 10 + f .q) (a .args .edges) (f .q + 7) 7 (8 * length (now (a .args .bytes)))
+          (c .before .loop .e) (omega arith) (omega (arith, a .pre .2)),
+    )
 
 cast-if1 : tie.Need-cast-if1 Inv-loop μ-loop
 cast-if1 c = search needs
 
 returns : tie.Need-returns Inv-loop μ-loop
-returns c = 
+returns c =
     let a = c .before .before .before .before .before .before .before .before .args in
     all-not (goodTargetAt (bitsOf (now (a .bytes))) (headIn (a .f))) (a .edges) (c .before .before .before .loop .e) (omega arith)
     (ap (λ x. ltb x (a .f .states)) (sym (c .before .get .ensures)) ∙ le-ltb _ _ (c .if1 .taken))
@@ -74,13 +76,15 @@ loop-less : tie.Need-loop-less Inv-loop μ-loop
 loop-less c = omega arith
 
 loop-again : tie.Need-loop-again Inv-loop μ-loop
-loop-again c = 
-    let a = c .before .before .before .before .before .before .before .before .args in
-    (omega arith, below-more _ _ (c .before .before .before .loop .inv .1)
-        (ap (λ x. ltb x (a .f .states)) (sym (c .before .get .ensures)) ∙ lt-ltb _ _ (c .if1 .left)))
+loop-again c =
+    let a = c .before .before .before .before .before .before .before .before .args in (
+      omega arith,
+      below-more _ _ (c .before .before .before .loop .inv .1)
+          (ap (λ x. ltb x (a .f .states)) (sym (c .before .get .ensures)) ∙ lt-ltb _ _ (c .if1 .left)),
+    )
 
 returns-2 : tie.Need-returns-2 Inv-loop μ-loop
-returns-2 c = 
+returns-2 c =
     let a = c .before .before .before .before .before .before .args in
     all-yes (goodTargetAt (bitsOf (now (a .bytes))) (headIn (a .f))) (a .edges)
     (λ k h. c .before .loop .inv .1 k (omega arith))
