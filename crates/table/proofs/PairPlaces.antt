@@ -1,6 +1,6 @@
 -- The places of pairs stand for the pairs of the definition `obeys`, so a closed set of places decides it.
--- In order: length-rows, edges-in, ways-in, at-in, a table's edges by its arrays; stateOf, pairOf, state-walk, pair-some,
--- pair-none, pair-at, one edge; reached-has; obeys-if, obeys-only, obeys-is.
+-- In order: length-rows, edges-in, ways-in, at-in, a table's edges by its arrays; stateOf, pairOf and their laws, one
+-- edge; reached-has; obeys-is.
 -- Assumes nothing.
 use mathlib.Core.Path.{_≡_, sym, ap, ap₂, subst, subst₂, _∙_}
 use mathlib.Core.Logic.{inl, inr}
@@ -93,13 +93,13 @@ module _ (t : Table) (h : Followable t) where
       let r = h .ready in
       let w : 2 ^ t .q ≤ 2 ^ 8 = pow-mono (r .short) in
       codes-at (constraintOf (t .constraint)) (t .q) k (wordAt t s d) w (rw count hk) (let l = r .limits in omega arith)
-          (r .reading s d hs hd)
+      (r .reading s d hs hd)
 
   walk-in : (s k d : ℕ) → k < t .constraint .states → (walkIn t s k d ≡ none → ⊥)
       → walkIn t s k d < t .constraint .states
   walk-in s k d hk e =
       elim (inside (constraintOf (t .constraint)) (rw count (let l = h .ready .limits in omega arith)) (h .nexts) (t .q)
-          (wordAt t s d) k (rw count hk)) [ inl z ↦ absurd (e z) | inr l ↦ rw count at l ]
+      (wordAt t s d) k (rw count hk)) [ inl z ↦ absurd (e z) | inr l ↦ rw count at l ]
 
   -- ---- a place that is reached stands for a reached pair
   has-start : T (has (reachedPairs (codeIn t)) (t .start / 16) (t .start % 16))
@@ -128,21 +128,26 @@ module _ (t : Table) (h : Followable t) where
     where
       s : ℕ
       s = x / 16
+
       k : ℕ
       k = x % 16
+
       hs : s < t .states
       hs = rw (length-rows t) at (reached-lt (codeIn t) s k u .0)
+
       hk : k < t .constraint .states
       hk = rw count at (reached-lt (codeIn t) s k u .1)
+
       w : stateOf t s k d ≡ walkIn t s k d
       w = state-walk s k d hs hk hd
+
       go : Dec (stateOf t s k d ≡ none) → T (has (reachedPairs (codeIn t)) (y / 16) (y % 16))
       go (yes z) = absurd (let p : 2048 ≡ y = sym (pair-none t s k d z) ∙ e in omega arith)
       go (no z) =
           let b = walk-in s k d hk (λ q. z (w ∙ q)) in
           let m = h .ready .limits in
           let p : nextAt t s d * 16 + walkIn t s k d ≡ y =
-              ap (λ j. nextAt t s d * 16 + j) (sym w) ∙ sym (pair-some t s k d z) ∙ e in
+          ap (λ j. nextAt t s d * 16 + j) (sym w) ∙ sym (pair-some t s k d z) ∙ e in
           let i : nextAt t s d ≡ y / 16 = omega arith in
           let j : walkIn t s k d ≡ y % 16 = omega arith in
           subst₂ (λ s k. T (has (reachedPairs (codeIn t)) s k)) i j (has-step s k d hs hd u b)
@@ -171,13 +176,17 @@ module _ (t : Table) (h : Followable t) where
       where
         m : t .constraint .states ≤ 16
         m = h .ready .limits
+
         i : nextAt t s d < t .states
         i = h .ready .inside s d hs hd
+
         w : stateOf t s k d ≡ walkIn t s k d
         w = state-walk s k d hs hk hd
+
         e : placeAfter t (s * 16 + k) d ≡ nextAt t s d * 16 + walkIn t s k d
         e = pair-at t s k d (omega arith) ∙ pair-some t s k d (λ z. omega (arith, w, m))
             ∙ ap (λ j. nextAt t s d * 16 + j) w
+
         b : nextAt t s d * 16 + walkIn t s k d < 2048
         b = let f = h .ready .few in omega (arith, i, m)
 
@@ -195,18 +204,20 @@ module _ (t : Table) (h : Followable t) where
     obeys-if g =
         obeys-by (codeIn t) Held held-start
         (λ s k d q a l. let hd : d < 2 ^ t .p = rw (ways-in t s (q .0)) at a in
-         subst (Steps k) (sym (at-in t s d (q .0) hd)) (λ l. held-next s k d q hd (rw count at l)) l)
+        subst (Steps k) (sym (at-in t s d (q .0) hd)) (λ l. held-next s k d q hd (rw count at l)) l)
         (λ s k d q a. let hd : d < 2 ^ t .p = rw (ways-in t s (q .0)) at a in
-         subst (Fails k) (sym (at-in t s d (q .0) hd)) (held-finds g s k d q hd))
+        subst (Fails k) (sym (at-in t s d (q .0) hd)) (held-finds g s k d q hd))
       where
         Steps : ℕ → Edge → Type 0
         Steps k e = walk (constraintOf (t .constraint)) (t .q) (e .word) k < length (constraintOf (t .constraint))
             → Held (e .next) (walk (constraintOf (t .constraint)) (t .q) (e .word) k)
+
         Fails : ℕ → Edge → Type 0
         Fails k e = (walk (constraintOf (t .constraint)) (t .q) (e .word) k ≡ none) → ⊥
 
     obeys-only : T (obeys (codeIn t)) → T (eachFinds (t .word) (powerIn t) (2 ^ t .p) S)
-    obeys-only g = →each (t .word) (powerIn t) (2 ^ t .p) S (λ x d l u hd e. refuted x d hd e (reached-has (c .only x u)))
+    obeys-only g =
+        →each (t .word) (powerIn t) (2 ^ t .p) S (λ x d l u hd e. refuted x d hd e (reached-has (c .only x u)))
       where
         refuted : (x d : ℕ) → d < 2 ^ t .p → stateAfter (t .word) (powerIn t) x d ≡ none
             → T (has (reachedPairs (codeIn t)) (x / 16) (x % 16)) → ⊥
@@ -227,5 +238,5 @@ pub obeys-is : (t : Table) → Followable t → (n : ℕ) (power : List ℕ) (S 
     → eachFinds (t .word) power n S ≡ obeys (codeIn t)
 obeys-is t h n power S e g c =
     subst₂ (λ n power. Closure (pairAfter (t .word) (t .next) power) n (t .start) S
-        → eachFinds (t .word) power n S ≡ obeys (codeIn t))
+    → eachFinds (t .word) power n S ≡ obeys (codeIn t))
     (sym e) (sym g) (decides t h S) c

@@ -1,7 +1,7 @@
 -- Laws of a set of places and the list of its members, to which the places that edges lead to are added until all
 -- members have been followed.
--- In order: member-lt, member-put; absent-put, absent-blank; queue-blank, queue-room, queue-put, queue-same; grown-none,
--- grown-more; Reaching, reach-start, reach-more, reach-done.
+-- In order: member-lt, member-put; absent-put, absent-blank; queue-blank, queue-room, queue-put, queue-same;
+-- grown-none, grown-more; Reaching, reach-start, reach-more, reach-done.
 -- Assumes nothing.
 use mathlib.Core.Path.{_≡_, refl, sym, subst, _∙_}
 use mathlib.Core.Logic.{_⊎_, inl, inr}
@@ -62,8 +62,11 @@ member-blank (suc k) (suc x) u = member-blank k x u
 -- ---- a place put into the set and at the end of the list
 pub queue-blank : Queue (replicate 2048 false) (replicate 2048 0) 0
 queue-blank = record {
-  long = length-replicate 2048 false; room = length-replicate {A = ℕ} 2048 0; count = absent-blank 2048;
-  listed = λ j h. absurd (not-suc-le-zero h); every = λ x u. absurd (member-blank 2048 x u)
+  long = length-replicate 2048 false;
+  room = length-replicate {A = ℕ} 2048 0;
+  count = absent-blank 2048;
+  listed = λ j h. absurd (not-suc-le-zero h);
+  every = λ x u. absurd (member-blank 2048 x u);
 }
 
 module _ (S : List Bool) (L : List ℕ) (m : ℕ) (w : Queue S L m) (y : ℕ) where
@@ -78,13 +81,15 @@ module _ (S : List Bool) (L : List ℕ) (m : ℕ) (w : Queue S L m) (y : ℕ) wh
     listed = below-more (λ j. T (member (set S y true) (getD (set L m y) j 0))) m
         (λ j a. rw (getD-set-other L m j y 0 (λ z. omega arith)) (member-kept S y (getD L j 0) l (w .listed j a)))
         (rw (last) (member-put S y l));
-    every = λ x u. place x (member-new S y x u)
+    every = λ x u. place x (member-new S y x u);
   }
     where
       l : y < length S
       l = let n = w .long in omega arith
+
       last : getD (set L m y) m 0 ≡ y
       last = getD-set-same L m y 0 (let n = w .room in omega (arith, queue-room h e))
+
       place : (x : ℕ) → (x ≡ y) ⊎ ((x ≡ y → ⊥) × T (member S x))
           → (j : ℕ) × (j < m + 1) × (getD (set L m y) j 0 ≡ x)
       place x (inl q) = (m, omega arith, last ∙ sym q)
@@ -94,11 +99,12 @@ module _ (S : List Bool) (L : List ℕ) (m : ℕ) (w : Queue S L m) (y : ℕ) wh
 
   pub queue-put : y < 2048 → member S y ≡ false → Grown (λ d. y) 1 S L m (set S y true) (set L m y) (m + 1)
   queue-put h e = record {
-    queue = queue-more h e; longer = omega arith;
+    queue = queue-more h e;
+    longer = omega arith;
     kept = λ j a. getD-set-other L m j y 0 (λ z. omega arith);
     holds = λ x u. member-kept S y x l u;
     added = λ d a b. member-put S y l;
-    only = λ x u. elim (member-new S y x u) [ inl q ↦ inr (0, omega arith, sym q) | inr (q, v) ↦ inl v ]
+    only = λ x u. elim (member-new S y x u) [ inl q ↦ inr (0, omega arith, sym q) | inr (q, v) ↦ inl v ];
   }
     where
       l : y < length S
@@ -106,14 +112,23 @@ module _ (S : List Bool) (L : List ℕ) (m : ℕ) (w : Queue S L m) (y : ℕ) wh
 
   pub queue-same : (y < 2048 → T (member S y)) → Grown (λ d. y) 1 S L m S L m
   queue-same h = record {
-    queue = w; longer = omega arith; kept = λ j a. refl; holds = λ x u. u; added = λ d a b. h b; only = λ x u. inl u
+    queue = w;
+    longer = omega arith;
+    kept = λ j a. refl;
+    holds = λ x u. u;
+    added = λ d a b. h b;
+    only = λ x u. inl u;
   }
 
 -- ---- several places put one after the other
 pub grown-none : (g : ℕ → ℕ) (S : List Bool) (L : List ℕ) (m : ℕ) → Queue S L m → Grown g 0 S L m S L m
 grown-none g S L m w = record {
-  queue = w; longer = omega arith; kept = λ j a. refl; holds = λ x u. u;
-  added = λ d a b. absurd (not-suc-le-zero a); only = λ x u. inl u
+  queue = w;
+  longer = omega arith;
+  kept = λ j a. refl;
+  holds = λ x u. u;
+  added = λ d a b. absurd (not-suc-le-zero a);
+  only = λ x u. inl u;
 }
 
 module _ (g : ℕ → ℕ) (i : ℕ) (S S₁ S₂ : List Bool) (L L₁ L₂ : List ℕ) (m m₁ m₂ : ℕ) where
@@ -127,8 +142,9 @@ module _ (g : ℕ → ℕ) (i : ℕ) (S S₁ S₂ : List Bool) (L L₁ L₂ : Li
     added = below-more (λ d. g d < 2048 → T (member S₂ (g d))) i (λ d h l. b .holds (g d) (a .added d h l))
         (λ l. subst (λ x. T (member S₂ x)) z (b .added 0 (omega arith) (subst (λ x. x < 2048) (sym z) l)));
     only = λ x u. elim (b .only x u) [
-      inl v ↦ elim (a .only x v) [ inl p ↦ inl p | inr (d, h, e) ↦ inr (d, omega arith, e) ]
-    | inr (d, h, e) ↦ inr (i, omega arith, sym z ∙ e) ]
+      | inl v ↦ elim (a .only x v) [ inl p ↦ inl p | inr (d, h, e) ↦ inr (d, omega arith, e) ]
+      | inr (d, h, e) ↦ inr (i, omega arith, sym z ∙ e)
+    ];
   }
 
 -- ---- the places of the list followed one after the other
@@ -144,11 +160,14 @@ module _ (f : ℕ → ℕ → ℕ) (n start : ℕ) where
   pub reach-start : start < 2048
       → Reaching f n start 0 (set (replicate 2048 false) start true) (set (replicate 2048 0) 0 start) 1
   reach-start h = record {
-    queue = first .queue; within = omega arith; begins = first .added 0 (omega arith) h;
+    queue = first .queue;
+    within = omega arith;
+    begins = first .added 0 (omega arith) h;
     closed = λ j a. absurd (not-suc-le-zero a);
     only = λ x u. elim (first .only x u) [
-      inl v ↦ absurd (member-blank 2048 x v)
-    | inr (d, a, e) ↦ subst (Reached f n start) e origin ]
+      | inl v ↦ absurd (member-blank 2048 x v)
+      | inr (d, a, e) ↦ subst (Reached f n start) e origin
+    ];
   }
     where
       blank : member (replicate 2048 false) start ≡ false
@@ -158,6 +177,7 @@ module _ (f : ℕ → ℕ → ℕ) (n start : ℕ) where
           none zero x = refl
           none (suc k) zero = refl
           none (suc k) (suc x) = none k x
+
       first : Grown (λ d. start) 1 (replicate 2048 false) (replicate 2048 0) 0
           (set (replicate 2048 false) start true) (set (replicate 2048 0) 0 start) 1
       first = queue-put (replicate 2048 false) (replicate 2048 0) 0 queue-blank start h blank
@@ -173,13 +193,15 @@ module _ (f : ℕ → ℕ → ℕ) (n start : ℕ) where
           (λ j a. subst Follows (sym (g .kept j (omega arith))) (λ d b l. g .holds _ (r .closed j a d b l)))
           (subst Follows (sym (g .kept i h)) (λ d b l. g .added d b l));
       only = λ x u. elim (g .only x u) [
-        inl v ↦ r .only x v
-      | inr (d, a, e) ↦ carried (getD L i 0) d x (r .only (getD L i 0) (r .queue .listed i h)) a e
-          (let n = g .queue .long in omega (arith, member-lt S' x u)) ]
+        | inl v ↦ r .only x v
+        | inr (d, a, e) ↦ carried (getD L i 0) d x (r .only (getD L i 0) (r .queue .listed i h)) a e
+            (let n = g .queue .long in omega (arith, member-lt S' x u))
+      ];
     }
       where
         Follows : ℕ → Type 0
         Follows x = (d : ℕ) → d < n → f x d < 2048 → T (member S' (f x d))
+
         Done : ℕ → Type 0
         Done j = Follows (getD L' j 0)
 
@@ -188,5 +210,5 @@ module _ (f : ℕ → ℕ → ℕ) (n start : ℕ) where
       begins = r .begins;
       closed = λ x d u a l. let (j, b, e) = r .queue .every x u in
           subst (λ x. f x d < 2048 → T (member S (f x d))) e (r .closed j (omega arith) d a) l;
-      only = r .only
+      only = r .only;
     }

@@ -49,7 +49,8 @@ fn pair_after(word: &[u8; 2048], next: &[u8; 2048], power: &[u8; 4096], x: usize
 // The place y put into the set and at the end of the list, unless it is there; the length of the list.
 fn put(y: usize, m: usize, set: &mut [bool; 2048], list: &mut [usize; 2048]) -> usize
     requires { ⌜ Queue (now set) (now list) m ⌝ }
-    ensures written { λ r. ⌜ Grown (λ d. y) 1 (now (set .entry)) (now (list .entry)) m (now (set .exit)) (now (list .exit)) r ⌝ }
+    ensures written { λ r. ⌜ Grown (λ d. y) 1 (now (set .entry)) (now (list .entry)) m (now (set .exit))
+        (now (list .exit)) r ⌝ }
 {
     if 2048 <= y {
         return m;
@@ -63,8 +64,16 @@ fn put(y: usize, m: usize, set: &mut [bool; 2048], list: &mut [usize; 2048]) -> 
 }
 
 // The places to which the n edges of the pair at x carry it, put into the set and the list.
-fn spread(word: &[u8; 2048], next: &[u8; 2048], power: &[u8; 4096], n: usize, x: usize, m: usize, set: &mut [bool; 2048],
-    list: &mut [usize; 2048]) -> usize
+fn spread(
+    word: &[u8; 2048],
+    next: &[u8; 2048],
+    power: &[u8; 4096],
+    n: usize,
+    x: usize,
+    m: usize,
+    set: &mut [bool; 2048],
+    list: &mut [usize; 2048],
+) -> usize
     requires { ⌜ (x < 2048) × (n ≤ 16) × Queue (now set) (now list) m ⌝ }
     ensures written { λ r. ⌜ Grown (pairAfter (now (word .entry)) (now (next .entry)) (now (power .entry)) x) n
         (now (set .entry)) (now (list .entry)) m (now (set .exit)) (now (list .exit)) r ⌝ }
@@ -99,7 +108,11 @@ fn pair_finds(word: &[u8; 2048], power: &[u8; 4096], n: usize, set: &[bool; 2048
     requires { ⌜ (x < 2048) × (n ≤ 16) ⌝ }
     ensures answer { λ r. ⌜ r ≡ pairFinds (now (word .entry)) (now (power .entry)) n (now (set .entry)) x ⌝ }
 {
-    if set[x] { finds_all(word, power, n, x) } else { true }
+    if set[x] {
+        finds_all(word, power, n, x)
+    } else {
+        true
+    }
 }
 
 // The words of all pairs of the set find their way.
@@ -118,9 +131,16 @@ fn each_finds(word: &[u8; 2048], power: &[u8; 4096], n: usize, set: &[bool; 2048
 }
 
 // The places that recordings reach, where start is the place of the pair in which they start.
-fn reach(word: &[u8; 2048], next: &[u8; 2048], power: &[u8; 4096], n: usize, start: usize) -> [bool; 2048]
+fn reach(
+    word: &[u8; 2048],
+    next: &[u8; 2048],
+    power: &[u8; 4096],
+    n: usize,
+    start: usize,
+) -> [bool; 2048]
     requires { ⌜ (start < 2048) × (n ≤ 16) ⌝ }
-    ensures answer { λ r. ⌜ Closure (pairAfter (now (word .entry)) (now (next .entry)) (now (power .entry))) n start r ⌝ }
+    ensures answer { λ r. ⌜ Closure (pairAfter (now (word .entry)) (now (next .entry)) (now (power .entry))) n start
+        r ⌝ }
 {
     let mut set = [false; 2048];
     let mut list = [0usize; 2048];

@@ -41,9 +41,11 @@ loop-less c = search needs
 
 loop-again : tie.Need-loop-again Inv-loop μ-loop
 loop-again c =
-    let l = c .before .before .before .loop in
-    (omega arith, omega arith,
-     below-more _ (l .x) (l .inv .2) (subst T (sym (not-false _ (c .if1 .left)) ∙ c .before .pair-finds .ensures) tt))
+    let l = c .before .before .before .loop in (
+      omega arith,
+      omega arith,
+      below-more _ (l .x) (l .inv .2) (subst T (sym (not-false _ (c .if1 .left)) ∙ c .before .pair-finds .ensures) tt),
+    )
 
 returns-2 : tie.Need-returns-2 Inv-loop μ-loop
 returns-2 c =

@@ -41,11 +41,12 @@ loop-less c = search needs
 loop-again : tie.Need-loop-again Inv-loop μ-loop
 loop-again c =
     let a = c .before .before .before .before .args in
-    let l = c .before .before .before .loop in
-    (omega arith,
-     below-more _ (l .d) (l .inv .1)
-     (other-than (stateAfter (now (a .word)) (now (a .power)) (a .x) (l .d)) 255
-     (λ z. c .if1 .left (c .before .state-after .ensures .0 ∙ z))))
+    let l = c .before .before .before .loop in (
+      omega arith,
+      below-more _ (l .d) (l .inv .1)
+          (other-than (stateAfter (now (a .word)) (now (a .power)) (a .x) (l .d)) 255
+          (λ z. c .if1 .left (c .before .state-after .ensures .0 ∙ z))),
+    )
 
 returns-2 : tie.Need-returns-2 Inv-loop μ-loop
 returns-2 c =

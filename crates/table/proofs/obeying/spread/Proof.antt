@@ -32,10 +32,11 @@ loop-less c = search needs
 
 loop-again : tie.Need-loop-again Inv-loop μ-loop
 loop-again c =
-    let l = c .before .before .before .before .before .loop in
-    (omega arith,
-     grown-more _ (l .d) _ (l .set) _ _ (l .list) _ _ (l .count) _ (c .before .before .before .pair-after .result)
-     (c .before .before .before .pair-after .ensures) (l .inv .1) (c .put .ensures))
+    let l = c .before .before .before .before .before .loop in (
+      omega arith,
+      grown-more _ (l .d) _ (l .set) _ _ (l .list) _ _ (l .count) _ (c .before .before .before .pair-after .result)
+          (c .before .before .before .pair-after .ensures) (l .inv .1) (c .put .ensures),
+    )
 
 returns : tie.Need-returns Inv-loop μ-loop
 returns c =
