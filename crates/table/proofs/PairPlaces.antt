@@ -1,6 +1,6 @@
 -- The places of pairs stand for the pairs of the definition `obeys`, so a closed set of places decides it.
--- In order: length-rows, edges-in, ways-in, at-in, a table's edges by its arrays; stateOf, pairOf, state-walk, pair-some,
--- pair-none, pair-at, one edge; reached-has; obeys-if, obeys-only, obeys-is.
+-- In order: length-rows, edges-in, ways-in, at-in, a table's edges by its arrays; stateOf, pairOf and their laws, one
+-- edge; reached-has; obeys-is.
 -- Assumes nothing.
 use mathlib.Core.Path.{_≡_, sym, ap, ap₂, subst, subst₂, _∙_}
 use mathlib.Core.Logic.{inl, inr}
@@ -216,7 +216,8 @@ module _ (t : Table) (h : Followable t) where
         Fails k e = (walk (constraintOf (t .constraint)) (t .q) (e .word) k ≡ none) → ⊥
 
     obeys-only : T (obeys (codeIn t)) → T (eachFinds (t .word) (powerIn t) (2 ^ t .p) S)
-    obeys-only g = →each (t .word) (powerIn t) (2 ^ t .p) S (λ x d l u hd e. refuted x d hd e (reached-has (c .only x u)))
+    obeys-only g =
+        →each (t .word) (powerIn t) (2 ^ t .p) S (λ x d l u hd e. refuted x d hd e (reached-has (c .only x u)))
       where
         refuted : (x d : ℕ) → d < 2 ^ t .p → stateAfter (t .word) (powerIn t) x d ≡ none
             → T (has (reachedPairs (codeIn t)) (x / 16) (x % 16)) → ⊥

@@ -17,7 +17,8 @@ ready→ t k =
     let (kp, k₂) = and→ (leb (t .p) 4) _ k₁ in
     let (kq, k₃) = and→ (leb (t .q) 8) _ k₂ in
     let (kc, ke) = and→ (leb (t .constraint .states) 16) (all (goodEntries t) (range (t .states))) k₃ in
-    let entry : (s d : ℕ) → s < t .states → d < 2 ^ t .p → T (ltb (wordAt t s d) (2 ^ t .q)) × T (ltb (nextAt t s d) (t .states)) =
+    let entry : (s d : ℕ) → s < t .states → d < 2 ^ t .p
+            → T (ltb (wordAt t s d) (2 ^ t .q)) × T (ltb (nextAt t s d) (t .states)) =
     λ s d hs hd. and→ (ltb (wordAt t s d) (2 ^ t .q)) (ltb (nextAt t s d) (t .states))
     (all-below→ (goodEntry t s) (2 ^ t .p) (all-below→ (goodEntries t) (t .states) ke s hs) d hd) in
     record {

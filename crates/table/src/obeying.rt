@@ -49,7 +49,8 @@ fn pair_after(word: &[u8; 2048], next: &[u8; 2048], power: &[u8; 4096], x: usize
 // The place y put into the set and at the end of the list, unless it is there; the length of the list.
 fn put(y: usize, m: usize, set: &mut [bool; 2048], list: &mut [usize; 2048]) -> usize
     requires { ⌜ Queue (now set) (now list) m ⌝ }
-    ensures written { λ r. ⌜ Grown (λ d. y) 1 (now (set .entry)) (now (list .entry)) m (now (set .exit)) (now (list .exit)) r ⌝ }
+    ensures written { λ r. ⌜ Grown (λ d. y) 1 (now (set .entry)) (now (list .entry)) m (now (set .exit))
+        (now (list .exit)) r ⌝ }
 {
     if 2048 <= y {
         return m;
@@ -138,7 +139,8 @@ fn reach(
     start: usize,
 ) -> [bool; 2048]
     requires { ⌜ (start < 2048) × (n ≤ 16) ⌝ }
-    ensures answer { λ r. ⌜ Closure (pairAfter (now (word .entry)) (now (next .entry)) (now (power .entry))) n start r ⌝ }
+    ensures answer { λ r. ⌜ Closure (pairAfter (now (word .entry)) (now (next .entry)) (now (power .entry))) n start
+        r ⌝ }
 {
     let mut set = [false; 2048];
     let mut list = [0usize; 2048];

@@ -21,10 +21,11 @@ returns : tie.Need-returns
 returns c =
     let r = c .before .before .before .before in
     let p = r .before .before .before .before in
-    let s = p .before .before .before .before in
+    let n = p .before .before .before in
+    let s = n .before in
     c .each-finds .ensures
-    ∙ obeys-is (s .args .t) (s .pre) (p .before .before .before .ways-of .result) (p .power-codes .result) (r .reach .result)
-    (p .before .before .before .ways-of .ensures .0) (p .power-codes .ensures) (r .reach .ensures)
+    ∙ obeys-is (s .args .t) (s .pre) (n .ways-of .result) (p .power-codes .result) (r .reach .result)
+    (n .ways-of .ensures .0) (p .power-codes .ensures) (r .reach .ensures)
 
 pub obeys-spec : {M : Type 1} → statement M
 obeys-spec =

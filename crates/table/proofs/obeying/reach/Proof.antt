@@ -25,7 +25,7 @@ place-on c =
     let l = c .before .loop in
     let q = l .inv .1 .queue in
     let n = q .long in
-    omega (arith, member-lt (l .set) (getD (l .list) (l .i) 0) (q .listed (l .i) (c .loop-test .taken)))
+    omega (arith, member-lt (l .set) (getD (l .list) (l .i) 0) (q .listed (l .i) (omega arith)))
 
 array-write-set : tie.Need-array-write-set Inv-loop μ-loop
 array-write-set c = search needs
@@ -59,7 +59,7 @@ loop-again c =
     let l = c .before .before .before .before .loop in (
       l .inv .0,
       reach-more (pairAfter (now (a .word)) (now (a .next)) (now (a .power))) (a .n) (a .start) (l .i) (l .set) (l .list)
-          (l .count) (l .inv .1) _ _ _ (c .before .before .before .loop-test .taken) (c .spread .ensures),
+          (l .count) (l .inv .1) _ _ _ (omega arith) (c .spread .ensures),
     )
 
 returns : tie.Need-returns Inv-loop μ-loop
