@@ -1,7 +1,7 @@
 -- Laws of edges as places and of chains.
--- In order: below-more, below-le, below-bears, some-below, the last edge below a bound; chain-start, chain-skip, chain-put,
--- the chains with one edge more; bears-edge, bears-word, link-below, one edge of a chain; on-le, on-bears, on-some, a place
--- of a chain.
+-- In order: below-more, below-le, below-bears, some-below, the last edge below a bound; chain-start, chain-skip,
+-- chain-put, the chains with one edge more; bears-edge, bears-word, link-below, one edge of a chain; on-le, on-bears,
+-- on-some, a place of a chain.
 -- Assumes nothing.
 use mathlib.Core.Path.{_≡_, refl, sym, ap, ap₂, subst, _∙_}
 use mathlib.Core.Bool.{Bool, true, false, _&&_, _||_, or-false}
@@ -12,7 +12,7 @@ use native.Mathlib.Omega.{arith}
 use native.Mathlib.Decide.{ℕ-discrete}
 use lib.Dec.{eqb}
 use borrow.Author.Tests.{eq-eqb, ne-eqb, eqb-true}
-use lib.ListN.{length, getD, set, length-set, replicate, length-replicate, getD-replicate}
+use lib.ListN.{getD, set, length-set, replicate, length-replicate, getD-replicate}
 use lib.Seq.{getD-set-same, getD-set-other}
 use Rattle.laws.specs.Lists.{if_then_else_}
 use Rattle.table.specs.Marks.{some}
@@ -106,6 +106,7 @@ module _ (t : Arrays) (e : ℕ) (head link : List ℕ) (k : Chained t e head lin
       at-word w h (no d) =
           getD-set-other head (wordOf t e) w (e + 1) 0 d ∙ k .heads w h
           ∙ sym (skip-word w (ap₂ (λ a b. a && b) q (ne-eqb (wordOf t e) w (λ r. d (sym r)))))
+
       at-edge : (f : ℕ) → f < e + 1 → isEdge t f ≡ true → Dec (f ≡ e)
           → getD (set link e (getD head (wordOf t e) 0)) f 0 ≡ lastBelow t (wordOf t f) f
       at-edge f h r (no d) =

@@ -63,6 +63,7 @@ module _ (t : Rows) where
           same w e k (yes d) y = absurd (n (w .lookahead) d (subst (λ j. T (works t (size j (w .lookahead)))) e k))
           same w e k (no d) (yes y) = inl (omega arith)
           same w e k (no d) (no y) = inr (omega arith, omega arith)
+
           go : (w : Size) → w .lookahead < 16 → T (works t w) → Dec (w .memory < m) → w .memory < m + 1
               → NoLater (size m a) w
           go w lw k (yes d) hw = later-trans (size m a) z w (before a l) (h .better w d lw k)
@@ -78,12 +79,14 @@ module _ (t : Rows) where
               → (z ≡ noSize) ⊎ ((z .memory < m + 1) × (z .lookahead < 16) × T (works t z))
           keep (inl e) = inl e
           keep (inr k) = inr (omega (arith, k .0), k .1, k .2)
+
           over : (w : Size) → w .memory ≡ m → w .lookahead < 16 → T (works t w) → Dec (w .lookahead < r + 1)
               → (r ≡ 15) ⊎ (m + r ≡ z .memory + z .lookahead) → NoLater z w
           over w e lw k (yes d) y =
               absurd (n (w .lookahead) (omega arith) (subst (λ j. T (works t (size j (w .lookahead)))) e k))
           over w e lw k (no d) (inl y) = absurd (omega arith)
           over w e lw k (no d) (inr y) = inl (omega arith)
+
           go : (w : Size) → w .lookahead < 16 → T (works t w) → Dec (w .memory < m) → w .memory < m + 1 → NoLater z w
           go w lw k (yes d) hw = h .better w d lw k
           go w lw k (no d) hw = over w (omega arith) lw k (decLt (w .lookahead) (r + 1)) (f .most)
@@ -101,7 +104,7 @@ lead-done t m z h l e = go (h .known) e
         → (16 ≤ m) ⊎ (z .memory + z .lookahead < m) → window t ≡ z
     go (inl q) (inl y) =
         window-none t (λ w a b k. not-before w a b
-            (subst (λ s. NoLater s w) q (h .better w (omega arith) b k))) ∙ sym q
+        (subst (λ s. NoLater s w) q (h .better w (omega arith) b k))) ∙ sym q
     go (inl q) (inr y) =
         let p : z .memory ≡ 16 = ap (λ s. s .memory) q in
         absurd (omega arith)

@@ -12,13 +12,14 @@ use lib.ListN.{length, getD}
 use Rattle.laws.specs.Lists.{from, range}
 use Rattle.laws.specs.Sets.{member, Pairs, has, grid}
 use Rattle.laws.proofs.Tests.{map-range-at}
-use Rattle.table.specs.Rows.{Rows, edges}
+use Rattle.table.specs.Rows.{Rows}
 use Rattle.table.specs.Works.{meet, into, entering, reversed}
 use Rattle.table.specs.PairSets.{pairsIn}
 use Rattle.table.proofs.Same.{has-into}
 
 -- ---- the same pairs
-map-from : {A : Type 0} (f g : ℕ → A) (i n : ℕ) → ((x : ℕ) → x < i + n → f x ≡ g x) → map f (from i n) ≡ map g (from i n)
+map-from : {A : Type 0} (f g : ℕ → A) (i n : ℕ) → ((x : ℕ) → x < i + n → f x ≡ g x)
+    → map f (from i n) ≡ map g (from i n)
 map-from f g i zero h = refl
 map-from f g i (suc n) h =
     ap₂ _∷_ (h i (omega arith)) (map-from f g (suc i) n (λ x l. h x (omega arith)))
@@ -54,9 +55,9 @@ module _ (g : Rows) (Q : Pairs) where
   into-grid =
       map-map (λ es. map (meet Q es) (reversed g)) (entering g) (range (length g))
       ∙ map-same (λ s. map (meet Q (entering g s)) (reversed g))
-        (λ s. map (has (into (reversed g) Q) s) (range (length g))) (length g)
-        (λ s hs. map-map (meet Q (entering g s)) (entering g) (range (length g))
-            ∙ map-same (λ u. meet Q (entering g s) (entering g u)) (has (into (reversed g) Q) s) (length g)
-              (λ u hu. sym (has-into (reversed g) Q s u
-                  ∙ ap₂ (meet Q) (map-range-at (entering g) (length g) s [] hs)
-                    (map-range-at (entering g) (length g) u [] hu))))
+      (λ s. map (has (into (reversed g) Q) s) (range (length g))) (length g)
+      (λ s hs. map-map (meet Q (entering g s)) (entering g) (range (length g))
+      ∙ map-same (λ u. meet Q (entering g s) (entering g u)) (has (into (reversed g) Q) s) (length g)
+      (λ u hu. sym (has-into (reversed g) Q s u
+      ∙ ap₂ (meet Q) (map-range-at (entering g) (length g) s [] hs)
+      (map-range-at (entering g) (length g) u [] hu))))

@@ -4,11 +4,11 @@
 use mathlib.Core.Path.{_≡_, refl, sym, ap, ap₂, subst, _∙_}
 use mathlib.Core.Bool.{Bool, true, false, not, _&&_, _||_}
 use mathlib.Core.List.{List, [], _∷_, map}
-use Prim.Native.Nat.{ℕ, zero, suc, _+_, _*_, _/_, _%_, _≤_, _<_}
+use Prim.Native.Nat.{ℕ, suc, _+_, _*_, _/_, _%_, _≤_, _<_}
 use native.Mathlib.Omega.{arith}
 use lib.Dec.{T, T-not, not-T, eqb, eqb→eq, eqb-refl, ltb, ltb→lt, lt→ltb}
-use lib.ListN.{length, set, replicate, length-replicate, getD-replicate}
-use Rattle.laws.specs.Lists.{from, range, all}
+use lib.ListN.{length, set, replicate, getD-replicate}
+use Rattle.laws.specs.Lists.{from, range}
 use Rattle.laws.specs.Sets.{member, has, grid}
 use Rattle.laws.proofs.Tests.{and→, →and, bool-eq, all-below→, →all-below}
 use Rattle.table.specs.Rows.{Rows}
@@ -39,25 +39,25 @@ module _ (t : Rows) where
   start-place : (x y : ℕ) → eqb 0 (x * 128 + y) ≡ (eqb x 0 && eqb y 0)
   start-place x y = bool-eq (eqb 0 (x * 128 + y)) (eqb x 0 && eqb y 0)
       (λ h. let e : 0 ≡ x * 128 + y = eqb→eq 0 (x * 128 + y) h in
-          let p : x ≡ 0 = omega arith in
-          let q : y ≡ 0 = omega arith in
-          →and (eqb x 0) (eqb y 0) (rw p (eqb-refl 0)) (rw q (eqb-refl 0)))
+      let p : x ≡ 0 = omega arith in
+      let q : y ≡ 0 = omega arith in
+      →and (eqb x 0) (eqb y 0) (rw p (eqb-refl 0)) (rw q (eqb-refl 0)))
       (λ h. let (p, q) = and→ (eqb x 0) (eqb y 0) h in
-          let e : x * 128 + y ≡ 0 = omega (arith, eqb→eq x 0 p, eqb→eq y 0 q) in
-          rw e (eqb-refl 0))
+      let e : x * 128 + y ≡ 0 = omega (arith, eqb→eq x 0 p, eqb→eq y 0 q) in
+      rw e (eqb-refl 0))
 
   pub start-of : (k : ℕ) → 0 < k → pairsIn (length t) (set (blank k) 0 true) ≡ startPair t
   start-of k h =
       pairs-grid (length t) (set (blank k) 0 true) (λ x y. eqb x 0 && eqb y 0)
       (λ x y hx hy. put-member (blank k) 0 (x * 128 + y) (rw (length-blank k) h)
-          ∙ ap₂ (λ a b. a || b) (blank-none k (x * 128 + y)) (start-place x y))
+      ∙ ap₂ (λ a b. a || b) (blank-none k (x * 128 + y)) (start-place x y))
 
 -- ---- the union
 adds : (Q : List Bool) (n x : ℕ) → x < n → some (addsAt Q x) n ≡ member Q x
 adds Q n x h = bool-eq (some (addsAt Q x) n) (member Q x)
     (λ v. let (z, l, w) = found (addsAt Q x) n v in
-        let (m, e) = and→ (member Q z) (eqb z x) w in
-        subst (λ k. T (member Q k)) (eqb→eq z x e) m)
+    let (m, e) = and→ (member Q z) (eqb z x) w in
+    subst (λ k. T (member Q k)) (eqb→eq z x e) m)
     (λ v. some-at (addsAt Q x) n x h (→and (member Q x) (eqb x x) v (eqb-refl x)))
 
 pub union-pairs : (t : Rows) (n : ℕ) (A B R : List Bool) → length t ≡ n → n ≤ 128 → Marked A (addsAt B) (n * 128) R
@@ -65,8 +65,8 @@ pub union-pairs : (t : Rows) (n : ℕ) (A B R : List Bool) → length t ≡ n �
 union-pairs t n A B R e h m =
     pairs-grid n R (λ x y. has (pairsIn n A) x y || has (pairsIn n B) x y)
     (λ x y hx hy. m .holds (x * 128 + y)
-        ∙ ap₂ (λ a b. a || b) (sym (has-pairs n A x y hx hy))
-          (adds B (n * 128) (x * 128 + y) (omega arith) ∙ sym (has-pairs n B x y hx hy)))
+    ∙ ap₂ (λ a b. a || b) (sym (has-pairs n A x y hx hy))
+    (adds B (n * 128) (x * 128 + y) (omega arith) ∙ sym (has-pairs n B x y hx hy)))
     ∙ ap (λ k. grid k k (λ x y. has (pairsIn n A) x y || has (pairsIn n B) x y)) (sym e)
 
 -- ---- no pair
@@ -79,7 +79,7 @@ module _ (t : Rows) (n : ℕ) (P : List Bool) (e : length t ≡ n) (h : n ≤ 12
       (some-at (holdsAt n P) (n * 128) (s * 128 + u) (omega arith)
       (let q : (s * 128 + u) % 128 ≡ u = omega arith in
       →and (ltb ((s * 128 + u) % 128) n) (member P (s * 128 + u)) (rw q (lt→ltb u n lu))
-          (rw (has-pairs n P s u ls lu) at v))))))
+      (rw (has-pairs n P s u ls lu) at v))))))
 
   →empty : T (empty t (pairsIn n P)) → T (not (some (holdsAt n P) (n * 128)))
   →empty k = not-T (some (holdsAt n P) (n * 128)) (λ v.

@@ -1,10 +1,10 @@
 -- Laws of the sets of pairs that the search for a window keeps.
 -- In order: step-more, reached-more, reached-hits; Stepped, stepped-start to stepped-end.
 -- Assumes nothing.
-use mathlib.Core.Path.{_≡_, refl, sym, ap, ap₂, _∙_}
+use mathlib.Core.Path.{_≡_, sym, ap, ap₂, _∙_}
 use mathlib.Core.Bool.{Bool, true, false}
 use mathlib.Core.List.{List}
-use Prim.Native.Nat.{ℕ, zero, suc, _+_, _≤_, _<_}
+use Prim.Native.Nat.{ℕ, _+_, _≤_, _<_}
 use native.Mathlib.Numerals.{add-one}
 use native.Mathlib.Omega.{arith}
 use borrow.Author.Count.{below-more}
@@ -13,7 +13,7 @@ use Rattle.laws.specs.Sets.{Pairs}
 use Rattle.laws.proofs.Settle.{iterate-suc}
 use Rattle.table.specs.declared.windows.Pasts.{Pasts}
 use Rattle.table.specs.Rows.{Rows}
-use Rattle.table.specs.Works.{into, reversed, allPairs, startPair, past, started}
+use Rattle.table.specs.Works.{into, reversed, allPairs, startPair}
 use Rattle.table.specs.Search.{hits, union, starts, pasts, empty}
 use Rattle.table.specs.PairSets.{pairsIn}
 use Rattle.table.specs.Steps.{Reached, Emptied}
@@ -63,7 +63,9 @@ module _ (t : Rows) (n : ℕ) (H : Pairs) (most : ℕ) (cur : List Bool) where
 
   pub stepped-stop : (k : ℕ) → Stepped t n H most cur k → empty t (pairsIn n cur) ≡ true → Emptied t H most k
   stepped-stop k h e = record {
-    within = omega (arith, h .within); sooner = h .sooner; there = λ l. sym (ap (empty t) (h .set)) ∙ e
+    within = omega (arith, h .within);
+    sooner = h .sooner;
+    there = λ l. sym (ap (empty t) (h .set)) ∙ e;
   }
 
   pub stepped-end : (k : ℕ) → Stepped t n H most cur k → most ≤ k → empty t (pairsIn n cur) ≡ false

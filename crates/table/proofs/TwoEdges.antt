@@ -4,26 +4,32 @@
 use mathlib.Core.Path.{_≡_, sym, ap, subst, subst₂, _∙_}
 use mathlib.Core.Bool.{Bool, true, false, not, _&&_}
 use mathlib.Core.List.{List}
-use Prim.Native.Nat.{ℕ, _+_, _*_, _/_, _%_, _≤_, _<_}
+use Prim.Native.Nat.{ℕ, _+_, _*_, _/_, _%_, _<_}
 use native.Mathlib.Omega.{arith}
-use lib.Dec.{T, T-not, not-T, eqb, eqb→eq, eqb-refl, ltb, ltb→lt}
-use borrow.Author.Tests.{eq-eqb}
-use lib.ListN.{length, getD}
-use Rattle.laws.specs.Lists.{if_then_else_}
+use lib.Dec.{T, T-not, not-T, eqb, eqb→eq, eqb-refl, ltb→lt}
+use lib.ListN.{length}
 use Rattle.laws.specs.Sets.{member, Pairs, has, grid}
 use Rattle.laws.proofs.Tests.{and→, →and, bool-eq, T→true}
 use Rattle.table.specs.Rows.{edges, at}
 use Rattle.table.specs.Works.{into, reversed}
 use Rattle.table.specs.Search.{hits}
 use Rattle.table.specs.Marks.{some}
-use Rattle.table.specs.Edges.{Arrays, Fits, edgeOf, rowsOf, places, isEdge, wordOf, nextOf, bears}
+use Rattle.table.specs.Edges.{Arrays, Fits, rowsOf, places, isEdge, wordOf, nextOf, bears}
 use Rattle.table.specs.PairSets.{pairsIn, counts, joins, leftOut, joinsAny}
 use Rattle.table.proofs.Same.{onward}
 use Rattle.table.proofs.Works.{back-one}
 use Rattle.table.proofs.Clashes.{Hit, hits→, →hits}
 use Rattle.table.proofs.Marks.{found, some-at}
 use Rattle.table.proofs.RowsOf.{
-  length-rows, row-long, edge-at, closed-rows, place, place-state, place-datum, place-lt, place-edge, place-next
+  length-rows,
+  row-long,
+  edge-at,
+  closed-rows,
+  place,
+  place-state,
+  place-datum,
+  place-lt,
+  place-edge,
 }
 use Rattle.table.proofs.PairSets.{grid-has, has-pairs, pairs-grid, into-grid}
 
@@ -47,14 +53,14 @@ pub record Two (t : Arrays) (P : List Bool) (apart : Bool) (x y : ℕ) : Type 0 
 out→ : (apart : Bool) (i j : ℕ) → T (not (eqb (j % 16) (leftOut apart i))) → T apart → T (not (eqb (i % 16) (j % 16)))
 out→ true i j h a = not-T (eqb (i % 16) (j % 16))
     (λ e. T-not (eqb (j % 16) (i % 16)) h
-        (subst (λ k. T (eqb (j % 16) k)) (sym (eqb→eq (i % 16) (j % 16) e)) (eqb-refl (j % 16))))
+    (subst (λ k. T (eqb (j % 16) k)) (sym (eqb→eq (i % 16) (j % 16) e)) (eqb-refl (j % 16))))
 out→ false i j h a = absurd a
 
 →out : (apart : Bool) (i j : ℕ) → (T apart → T (not (eqb (i % 16) (j % 16))))
     → T (not (eqb (j % 16) (leftOut apart i)))
 →out true i j h = not-T (eqb (j % 16) (i % 16))
     (λ e. T-not (eqb (i % 16) (j % 16)) (h tt)
-        (subst (λ k. T (eqb (i % 16) k)) (sym (eqb→eq (j % 16) (i % 16) e)) (eqb-refl (i % 16))))
+    (subst (λ k. T (eqb (i % 16) k)) (sym (eqb→eq (j % 16) (i % 16) e)) (eqb-refl (i % 16))))
 →out false i j h = not-T (eqb (j % 16) 16) (λ e. let q : j % 16 ≡ 16 = eqb→eq (j % 16) 16 e in omega arith)
 
 places-one : (a b x y : ℕ) → b < 128 → y < 128 → a * 128 + b ≡ x * 128 + y → (a ≡ x) × (b ≡ y)
@@ -67,18 +73,23 @@ module _ (t : Arrays) (g : Fits t) (P : List Bool) (apart : Bool) (x y : ℕ) (h
       let (ei, f₂) = and→ (isEdge t i) (some (joins t P (leftOut apart i) i (x * 128 + y)) (places t)) f in
       let (j, lj, f₃) = found (joins t P (leftOut apart i) i (x * 128 + y)) (places t) f₂ in
       let (b, f₄) = and→ (bears t (wordOf t i) j)
-          (counts P (i / 16) (leftOut apart i) j && eqb (nextOf t i * 128 + nextOf t j) (x * 128 + y)) f₃ in
+      (counts P (i / 16) (leftOut apart i) j && eqb (nextOf t i * 128 + nextOf t j) (x * 128 + y)) f₃ in
       let (k, z) = and→ (counts P (i / 16) (leftOut apart i) j)
-          (eqb (nextOf t i * 128 + nextOf t j) (x * 128 + y)) f₄ in
+      (eqb (nextOf t i * 128 + nextOf t j) (x * 128 + y)) f₄ in
       let (ej, w) = and→ (isEdge t j) (eqb (wordOf t j) (wordOf t i)) b in
       let (o, m) = and→ (not (eqb (j % 16) (leftOut apart i))) (member P (i / 16 * 128 + j / 16)) k in
       let nj = g .inside j lj (T→true (isEdge t j) ej) in
       let (p, q) = places-one (nextOf t i) (nextOf t j) x y (omega (arith, g .few)) (omega (arith, g .few))
-          (eqb→eq (nextOf t i * 128 + nextOf t j) (x * 128 + y) z) in
+      (eqb→eq (nextOf t i * 128 + nextOf t j) (x * 128 + y) z) in
       record {
-        s = i / 16; u = j / 16; d = i % 16; e = j % 16;
-        hs = omega arith; hu = omega arith;
-        hd = ltb→lt (i % 16) (t .ways) ei; he = ltb→lt (j % 16) (t .ways) ej;
+        s = i / 16;
+        u = j / 16;
+        d = i % 16;
+        e = j % 16;
+        hs = omega arith;
+        hu = omega arith;
+        hd = ltb→lt (i % 16) (t .ways) ei;
+        he = ltb→lt (j % 16) (t .ways) ej;
         inside = m;
         differ = out→ apart i j o;
         word = ap (wordOf t) (place i) ∙ sym (eqb→eq (wordOf t j) (wordOf t i) w) ∙ ap (wordOf t) (sym (place j));
@@ -101,11 +112,11 @@ module _ (t : Arrays) (g : Fits t) (P : List Bool) (apart : Bool) (x y : ℕ) (h
       (→and (bears t (wordOf t i) j)
       (counts P (i / 16) (leftOut apart i) j && eqb (nextOf t i * 128 + nextOf t j) (x * 128 + y))
       (→and (isEdge t j) (eqb (wordOf t j) (wordOf t i)) (rw (place-edge t (r .u) (r .e) g (r .hu) (r .he)) tt)
-          (rw (r .word) (eqb-refl (wordOf t j))))
+      (rw (r .word) (eqb-refl (wordOf t j))))
       (→and (counts P (i / 16) (leftOut apart i) j) (eqb (nextOf t i * 128 + nextOf t j) (x * 128 + y))
       (→and (not (eqb (j % 16) (leftOut apart i))) (member P (i / 16 * 128 + j / 16))
-          (→out apart i j (λ a. rw (ri, rj) (r .differ a)))
-          (rw (qi, qj) (r .inside)))
+      (→out apart i j (λ a. rw (ri, rj) (r .differ a)))
+      (rw (qi, qj) (r .inside)))
       (rw (r .next, r .next′) (eqb-refl (x * 128 + y)))))))
 
 -- ---- the definitions' two edges
@@ -134,7 +145,7 @@ module _ (t : Arrays) (g : Fits t) (P : List Bool) (x y : ℕ) (hx : x < t .stat
   →step : T (has (into (reversed (rowsOf t)) (pairsIn (t .states) P)) x y) → Two t P false x y
   →step h =
       let (s, u, d, e, ks, ku, i, kd, ke, w, p, q) =
-          back-one (rowsOf t) (pairsIn (t .states) P) x y (state x hx) (state y hy) h in
+      back-one (rowsOf t) (pairsIn (t .states) P) x y (state x hx) (state y hy) h in
       let hs : s < t .states = rw (length-rows t) at ks in
       let hu : u < t .states = rw (length-rows t) at ku in
       let hd : d < t .ways = rw (row-long t s hs) at kd in
@@ -142,7 +153,14 @@ module _ (t : Arrays) (g : Fits t) (P : List Bool) (x y : ℕ) (hx : x < t .stat
       let a = edge-at t s d hs hd in
       let b = edge-at t u e hu he in
       record {
-        s = s; u = u; d = d; e = e; hs = hs; hu = hu; hd = hd; he = he;
+        s = s;
+        u = u;
+        d = d;
+        e = e;
+        hs = hs;
+        hu = hu;
+        hd = hd;
+        he = he;
         inside = rw (held s u hs hu) at i;
         differ = λ k. absurd k;
         word = sym (ap (λ k. k .word) a) ∙ w ∙ ap (λ k. k .word) b;
@@ -171,7 +189,14 @@ module _ (t : Arrays) (g : Fits t) (P : List Bool) (x y : ℕ) (hx : x < t .stat
       let a = edge-at t (k .s) (k .x) hs hd in
       let b = edge-at t (k .t) (k .y) hu he in
       record {
-        s = k .s; u = k .t; d = k .x; e = k .y; hs = hs; hu = hu; hd = hd; he = he;
+        s = k .s;
+        u = k .t;
+        d = k .x;
+        e = k .y;
+        hs = hs;
+        hu = hu;
+        hd = hd;
+        he = he;
         inside = rw (held (k .s) (k .t) hs hu) at (k .inside);
         differ = λ l. k .apart;
         word = sym (ap (λ k. k .word) a) ∙ k .word ∙ ap (λ k. k .word) b;
@@ -187,7 +212,7 @@ module _ (t : Arrays) (g : Fits t) (P R : List Bool) (apart : Bool)
       → pairsIn (t .states) R ≡ grid (t .states) (t .states) (has Q)
   by-two Q f k = pairs-grid (t .states) R (has Q) (λ x y hx hy. h (x * 128 + y)
       ∙ bool-eq (some (joinsAny t P apart (x * 128 + y)) (places t)) (has Q x y)
-        (λ v. f x y hx hy (two→ t g P apart x y hy v)) (λ v. →two t g P apart x y hy (k x y hx hy v)))
+      (λ v. f x y hx hy (two→ t g P apart x y hy v)) (λ v. →two t g P apart x y hy (k x y hx hy v)))
 
 pub step-pairs : (t : Arrays) → Fits t → (P R : List Bool)
     → ((z : ℕ) → member R z ≡ some (joinsAny t P false z) (places t))

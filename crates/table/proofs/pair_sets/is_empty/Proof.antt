@@ -1,7 +1,7 @@
 -- The loop has found no pair at the places that it has passed.
 use mathlib.Core.Path.{_≡_, sym, ap, _∙_}
 use mathlib.Core.Bool.{true, false, not}
-use Prim.Native.Nat.{_-_, _*_, _≤_, _<_}
+use Prim.Native.Nat.{_-_, _*_, _≤_}
 use native.Mathlib.Omega.{arith}
 use denote.Ref.{now}
 use Rattle.table.specs.Marks.{some}
@@ -33,8 +33,8 @@ returns c = λ t e.
     let a = s .args in
     let f = holdsAt (a .states) (now (a .pairs)) in
     let q : some f (a .states * 128) ≡ true =
-        some-stop f (a .states * 128) (c .before .before .before .loop .z) (c .before .before .loop-test .taken)
-        (sym (c .before .holds .ensures) ∙ c .if1 .taken) in
+    some-stop f (a .states * 128) (c .before .before .before .loop .z) (c .before .before .loop-test .taken)
+    (sym (c .before .holds .ensures) ∙ c .if1 .taken) in
     sym (ap not q) ∙ empty-of t (a .states) (now (a .pairs)) e (s .pre)
 
 add-z : tie.Need-add-z Inv-loop μ-loop
@@ -46,9 +46,11 @@ loop-less c = search needs
 loop-again : tie.Need-loop-again Inv-loop μ-loop
 loop-again c =
     let a = c .before .before .before .before .args in
-    let l = c .before .before .before .loop in
-    (omega arith, none-more (holdsAt (a .states) (now (a .pairs))) (l .z) (l .inv .1)
-        (sym (c .before .holds .ensures) ∙ c .if1 .left))
+    let l = c .before .before .before .loop in (
+      omega arith,
+      none-more (holdsAt (a .states) (now (a .pairs))) (l .z) (l .inv .1)
+          (sym (c .before .holds .ensures) ∙ c .if1 .left),
+    )
 
 returns-2 : tie.Need-returns-2 Inv-loop μ-loop
 returns-2 c = λ t e.

@@ -46,10 +46,18 @@ loop-again c =
     let B = now (a .b) in
     let small : l .z < length (a .a) = rw (l .inv .1) (omega arith) in
     ⊎-elim
-    (λ u. (omega arith, l .inv .1, rw (u .1) (mark-put (a .a) (addsAt B) (l .z) (l .out) (l .inv .2) (l .z) small
-        (λ x. ap (λ b. b && eqb (l .z) x) (u .0 .taken)))))
-    (λ u. (omega arith, l .inv .1, rw (u .1) (mark-skip (a .a) (addsAt B) (l .z) (l .out) (l .inv .2)
-        (λ x. ap (λ b. b && eqb (l .z) x) (u .0 .left)))))
+    (λ u. (
+      omega arith,
+      l .inv .1,
+      rw (u .1) (mark-put (a .a) (addsAt B) (l .z) (l .out) (l .inv .2) (l .z) small
+          (λ x. ap (λ b. b && eqb (l .z) x) (u .0 .taken))),
+    ))
+    (λ u. (
+      omega arith,
+      l .inv .1,
+      rw (u .1) (mark-skip (a .a) (addsAt B) (l .z) (l .out) (l .inv .2)
+          (λ x. ap (λ b. b && eqb (l .z) x) (u .0 .left))),
+    ))
     (c .if1 .came)
 
 returns : tie.Need-returns Inv-loop μ-loop

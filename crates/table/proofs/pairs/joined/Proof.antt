@@ -1,7 +1,7 @@
 -- Each turn marks where one edge and those with its word lead.
 use mathlib.Core.Path.{_≡_, ap, _∙_}
 use mathlib.Core.Logic.{⊎-elim}
-use Prim.Native.Nat.{_+_, _-_, _*_, _%_, _≤_, _<_}
+use Prim.Native.Nat.{_-_, _*_, _≤_}
 use native.Mathlib.Omega.{arith}
 use borrow.Author.Tests.{lt-ltb}
 use denote.Ref.{now}
@@ -51,11 +51,19 @@ loop-again c =
     let P = now (a .pairs) in
     let f = joinsAny t P (a .apart) in
     ⊎-elim
-    (λ u. (l .inv .0, omega arith, rw (u .4) (mark-row _ f (l .i) (l .out) (l .inv .2) (a .states * 16)
-        (joins t P (u .1 .result) (l .i)) _
-        (λ z. turn-taken t P (a .apart) z (l .i) (u .1 .result) (u .0 .taken) (u .1 .ensures)) (u .3 .ensures))))
-    (λ u. (l .inv .0, omega arith, rw (u .1) (mark-skip _ f (l .i) (l .out) (l .inv .2)
-        (λ z. turn-left t P (a .apart) z (l .i) (u .0 .left)))))
+    (λ u. (
+      l .inv .0,
+      omega arith,
+      rw (u .4) (mark-row _ f (l .i) (l .out) (l .inv .2) (a .states * 16)
+          (joins t P (u .1 .result) (l .i)) _
+          (λ z. turn-taken t P (a .apart) z (l .i) (u .1 .result) (u .0 .taken) (u .1 .ensures)) (u .3 .ensures)),
+    ))
+    (λ u. (
+      l .inv .0,
+      omega arith,
+      rw (u .1) (mark-skip _ f (l .i) (l .out) (l .inv .2)
+          (λ z. turn-left t P (a .apart) z (l .i) (u .0 .left))),
+    ))
     (c .if1 .came)
 
 returns : tie.Need-returns Inv-loop μ-loop

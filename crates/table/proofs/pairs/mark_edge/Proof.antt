@@ -2,12 +2,12 @@
 use mathlib.Core.Path.{_≡_, sym, ap, _∙_}
 use mathlib.Core.Bool.{true}
 use mathlib.Core.Logic.{⊎-elim}
-use Prim.Native.Nat.{_+_, _-_, _*_, _/_, _≤_, _<_}
+use Prim.Native.Nat.{_+_, _-_, _*_, _≤_, _<_}
 use native.Mathlib.Omega.{arith}
 use denote.Ref.{now}
 use lib.ListN.{length, getD}
 use Rattle.table.specs.Edges.{Arrays, arrays, nextOf, bears, lastBelow}
-use Rattle.table.specs.PairSets.{counts, joins}
+use Rattle.table.specs.PairSets.{joins}
 use Rattle.table.proofs.Marks.{Left, left-start, left-jump, left-put, left-skip, left-done}
 use Rattle.table.proofs.Edges.{bears-edge, link-below, on-le, on-bears, on-some}
 use Rattle.table.proofs.Joins.{edge-target, join-in, join-out, join-only}
@@ -95,9 +95,12 @@ loop-holds c =
     let v = getD (now (s .args .word)) (s .args .i) 0 in
     let k = getD (now (s .args .head)) (c .before .wide .result) 0 in
     let q : k ≡ lastBelow t v n = start-on (c .before) in
-    let f = joins t (now (s .args .pairs)) (s .args .k) (s .args .i) in
-    (on-le t v n k q, on-bears t v n k q, left-jump (now (s .args .out)) f n n _ (left-start (now (s .args .out)) f n) k
-        (λ x. on-some t v n k q (f x) (λ e. join-only t (now (s .args .pairs)) (s .args .k) (s .args .i) x e)))
+    let f = joins t (now (s .args .pairs)) (s .args .k) (s .args .i) in (
+      on-le t v n k q,
+      on-bears t v n k q,
+      left-jump (now (s .args .out)) f n n _ (left-start (now (s .args .out)) f n) k
+          (λ x. on-some t v n k q (f x) (λ e. join-only t (now (s .args .pairs)) (s .args .k) (s .args .i) x e)),
+    )
 
 sub-j : tie.Need-sub-j Inv-loop μ-loop
 sub-j c = search needs
@@ -159,14 +162,17 @@ loop-again c =
     let y = nextOf t (a .i) * 128 + nextOf t e in
     let small : y < length (now (a .out)) = rw (s .pre .3) (omega (arith, first-small s, next-small i)) in
     let go : Left (now (a .out)) f n e (c .before .if1 .out) =
-        ⊎-elim
-        (λ u. rw (u .2) (left-put (now (a .out)) f n (l .cur) (l .out) (l .inv .2) y (i .loop-test .taken) small
-            (λ x. join-in t P (a .k) (a .i) x e (edge-on i) (sym w ∙ u .0 .taken))))
-        (λ u. rw (u .1) (left-skip (now (a .out)) f n (l .cur) (l .out) (l .inv .2) (i .loop-test .taken)
-            (λ x. join-out t P (a .k) (a .i) x e (sym w ∙ u .0 .left))))
-        (c .before .if1 .came) in
-    (omega (arith, on-le t v e k q), on-bears t v e k q, left-jump (now (a .out)) f n e _ go k
-        (λ x. on-some t v e k q (f x) (λ g. join-only t P (a .k) (a .i) x g)))
+    ⊎-elim
+    (λ u. rw (u .2) (left-put (now (a .out)) f n (l .cur) (l .out) (l .inv .2) y (i .loop-test .taken) small
+    (λ x. join-in t P (a .k) (a .i) x e (edge-on i) (sym w ∙ u .0 .taken))))
+    (λ u. rw (u .1) (left-skip (now (a .out)) f n (l .cur) (l .out) (l .inv .2) (i .loop-test .taken)
+    (λ x. join-out t P (a .k) (a .i) x e (sym w ∙ u .0 .left))))
+    (c .before .if1 .came) in (
+      omega (arith, on-le t v e k q),
+      on-bears t v e k q,
+      left-jump (now (a .out)) f n e _ go k
+          (λ x. on-some t v e k q (f x) (λ g. join-only t P (a .k) (a .i) x g)),
+    )
 
 returns : tie.Need-returns Inv-loop μ-loop
 returns c =

@@ -26,9 +26,11 @@ loop-holds c =
     let s = c .before in
     let a = s .args in
     let t = arrays (a .states) (a .n) (now (a .word)) (now (a .next)) in
-    let e : length (rowsOf t) ≡ a .states = length-rows t in
-    (omega arith, subst (λ k. Reached (rowsOf t) k 0 (c .begin .result)) e
-        (c .begin .ensures (rowsOf t) (rw e (s .pre .fits .few))))
+    let e : length (rowsOf t) ≡ a .states = length-rows t in (
+      omega arith,
+      subst (λ k. Reached (rowsOf t) k 0 (c .begin .result)) e
+          (c .begin .ensures (rowsOf t) (rw e (s .pre .fits .few))),
+    )
 
 more-requires : tie.Need-more-requires Inv-loop μ-loop
 more-requires c κs = search needs

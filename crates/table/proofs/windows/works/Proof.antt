@@ -19,11 +19,13 @@ chain-requires c κs =
 works-by-requires : tie.Need-works-by-requires
 works-by-requires c κs =
     let h = c .before .before .before .before .before .before in
-    let w = h .before .before .before .before .before in
-    (record {
-      fits = fits-lent (w .before .args .t) (w .ways .result) (w .before .pre .0) (w .ways .ensures .0);
-      chained = h .chain .ensures;
-    }, w .before .pre .1)
+    let w = h .before .before .before .before .before in (
+      record {
+        fits = fits-lent (w .before .args .t) (w .ways .result) (w .before .pre .0) (w .ways .ensures .0);
+        chained = h .chain .ensures;
+      },
+      w .before .pre .1,
+    )
 
 returns : tie.Need-returns
 returns c =
@@ -31,7 +33,7 @@ returns c =
     let a = w .before .args in
     c .works-by .ensures
     ∙ ap (λ n. works (rowsOf (arrays (a .t .states) n (a .t .word) (a .t .next))) (size (a .memory) (a .lookahead)))
-      (w .ways .ensures .0)
+    (w .ways .ensures .0)
 
 pub works-spec : {M : Type 1} → statement M
 works-spec = tie.close (tie.spec ways-requires chain-requires works-by-requires returns)

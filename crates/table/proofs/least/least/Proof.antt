@@ -1,5 +1,5 @@
 -- Before turn m the best window with memory below m is known, and the sets are those of m words while they are wanted.
-use mathlib.Core.Path.{_≡_, refl, sym, subst}
+use mathlib.Core.Path.{_≡_, refl, subst}
 use mathlib.Core.Logic.{_⊎_, inl, inr, ⊎-elim}
 use Prim.Native.Nat.{_+_, _-_, _≤_, _<_}
 use native.Mathlib.Omega.{arith}
@@ -11,8 +11,8 @@ use Rattle.table.specs.Steps.{size, Reached, Leading}
 use Rattle.table.proofs.RowsOf.{length-rows}
 use Rattle.table.proofs.Leading.{lead-start, lead-small, lead-done}
 use borrow.Author.Needs.{needs}
-use Rattle.table.proofs.windows.least.Statement.{statement}
-use Rattle.table.proofs.windows.least.Tie as tie
+use Rattle.table.proofs.least.least.Statement.{statement}
+use Rattle.table.proofs.least.least.Tie as tie
 
 abbrev Inv-loop : tie.InvT-loop
 Inv-loop states n word next head link g₀ best₀ stop₀ m₀ g best stop m =
@@ -34,11 +34,15 @@ loop-holds : tie.Need-loop-holds Inv-loop μ-loop
 loop-holds c =
     let s = c .before in
     let t = table s in
-    let e : length (rowsOf t) ≡ s .args .states = length-rows t in
-    (omega arith, omega arith, omega arith, inl refl,
-        (λ l. subst (λ k. Reached (rowsOf t) k 0 (c .begin .result)) e
-            (c .begin .ensures (rowsOf t) (rw e (s .pre .fits .few)))),
-        lead-start (rowsOf t))
+    let e : length (rowsOf t) ≡ s .args .states = length-rows t in (
+      omega arith,
+      omega arith,
+      omega arith,
+      inl refl,
+      (λ l. subst (λ k. Reached (rowsOf t) k 0 (c .begin .result)) e
+          (c .begin .ensures (rowsOf t) (rw e (s .pre .fits .few)))),
+      lead-start (rowsOf t),
+    )
 
 better-requires : tie.Need-better-requires Inv-loop μ-loop
 better-requires c κs =
@@ -63,10 +67,14 @@ loop-again : tie.Need-loop-again Inv-loop μ-loop
 loop-again c =
     let b = c .before .before in
     let l = b .before .before .loop in
-    let r = c .before .stop-of .ensures in
-    (omega arith, r .0, r .1, r .2,
-        (λ h. c .more-if .ensures (l .m) (lt-ltb _ _ h) (l .inv .4 (b .before .loop-test .taken))),
-        b .better .ensures)
+    let r = c .before .stop-of .ensures in (
+      omega arith,
+      r .0,
+      r .1,
+      r .2,
+      (λ h. c .more-if .ensures (l .m) (lt-ltb _ _ h) (l .inv .4 (b .before .loop-test .taken))),
+      b .better .ensures,
+    )
 
 returns : tie.Need-returns Inv-loop μ-loop
 returns c =
