@@ -1,7 +1,7 @@
 -- Laws of edges as places and of chains.
--- In order: below-more, below-le, below-bears, some-below, the last edge below a bound; chain-start, chain-skip, chain-put,
--- the chains with one edge more; bears-edge, bears-word, link-below, one edge of a chain; on-le, on-bears, on-some, a place
--- of a chain.
+-- In order: below-more, below-le, below-bears, some-below, the last edge below a bound; chain-start, chain-skip,
+-- chain-put, the chains with one edge more; bears-edge, bears-word, link-below, one edge of a chain; on-le, on-bears,
+-- on-some, a place of a chain.
 -- Assumes nothing.
 use mathlib.Core.Path.{_≡_, refl, sym, ap, ap₂, subst, _∙_}
 use mathlib.Core.Bool.{Bool, true, false, _&&_, _||_, or-false}
@@ -12,7 +12,7 @@ use native.Mathlib.Omega.{arith}
 use native.Mathlib.Decide.{ℕ-discrete}
 use lib.Dec.{eqb}
 use borrow.Author.Tests.{eq-eqb, ne-eqb, eqb-true}
-use lib.ListN.{length, getD, set, length-set, replicate, length-replicate, getD-replicate}
+use lib.ListN.{getD, set, length-set, replicate, length-replicate, getD-replicate}
 use lib.Seq.{getD-set-same, getD-set-other}
 use Rattle.laws.specs.Lists.{if_then_else_}
 use Rattle.table.specs.Marks.{some}

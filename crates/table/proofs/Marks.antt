@@ -1,6 +1,7 @@
 -- Laws of tests over the numbers below n, and of loops that mark places of a set.
--- In order: some-suc, some-more, none-start, found, some-at, none-more, some-stop; put-member; mark-none, mark-blank, marked-member, mark-more,
--- mark-row, mark-skip, mark-put; Left, the same from the last turn to the first, and left-start to left-skip.
+-- In order: some-suc, some-more, none-start, found, some-at, none-more, some-stop; put-member; mark-none,
+-- length-blank, blank-none, mark-blank, marked-member, mark-more, mark-row, mark-skip, mark-put; Left, the same from
+-- the last turn to the first, and left-start, left-done, left-jump, left-put, left-skip.
 -- Assumes nothing.
 use mathlib.Core.Path.{_≡_, refl, sym, ap, ap₂, subst, _∙_}
 use mathlib.Core.Bool.{Bool, true, false, _||_, or-true, or-false, or-assoc, or-comm}

@@ -4,11 +4,11 @@
 use mathlib.Core.Path.{_≡_, refl, sym, ap, ap₂, subst, _∙_}
 use mathlib.Core.Bool.{Bool, true, false, not, _&&_, _||_}
 use mathlib.Core.List.{List, [], _∷_, map}
-use Prim.Native.Nat.{ℕ, zero, suc, _+_, _*_, _/_, _%_, _≤_, _<_}
+use Prim.Native.Nat.{ℕ, suc, _+_, _*_, _/_, _%_, _≤_, _<_}
 use native.Mathlib.Omega.{arith}
 use lib.Dec.{T, T-not, not-T, eqb, eqb→eq, eqb-refl, ltb, ltb→lt, lt→ltb}
-use lib.ListN.{length, set, replicate, length-replicate, getD-replicate}
-use Rattle.laws.specs.Lists.{from, range, all}
+use lib.ListN.{length, set, replicate, getD-replicate}
+use Rattle.laws.specs.Lists.{from, range}
 use Rattle.laws.specs.Sets.{member, has, grid}
 use Rattle.laws.proofs.Tests.{and→, →and, bool-eq, all-below→, →all-below}
 use Rattle.table.specs.Rows.{Rows}

@@ -27,7 +27,8 @@ joins t P k i z j = bears t (wordOf t i) j && (counts P (i / 16) k j && eqb (nex
 abbrev pub leftOut : Bool → ℕ → ℕ
 leftOut apart i = if apart then i % 16 else 16
 
--- the edge i and some edge with its word, and with other data where they must differ, lead from a pair of P to the place z
+-- the edge i and some edge with its word, and with other data where they must differ, lead from a pair of P to the
+-- place z
 abbrev pub joinsAny : Arrays → List Bool → Bool → ℕ → ℕ → Bool
 joinsAny t P apart z i = isEdge t i && some (joins t P (leftOut apart i) i z) (places t)
 

@@ -1,7 +1,7 @@
 // Sets of pairs of states, the pair of x and y at x * 128 + y: all, none, the start's, unions, and the test for none.
 ghost use mathlib.Core.Path.{_≡_};
-ghost use Prim.Native.Nat.{ℕ, _+_, _*_, _≤_, _<_};
-ghost use lib.ListN.{length, getD};
+ghost use Prim.Native.Nat.{_+_, _*_, _≤_, _<_};
+ghost use lib.ListN.{length};
 ghost use Rattle.table.specs.Rows.{Rows};
 ghost use Rattle.table.specs.Works.{allPairs, startPair};
 ghost use Rattle.table.specs.Search.{union, starts, empty};

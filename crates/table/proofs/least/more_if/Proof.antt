@@ -4,8 +4,8 @@ use mathlib.Core.Bool.{Bool, true, false}
 use Prim.Native.Nat.{ℕ}
 use native.Mathlib.Omega.{arith}
 use borrow.Author.Needs.{needs}
-use Rattle.table.proofs.windows.more_if.Statement.{statement}
-use Rattle.table.proofs.windows.more_if.Tie as tie
+use Rattle.table.proofs.least.more_if.Statement.{statement}
+use Rattle.table.proofs.least.more_if.Tie as tie
 
 more-requires : tie.Need-more-requires
 more-requires c κs = search needs

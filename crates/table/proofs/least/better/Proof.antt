@@ -13,8 +13,8 @@ use Rattle.table.proofs.RowsOf.{length-rows, closed-rows}
 use Rattle.table.proofs.Lookahead.{fails-sooner, works-there}
 use Rattle.table.proofs.Leading.{lead-small, lead-take, lead-skip}
 use borrow.Author.Needs.{needs}
-use Rattle.table.proofs.windows.better.Statement.{statement}
-use Rattle.table.proofs.windows.better.Tie as tie
+use Rattle.table.proofs.least.better.Statement.{statement}
+use Rattle.table.proofs.least.better.Tie as tie
 
 abbrev table : tie.Start → Arrays
 table s = arrays (s .args .states) (s .args .n) (now (s .args .word)) (now (s .args .next))
@@ -31,8 +31,8 @@ some s = rw (length-rows (table s)) (s .pre .0 .fits .some)
 -- the steps taken are those of the pairs of a clash for memory m
 gone : (c : tie.After-emptied)
     → let s = c .before .before .before in
-    Emptied (rowsOf (table s)) (hits (rowsOf (table s)) (pasts (rowsOf (table s)) (s .args .m))) (c .before .room .result)
-    (c .emptied .result)
+    Emptied (rowsOf (table s)) (hits (rowsOf (table s)) (pasts (rowsOf (table s)) (s .args .m)))
+    (c .before .room .result) (c .emptied .result)
 gone c =
     let s = c .before .before .before in
     subst (λ H. Emptied (rowsOf (table s)) H (c .before .room .result) (c .emptied .result))

@@ -3,8 +3,8 @@ use mathlib.Core.Path.{refl}
 use mathlib.Core.Logic.{inl, inr}
 use native.Mathlib.Omega.{arith}
 use borrow.Author.Needs.{needs}
-use Rattle.table.proofs.windows.stop_of.Statement.{statement}
-use Rattle.table.proofs.windows.stop_of.Tie as tie
+use Rattle.table.proofs.least.stop_of.Statement.{statement}
+use Rattle.table.proofs.least.stop_of.Tie as tie
 
 add-sum : tie.Need-add-sum
 add-sum c = search needs

@@ -3,8 +3,8 @@ use mathlib.Core.Path.{refl}
 use mathlib.Core.Logic.{inl, inr}
 use native.Mathlib.Omega.{arith}
 use borrow.Author.Needs.{needs}
-use Rattle.table.proofs.windows.room.Statement.{statement}
-use Rattle.table.proofs.windows.room.Tie as tie
+use Rattle.table.proofs.least.room.Statement.{statement}
+use Rattle.table.proofs.least.room.Tie as tie
 
 add-left : tie.Need-add-left
 add-left c = search needs

@@ -7,8 +7,8 @@ use Rattle.table.specs.Steps.{size}
 use Rattle.table.proofs.RowsOf.{fits-lent}
 use Rattle.table.proofs.Leading.{none-found}
 use borrow.Author.Needs.{needs}
-use Rattle.table.proofs.windows.least_window.Statement.{statement}
-use Rattle.table.proofs.windows.least_window.Tie as tie
+use Rattle.table.proofs.least.least_window.Statement.{statement}
+use Rattle.table.proofs.least.least_window.Tie as tie
 
 -- what the search says of the table
 found : (c : tie.After-least)
@@ -17,7 +17,8 @@ found : (c : tie.After-least)
 found c =
     let w = c .before .before .before .before .before .before .before .before .before .before .before .before in
     let t = w .before .args .t in
-    sym (ap (λ n. window (rowsOf (arrays (t .states) n (t .word) (t .next)))) (w .ways .ensures .0)) ∙ c .least .ensures
+    sym (ap (λ n. window (rowsOf (arrays (t .states) n (t .word) (t .next)))) (w .ways .ensures .0))
+    ∙ c .least .ensures
 
 ways-requires : tie.Need-ways-requires
 ways-requires c κs = search needs

@@ -1,5 +1,5 @@
 -- Before turn m the best window with memory below m is known, and the sets are those of m words while they are wanted.
-use mathlib.Core.Path.{_≡_, refl, sym, subst}
+use mathlib.Core.Path.{_≡_, refl, subst}
 use mathlib.Core.Logic.{_⊎_, inl, inr, ⊎-elim}
 use Prim.Native.Nat.{_+_, _-_, _≤_, _<_}
 use native.Mathlib.Omega.{arith}
@@ -11,8 +11,8 @@ use Rattle.table.specs.Steps.{size, Reached, Leading}
 use Rattle.table.proofs.RowsOf.{length-rows}
 use Rattle.table.proofs.Leading.{lead-start, lead-small, lead-done}
 use borrow.Author.Needs.{needs}
-use Rattle.table.proofs.windows.least.Statement.{statement}
-use Rattle.table.proofs.windows.least.Tie as tie
+use Rattle.table.proofs.least.least.Statement.{statement}
+use Rattle.table.proofs.least.least.Tie as tie
 
 abbrev Inv-loop : tie.InvT-loop
 Inv-loop states n word next head link g₀ best₀ stop₀ m₀ g best stop m =
