@@ -30,3 +30,7 @@ pub mod CodeFind
 pub mod CodeChoose
 pub mod CodeRun
 pub mod CodeCandidates
+pub mod CodePart
+pub mod CodeKept
+pub mod CodeState
+pub mod CodeSplit
