@@ -1,32 +1,31 @@
 -- The outcomes of compiling, each with its reason; and "no code" is said exactly when there is none.
 -- In order: Reason, reason; ways-pos; weighs-nothing, no-vector, vector-none; no-code-exact; greatest-vector.
 -- Assumes nothing.
-use mathlib.Core.Path.{_≡_, refl, sym, ap, subst, _∙_}
+use mathlib.Core.Path.{_≡_, refl, subst, _∙_}
 use mathlib.Core.Logic.{_↔_}
 use mathlib.Core.Bool.{Bool, true, false, not}
-use mathlib.Core.List.{List, map}
-use Prim.Native.Nat.{ℕ, zero, suc, _+_, _^_, _≤_, _<_}
+use mathlib.Core.List.{List}
+use Prim.Native.Nat.{ℕ, _≤_, _<_}
 use native.Mathlib.Omega.{arith}
 use native.Mathlib.Decide.{decLt}
-use lib.Dec.{T, ltb, leb}
+use lib.Dec.{ltb, leb}
 use lib.Pow.{pow-pos}
 use native.Mathlib.Nat.{le-of-eq}
 use lib.ListN.{length, getD, List·getD-eq-default}
 use borrow.Author.Tests.{ltb-true, ltb-false, leb-true, leb-false}
 use Rattle.laws.specs.Lists.{sum}
-use Rattle.laws.specs.Sums.{Each, tot}
 use Rattle.laws.proofs.Sums.{tot-zero, tot-eq, each-always}
-use Rattle.answer.specs.declared.Refusal.{Refusal}
 use Rattle.answer.specs.declared.Refusal.the-variants.{NoCode, TooHeavy, TooManyEdges, NoWindow}
 use Rattle.answer.specs.Outcomes.{Outcome, done, refused, unless}
 use Rattle.answer.proofs.Outcomes.{unless-false}
 use Rattle.table.specs.Rows.{Code}
 use Rattle.table.specs.Search.{window}
-use Rattle.graph.specs.Weights.{Enough, AtMost}
+use Rattle.graph.specs.Weights.{AtMost}
 use Rattle.graph.specs.Component.{componentStates, componentGraph, weightOf}
 use Rattle.graph.proofs.Weights.{weights-length, weights-enough, weights-greatest, weights-cap}
 use Rattle.compiler.specs.Jobs.{Job, Allowed}
 use Rattle.compiler.specs.Compile.{ways, graphOf, weightsOf, componentOf, finishedOf, tableFor, code, compile}
+use Rattle.compiler.specs.Compile.{Vector}
 use Rattle.compiler.proofs.Compiled.{none-weighs}
 
 -- why compiling comes to an outcome
@@ -47,10 +46,13 @@ reason j =
   where
     w : ℕ
     w = sum (componentOf j .weights)
+
     e : ℕ
     e = length (finishedOf j .arcs)
+
     m : ℕ
     m = window (tableFor j) .memory
+
     go : (b₁ : Bool) → ltb 0 w ≡ b₁ → (b₂ : Bool) → leb w 128 ≡ b₂ → (b₃ : Bool) → ltb 2048 e ≡ b₃
         → (b₄ : Bool) → leb m 15 ≡ b₄
         → Reason j (unless NoCode b₁ (unless TooHeavy b₂ (unless TooManyEdges (not b₃)
@@ -66,18 +68,12 @@ pub ways-pos : (j : Job) → 0 < ways j
 ways-pos j = pow-pos (j .p)
 
 -- ---- no code
--- a vector of whole numbers from 0 to cap, one for each state, that meets the inequality
-pub record Vector (j : Job) (u : List ℕ) : Type 0 where
-  pub short : length u ≤ length (j .constraint)
-  pub capped : (s : ℕ) → getD u s 0 ≤ j .cap
-  pub enough : Enough (ways j) (graphOf j) u
-
 -- the weights are such a vector, and the greatest
 pub weights-vector : (j : Job) → Vector j (weightsOf j)
 weights-vector j = record {
   short = le-of-eq (weights-length (ways j) (graphOf j) (j .cap) (length (j .constraint)));
   capped = weights-cap (ways j) (graphOf j) (j .cap) (length (j .constraint));
-  enough = weights-enough (ways j) (graphOf j) (j .cap) (length (j .constraint)) (ways-pos j)
+  enough = weights-enough (ways j) (graphOf j) (j .cap) (length (j .constraint)) (ways-pos j);
 }
 
 pub greatest-vector : (j : Job) (u : List ℕ) → Vector j u → AtMost u (weightsOf j)
@@ -111,9 +107,11 @@ no-code-exact j a = (there, here)
   where
     zero-sum : Reason j (refused NoCode) → sum (componentOf j .weights) ≡ 0
     zero-sum (nothing z) = z
+
     there : compile j ≡ refused NoCode → (u : List ℕ) → Vector j u → (s : ℕ) → getD u s 0 ≡ 0
     there e u v s =
         let z = weighs-nothing j a (zero-sum (subst (Reason j) e (reason j))) s in
         omega (arith, greatest-vector j u v s)
+
     here : ((u : List ℕ) → Vector j u → (s : ℕ) → getD u s 0 ≡ 0) → compile j ≡ refused NoCode
     here f = says-none j (nothing-weighs j (f (weightsOf j) (weights-vector j)))

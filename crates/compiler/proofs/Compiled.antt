@@ -1,5 +1,6 @@
--- What compiling makes of a constraint: n edges a state, each a word that the constraint reads between the roots; and when
--- all weights are 0.
+-- What compiling makes of a constraint: n edges a state, each a word that the constraint reads between the roots; and
+-- when all weights are 0.
+-- In order: live-some, first-inv, states-few, table-coded, none-weighs, Coded.
 -- Assumes nothing.
 use mathlib.Core.Path.{_≡_, refl, sym, ap, _∙_}
 use mathlib.Core.List.{List, [], _∷_}
@@ -45,7 +46,7 @@ module _ (c : Constraint) (well : Well c) (n q cap : ℕ) (hn : 0 < n) where
   inside = rw (weights-length n g cap (length c)) (power-inside c well q)
 
   -- a component that weighs something has a live state
-  live-some : 0 < sum (x .weights) → (z : ℕ) × T (elem z (live v))
+  pub live-some : 0 < sum (x .weights) → (z : ℕ) × T (elem z (live v))
   unfolding componentGraph componentStates tableStates tableOf splitAll
   live-some h = go (tot-some (λ s. getD v s 0) (λ s. T (elem s (live v))) C h
       (each-filter (λ s. T (elem s (live v))) _ (live v)
@@ -69,12 +70,12 @@ module _ (c : Constraint) (well : Well c) (n q cap : ℕ) (hn : 0 < n) where
         record {
           over = each-image (λ e. Over (e .source) (e .word) (e .target)) (renamed C) (within C g)
               (each-map _ (λ e. Over (indexOf (e .source) C) (e .word) (indexOf (e .target) C)) rename (within C g)
-                  (each-both _ _ (within C g) (in-both v g inside z ez)
-                      (each-filter (λ e. Reads c q (e .source) (e .word) (e .target)) (both C) g
-                      (each-map _ _ (λ e h t. h) g (power-reads c q)))));
+              (each-both _ _ (within C g) (in-both v g inside z ez)
+              (each-filter (λ e. Reads c q (e .source) (e .word) (e .target)) (both C) g
+              (each-map _ _ (λ e h t. h) g (power-reads c q)))));
           base = λ y h. refl;
           from = λ y h. h;
-          more = le-refl _
+          more = le-refl _;
         }
       where
         rename : (e : Arc) → (T (elem (e .source) C) × T (elem (e .target) C))
@@ -91,37 +92,41 @@ module _ (c : Constraint) (well : Well c) (n q cap : ℕ) (hn : 0 < n) where
     states-few =
         let I : Inv n (sum (x .weights)) y = splitted-end n (sum (x .weights)) hn x first-inv .0 in
         le-trans (le-of-eq (length-map (tableStates n y) _))
-            (le-trans (reached-le (tableStates n y) refl) (states-le n (sum (x .weights)) hn y I))
+        (le-trans (reached-le (tableStates n y) refl) (states-le n (sum (x .weights)) hn y I))
       where
         reached-le : (S : List ℕ) → tableStates n y ≡ S → length (tableStates n y) ≤ length (y .weights)
         reached-le S e =
             le-trans (le-of-eq (sym (tot-length (tableStates n y))))
-                (le-trans (tot-filter-le (λ s. 1) _ (range (length (y .weights))))
-                    (le-of-eq (tot-length (range (length (y .weights))) ∙ length-from 0 (length (y .weights)))))
+            (le-trans (tot-filter-le (λ s. 1) _ (range (length (y .weights))))
+            (le-of-eq (tot-length (range (length (y .weights))) ∙ length-from 0 (length (y .weights)))))
 
-    pub coded : length (y .arcs) ≤ 2048
+    pub table-coded : length (y .arcs) ≤ 2048
         → (root : ℕ → ℕ) × Tabled (Reads c q) n (tableOf n y) root × (root 0 ≡ getD C 0 0)
     unfolding componentGraph componentStates tableStates tableOf splitAll
-    coded few = go (splits-rooted Over (length (x .weights)) n (sum (x .weights)) hn (sum (x .weights)) x
+    table-coded few = go (splits-rooted Over (length (x .weights)) n (sum (x .weights)) hn (sum (x .weights)) x
         (λ y. y) first-inv first-rooted)
       where
         I : Inv n (sum (x .weights)) y
         I = splitted-end n (sum (x .weights)) hn x first-inv .0
+
         C-pos : (l : List ℕ) (s : ℕ) → T (elem s l) → 0 < length l
         C-pos [] s t = absurd t
         C-pos (a ∷ l) s t = suc-le-suc zero-le
+
         pos : 0 < length (x .weights)
         pos = rw (v′-length v g inside z ez) (C-pos C _ (start-C v g inside z ez))
+
         go : (r : ℕ → ℕ) × Rooted Over (length (x .weights)) y r
             → (root : ℕ → ℕ) × Tabled (Reads c q) n (tableOf n y) root × (root 0 ≡ getD C 0 0)
         go (r, R) =
             let many : 0 < length (y .weights) = le-trans pos (R .more) in
             let A : Tabled Over n (tableOf n y) (λ j. r (getD (tableStates n y) j 0)) =
-                tabled n y (I .inside) many (splitted-full n (sum (x .weights)) hn x first-inv few) Over r
-                (R .over) in
-            (λ j. getD C (r (getD (tableStates n y) j 0)) 0,
-             record { some = A .some; full = A .full; next = A .next; over = A .over },
-             ap (λ k. getD C (r k) 0) (reached-first n y many) ∙ ap (λ k. getD C k 0) (R .base 0 pos))
+            tabled n y (I .inside) many (splitted-full n (sum (x .weights)) hn x first-inv few) Over r
+            (R .over) in (
+              λ j. getD C (r (getD (tableStates n y) j 0)) 0,
+              record { some = A .some; full = A .full; next = A .next; over = A .over },
+              ap (λ k. getD C (r k) 0) (reached-first n y many) ∙ ap (λ k. getD C k 0) (R .base 0 pos),
+            )
 
   -- refusal 3 exactly when all weights are 0
   pub none-weighs : sum (x .weights) ≡ 0 → (s : ℕ) → s < length v → getD v s 0 ≡ 0
@@ -132,8 +137,8 @@ module _ (c : Constraint) (well : Well c) (n q cap : ℕ) (hn : 0 < n) where
       go zero e = e
       go (suc k) e =
           let t : T (elem s (live v)) =
-              →elem-filter (weighs v) s (range (length v)) (elem-range (length v) s l)
-              (lt→ltb 0 (getD v s 0) (rw e (suc-le-suc zero-le))) in
+          →elem-filter (weighs v) s (range (length v)) (elem-range (length v) s l)
+          (lt→ltb 0 (getD v s 0) (rw e (suc-le-suc zero-le))) in
           let I : Inv n (sum (x .weights)) x = first-inv s t in
           let p : 0 < length (x .weights) = rw (v′-length v g inside s t) (C-pos C _ (start-C v g inside s t)) in
           absurd (omega (arith, states-le n (sum (x .weights)) hn x I))

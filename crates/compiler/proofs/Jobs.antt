@@ -39,8 +39,12 @@ parameters p q cap t =
     let (q₁, q₂) = and→ (leb 1 q) (leb q 8) tq in
     let (c₁, c₂) = and→ (leb 1 cap) (leb cap 16) tc in
     record {
-      p₁ = leb→le 1 p p₁; p₂ = leb→le p 4 p₂; q₁ = leb→le 1 q q₁; q₂ = leb→le q 8 q₂; cap₁ = leb→le 1 cap c₁;
-      cap₂ = leb→le cap 16 c₂
+      p₁ = leb→le 1 p p₁;
+      p₂ = leb→le p 4 p₂;
+      q₁ = leb→le 1 q q₁;
+      q₂ = leb→le q 8 q₂;
+      cap₁ = leb→le 1 cap c₁;
+      cap₂ = leb→le cap 16 c₂;
     }
 
 target : (K s : ℕ) → T (goodState K s) → Target K s
@@ -84,8 +88,15 @@ readJob-allowed xs j e =
     let n₁ : 1 ≤ K = leb→le 1 K k₁ in
     let n₂ : K ≤ 16 = leb→le K 16 k₂ in
     subst Allowed (done-inj found j e₅) (record {
-      p₁ = r .p₁; p₂ = r .p₂; q₁ = r .q₁; q₂ = r .q₂; cap₁ = r .cap₁; cap₂ = r .cap₂; k₁ = rw l n₁; k₂ = rw l n₂;
-      well = states-well K c l ts
+      p₁ = r .p₁;
+      p₂ = r .p₂;
+      q₁ = r .q₁;
+      q₂ = r .q₂;
+      cap₁ = r .cap₁;
+      cap₂ = r .cap₂;
+      k₁ = rw l n₁;
+      k₂ = rw l n₂;
+      well = states-well K c l ts;
     })
 
 pub readRunLength-allowed : (xs : List ℕ) (j : Job) → readRunLength xs ≡ done j → Allowed j
@@ -107,6 +118,13 @@ readRunLength-allowed xs j e =
     let n₁ : 1 ≤ k + 1 = omega arith in
     let n₂ : k + 1 ≤ 16 = omega arith in
     subst Allowed (done-inj found j e₃) (record {
-      p₁ = r .p₁; p₂ = r .p₂; q₁ = r .q₁; q₂ = r .q₂; cap₁ = r .cap₁; cap₂ = r .cap₂; k₁ = rw l n₁; k₂ = rw l n₂;
-      well = runLength-well d k
+      p₁ = r .p₁;
+      p₂ = r .p₂;
+      q₁ = r .q₁;
+      q₂ = r .q₂;
+      cap₁ = r .cap₁;
+      cap₂ = r .cap₂;
+      k₁ = rw l n₁;
+      k₂ = rw l n₂;
+      well = runLength-well d k;
     })

@@ -1,4 +1,5 @@
--- Both kinds of job, from bytes: "Job: 8 below four bytes, 1, K by 2, 8, next states by 2 [..] Run-length job: 8, 1, 2".
+-- Both kinds of job, from bytes: "Job: 8 below four bytes, 1, K by 2, 8, next states by 2 [..] Run-length job: 8, 1,
+-- 2".
 -- In order: Job; goodParameters; statesOf, readJob; readRunLength; Allowed, the jobs that pass these checks.
 -- Assumes nothing.
 use mathlib.Core.Bool.{Bool, _&&_}

@@ -1,3 +1,5 @@
+pub mod CodeKeys
+pub mod CodeCarry
 pub mod Arcs
 pub mod Exchange
 pub mod Weights
@@ -10,6 +12,7 @@ pub mod Choice
 pub mod Candidates
 pub mod Sorted
 pub mod Runs
+pub mod RunUnique
 pub mod Parted
 pub mod PartedSums
 pub mod PartedDistinct
@@ -21,3 +24,9 @@ pub mod Split
 pub mod Loop
 pub mod Roots
 pub mod TableOf
+pub mod CodeLists
+pub mod CodeFirst
+pub mod CodeFind
+pub mod CodeChoose
+pub mod CodeRun
+pub mod CodeCandidates

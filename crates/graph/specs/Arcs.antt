@@ -1,4 +1,5 @@
--- The graph in work, as a flat list of edges in the order in which they were made, and the graph of words of a constraint.
+-- The graph in work, as a flat list of edges in the order in which they were made, and the graph of words of a
+-- constraint.
 -- In order: Arc, an edge of the graph in work; Work; leaves, enters, out; wordFrom, wordsFrom, leadsOn, power; Reads,
 -- what an edge of it says.
 -- Assumes nothing.
@@ -50,7 +51,8 @@ wordsFrom c q s = map (wordFrom c q s) (range (2 ^ q))
 abbrev pub leadsOn : Arc → Bool
 leadsOn e = not (eqb (e .target) none)
 
--- the words of q bits that the constraint allows from each state (in the field: the q-th power of the constraint's graph)
+-- the words of q bits that the constraint allows from each state (in the field: the q-th power of the constraint's
+-- graph)
 unfoldable pub power : Constraint → ℕ → List Arc
 power c q = filter leadsOn (concat (map (wordsFrom c q) (range (length c))))
 

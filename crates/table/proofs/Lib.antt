@@ -16,3 +16,13 @@ pub mod PairQueue
 pub mod PairTests
 pub mod PairPlaces
 pub mod Accepted
+pub mod Marks
+pub mod Edges
+pub mod Joins
+pub mod RowsOf
+pub mod PairSets
+pub mod TwoEdges
+pub mod SetLaws
+pub mod Steps
+pub mod Lookahead
+pub mod Leading

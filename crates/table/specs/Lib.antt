@@ -8,3 +8,7 @@ pub mod Formed
 pub mod Accepted
 pub mod Value
 pub mod Obeying
+pub mod Marks
+pub mod Edges
+pub mod PairSets
+pub mod Steps

@@ -32,12 +32,16 @@ rowsIn t = map (rowIn t) (range (t .states))
 -- the code
 abbrev pub codeIn : Table → Code
 codeIn t = record {
-  p = t .p; q = t .q; window = record { memory = t .memory; lookahead = t .lookahead };
-  constraint = constraintOf (t .constraint); start = t .start; table = rowsIn t
+  p = t .p;
+  q = t .q;
+  window = record { memory = t .memory; lookahead = t .lookahead };
+  constraint = constraintOf (t .constraint);
+  start = t .start;
+  table = rowsIn t;
 }
 
--- a table that fits its arrays, with words of q bits and edges that lead to states: no caller can fail it, since it holds of
--- every table that `load` gives
+-- a table that fits its arrays, with words of q bits and edges that lead to states: no caller can fail it, since it
+-- holds of every table that `load` gives
 pub record Ready (t : Table) : Type 0 where
   pub some : 1 ≤ t .states
   pub few : t .states ≤ 128
