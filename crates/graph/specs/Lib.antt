@@ -5,3 +5,5 @@ pub mod Splitting
 pub mod TableOf
 pub mod Invariant
 pub mod Value
+pub mod EdgeKeys
+pub mod SplitParts

@@ -1,6 +1,6 @@
 -- "Weights" (in the field: an approximate eigenvector of the graph of words).
--- In order: wordsBetween, A(s, t); product, A v; Enough, the inequality; lower, lowered, weights; weight and total, the
--- weights to which edges lead.
+-- In order: wordsBetween, A(s, t); product, A v; Enough, the inequality; AtMost, the order of vectors; lower, lowered,
+-- weights; weight and total, the weights to which edges lead.
 -- Assumes nothing.
 use mathlib.Core.List.{List, map}
 use Prim.Native.Nat.{ℕ, _*_, _/_, _≤_, min}
@@ -25,6 +25,10 @@ product g v s = tot (term g v s) (range (length v))
 abbrev pub Enough : ℕ → List Arc → List ℕ → Type 0
 Enough n g v = (s : ℕ) → getD v s 0 * n ≤ product g v s
 
+-- u is at most v in every entry
+abbrev pub AtMost : List ℕ → List ℕ → Type 0
+AtMost u v = (s : ℕ) → getD u s 0 ≤ getD v s 0
+
 -- "the smaller of the old weight and the sum, divided by n and rounded down"
 abbrev pub lower : ℕ → List Arc → List ℕ → ℕ → ℕ
 lower n g v s = min (getD v s 0) (product g v s / n)
@@ -33,8 +37,8 @@ lower n g v s = min (getD v s 0) (product g v s / n)
 abbrev pub lowered : ℕ → List Arc → List ℕ → List ℕ
 lowered n g v = map (lower n g v) (range (length v))
 
--- "Start with cap at every state [..] until nothing changes": each round that changes something takes at least 1 away, so
--- K × cap rounds are enough
+-- "Start with cap at every state [..] until nothing changes": each round that changes something takes at least 1 away,
+-- so K × cap rounds are enough
 unfoldable pub weights : ℕ → ℕ → ℕ → List Arc → List ℕ
 weights n cap K g = iterate (lowered n g) (K * cap) (replicate K cap)
 

@@ -1,5 +1,5 @@
 -- Bytes parse to a code exactly when they are the record of it, its fields are in range, and its table is accepted.
--- In order: parse-exact.
+-- In order: parse-exact; parse-canonical.
 -- Assumes nothing.
 use mathlib.Core.Path.{_≡_, sym, ap, _∙_}
 use mathlib.Core.Logic.{_↔_}
@@ -28,5 +28,9 @@ parse-exact xs b c = (
       (a .formed, a .canonical, (obeys-exact c f .0 (a .obeys), window-exact c f .0 (a .works)))),
   (λ (t, e, (o, w)).
       let f = formed→ c t in
-      ap parse (sym e) ∙ parse-pack-good c t (obeys-exact c f .1 o) (window-exact c f .1 w))
+      ap parse (sym e) ∙ parse-pack-good c t (obeys-exact c f .1 o) (window-exact c f .1 w)),
 )
+
+-- the bytes are the record of the code that they hold
+pub parse-canonical : (xs : List ℕ) → Below 256 xs → (c : Code) → parse xs ≡ done c → pack c ≡ xs
+parse-canonical xs b c e = parse-good xs b c e .canonical

@@ -1,2 +1,4 @@
 pub mod Layout
 pub mod Parse
+pub mod Checks
+pub mod Places

@@ -12,6 +12,9 @@ pub mod Shape
 pub mod Reached
 pub mod AnyClosure
 pub mod Obeys
+pub mod PairQueue
+pub mod PairTests
+pub mod PairPlaces
 pub mod Accepted
 pub mod Marks
 pub mod Edges
@@ -23,3 +26,4 @@ pub mod SetLaws
 pub mod Steps
 pub mod Lookahead
 pub mod Leading
+pub mod Ready

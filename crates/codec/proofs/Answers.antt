@@ -1,0 +1,130 @@
+-- Demand 2, second half, of the outcomes of encoding and decoding under a code: round trip, and recordings recognised.
+-- In order: firstBad-below, below-firstBad; allBelow-true, allBelow→; words-below; →encoded, encoded→, →decoded,
+-- decoded→; returns; recognised-answers.
+-- Assumes nothing.
+use mathlib.Core.Path.{_≡_, refl, sym, ap, subst, _∙_}
+use mathlib.Core.Logic.{_↔_}
+use mathlib.Core.Bool.{Bool, true, false}
+use mathlib.Core.List.{List, [], _∷_, _++_}
+use Prim.Native.Nat.{ℕ, suc, _+_, _-_, _^_, _≤_, _<_}
+use native.Mathlib.Omega.{arith}
+use lib.Dec.{T, ltb, leb, eqb, ltb→lt, le→leb, leb→le, eqb→eq, eqb-refl}
+use lib.Pow.{pow-pos}
+use lib.ListN.{length, replicate}
+use borrow.Author.Tests.{lt-ltb}
+use Rattle.laws.specs.Lists.{if_then_else_}
+use Rattle.laws.specs.Sums.{Below}
+use Rattle.laws.proofs.Lists.{below-append, below-zeros}
+use Rattle.answer.specs.declared.Refusal.the-variants.{BadByte, TooFewWords, ShortOutput}
+use Rattle.answer.specs.Outcomes.{Outcome, done, unless}
+use Rattle.answer.proofs.Outcomes.{done-inj, unless-true, unless→}
+use Rattle.table.specs.Rows.{Code}
+use Rattle.table.specs.Paths.{Blocks, recording}
+use Rattle.table.specs.Window.{Window}
+use Rattle.table.specs.Formed.{Formed}
+use Rattle.table.specs.Accepted.{Sound}
+use Rattle.table.proofs.Paths.{length-recording, blocks→path, path-words}
+use Rattle.table.proofs.Shape.{words}
+use Rattle.table.proofs.Accepted.{sound}
+use Rattle.codec.specs.Reading.{decode}
+use Rattle.codec.specs.Answers.{firstBad, allBelow, encoded, decoded}
+use Rattle.codec.specs.Damage.{Recording}
+use Rattle.codec.proofs.RoundTrip.{decode-recording}
+
+-- ---- the first bad byte
+pub firstBad-below : (n : ℕ) (xs : List ℕ) → Below n xs → firstBad n xs ≡ length xs
+firstBad-below n [] b = refl
+firstBad-below n (x ∷ xs) (a, b) = rw (lt-ltb x n a) (ap suc (firstBad-below n xs b))
+
+pub below-firstBad : (n : ℕ) (xs : List ℕ) → firstBad n xs ≡ length xs → Below n xs
+below-firstBad n [] e = tt
+below-firstBad n (x ∷ xs) e = go (ltb x n) refl e (λ e′. below-firstBad n xs e′)
+  where
+    go : (b : Bool) → ltb x n ≡ b → (if b then suc (firstBad n xs) else 0) ≡ suc (length xs)
+        → (firstBad n xs ≡ length xs → Below n xs) → (x < n) × Below n xs
+    go true t e f = (ltb→lt x n (rw t tt), f (omega arith))
+    go false t e f = absurd (omega arith)
+
+pub allBelow-true : (n : ℕ) (xs result : List ℕ) → Below n xs → allBelow n xs result ≡ done result
+allBelow-true n xs result b =
+    unless-true (BadByte (firstBad n xs)) (eqb (firstBad n xs) (length xs)) (done result)
+    (rw (firstBad-below n xs b) (eqb-refl (length xs)))
+
+pub allBelow→ : (n : ℕ) (xs result ys : List ℕ) → allBelow n xs result ≡ done ys → Below n xs × (result ≡ ys)
+allBelow→ n xs result ys e =
+    let (t, q) = unless→ (BadByte (firstBad n xs)) (eqb (firstBad n xs) (length xs)) (done result) ys e in
+    (below-firstBad n xs (eqb→eq (firstBad n xs) (length xs) t), done-inj result ys q)
+
+-- ---- when encoding and decoding are done
+module _ (c : Code) where
+  pub →encoded : (room : ℕ) (ds : List ℕ) → Blocks c ds → length ds + c .window .lookahead ≤ room
+      → encoded c room ds ≡ done (recording c ds)
+  unfolding encoded
+  →encoded room ds b h =
+      unless-true ShortOutput (leb (length ds + c .window .lookahead) room) (allBelow (2 ^ c .p) ds (recording c ds))
+      (le→leb (length ds + c .window .lookahead) room h)
+      ∙ allBelow-true (2 ^ c .p) ds (recording c ds) b
+
+  pub encoded→ : (room : ℕ) (ds xs : List ℕ) → encoded c room ds ≡ done xs
+      → (length ds + c .window .lookahead ≤ room) × Blocks c ds × (recording c ds ≡ xs)
+  unfolding encoded
+  encoded→ room ds xs e =
+      let (t, q) = unless→ ShortOutput (leb (length ds + c .window .lookahead) room)
+      (allBelow (2 ^ c .p) ds (recording c ds)) xs e in
+      let (b, r) = allBelow→ (2 ^ c .p) ds (recording c ds) xs q in
+      (leb→le (length ds + c .window .lookahead) room t, b, r)
+
+  pub →decoded : (room : ℕ) (ws : List ℕ) → c .window .lookahead ≤ length ws
+      → length ws - c .window .lookahead ≤ room → Below (2 ^ c .q) ws → decoded c room ws ≡ done (decode c ws)
+  unfolding decoded
+  →decoded room ws l h b =
+      let last = allBelow (2 ^ c .q) ws (decode c ws) in
+      unless-true TooFewWords (leb (c .window .lookahead) (length ws))
+      (unless ShortOutput (leb (length ws - c .window .lookahead) room) last)
+      (le→leb (c .window .lookahead) (length ws) l)
+      ∙ unless-true ShortOutput (leb (length ws - c .window .lookahead) room) last
+      (le→leb (length ws - c .window .lookahead) room h)
+      ∙ allBelow-true (2 ^ c .q) ws (decode c ws) b
+
+  pub decoded→ : (room : ℕ) (ws xs : List ℕ) → decoded c room ws ≡ done xs
+      → (c .window .lookahead ≤ length ws) × Below (2 ^ c .q) ws × (decode c ws ≡ xs)
+  unfolding decoded
+  decoded→ room ws xs e =
+      let last = allBelow (2 ^ c .q) ws (decode c ws) in
+      let (t, q) = unless→ TooFewWords (leb (c .window .lookahead) (length ws))
+      (unless ShortOutput (leb (length ws - c .window .lookahead) room) last) xs e in
+      let (t′, q′) = unless→ ShortOutput (leb (length ws - c .window .lookahead) room) last xs q in
+      let (b, r) = allBelow→ (2 ^ c .q) ws (decode c ws) xs q′ in
+      (leb→le (c .window .lookahead) (length ws) t, b, r)
+
+-- ---- under an accepted table
+module _ (c : Code) (f : Formed c) (w : Window (c .table) (c .window)) where
+  -- the words of a recording have q bits
+  pub words-below : (ds : List ℕ) → Blocks c ds → Below (2 ^ c .q) (recording c ds)
+  words-below ds b =
+      let g : Sound c = sound c f w in
+      let D = ds ++ replicate (c .window .lookahead) 0 in
+      path-words (c .table) (2 ^ c .q) (words (c .p) (c .q) (length (c .table)) (c .table) (f .rows)) D 0
+      (blocks→path (c .table) (2 ^ c .p) (g .closed) (g .full) D 0 (g .some)
+      (below-append (2 ^ c .p) ds (replicate (c .window .lookahead) 0) b
+      (below-zeros (2 ^ c .p) (c .window .lookahead) (pow-pos (c .p)))))
+
+  -- decoding a recording returns its data
+  pub returns : (room room′ : ℕ) (ds R : List ℕ) → length ds ≤ room′ → encoded c room ds ≡ done R
+      → decoded c room′ R ≡ done ds
+  returns room room′ ds R h e =
+      let (_, b, q) = encoded→ c room ds R e in
+      let l : length R ≡ length ds + c .window .lookahead = ap length (sym q) ∙ length-recording c ds in
+      →decoded c room′ R (omega arith) (omega arith) (subst (Below (2 ^ c .q)) q (words-below ds b))
+      ∙ ap done (ap (decode c) (sym q) ∙ decode-recording c (sound c f w) ds b)
+
+  -- a list is a recording exactly when decoding it is done and encoding what it gives is done and gives the list
+  pub recognised-answers : (room : ℕ) (L : List ℕ) → length L ≤ room
+      → Recording c L ↔ ((ds : List ℕ) × (decoded c room L ≡ done ds) × (encoded c room ds ≡ done L))
+  recognised-answers room L h = (there, (λ (ds, d, e). let (_, b, q) = encoded→ c room ds L e in (ds, b, q)))
+    where
+      there : Recording c L → (ds : List ℕ) × (decoded c room L ≡ done ds) × (encoded c room ds ≡ done L)
+      there (ds, b, e) =
+          let l : length ds + c .window .lookahead ≡ length L = sym (length-recording c ds) ∙ ap length e in
+          let q : encoded c room ds ≡ done L = →encoded c room ds b (omega arith) ∙ ap done e in
+          (ds, returns room room ds L (omega arith) q, q)

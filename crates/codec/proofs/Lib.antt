@@ -1,0 +1,6 @@
+pub mod Reading
+pub mod Damage
+pub mod Local
+pub mod RoundTrip
+pub mod Answers
+pub mod Promises

@@ -1,0 +1,5 @@
+pub mod Compiled
+pub mod Jobs
+pub mod Compile
+pub mod Accepted
+pub mod Promises

@@ -1,0 +1,117 @@
+-- Edges: when two are the same, how often one occurs, sorting, and the sum over the edges that a list names.
+-- In order: same→eq, same-refl, same-is, among→count, count→among, each-among, tot-insert, tot-sort, length-sort,
+-- tot-same, pick.
+-- Assumes nothing.
+use mathlib.Core.Path.{_≡_, refl, sym, ap, ap₂, subst, _∙_}
+use mathlib.Core.Bool.{Bool, true, false, _&&_, _||_}
+use mathlib.Core.List.{List, [], _∷_}
+use Prim.Native.Nat.{ℕ, _+_, _*_, _≤_, _<_}
+use native.Mathlib.Nat.{zero-add, add-zero, zero-mul}
+use native.Mathlib.Omega.{arith}
+use lib.Dec.{T, eqb, eqb→eq, eqb-refl}
+use lib.ListN.{length}
+use Rattle.laws.specs.Lists.{if_then_else_}
+use Rattle.laws.proofs.Tests.{and→, →and, →orL, →orR, so, nay, Whether, T→true}
+use Rattle.laws.specs.Sums.{Each, tot, mask, one}
+use Rattle.laws.proofs.Sums.{each-map, each-always, tot-eq, tot-add, tot-zero, tot-length, any→count, count→any}
+use Rattle.graph.specs.Arcs.{Arc}
+use Rattle.graph.specs.Splitting.{earlier, insert, sort, same, among}
+use Rattle.graph.specs.Invariant.{count}
+
+-- ---- a test with what it says
+
+pub same→eq : (e f : Arc) → T (same e f) → e ≡ f
+same→eq e f t =
+    let (a, u) = and→ (eqb (e .source) (f .source)) (eqb (e .word) (f .word) && eqb (e .target) (f .target)) t in
+    let (b, c) = and→ (eqb (e .word) (f .word)) (eqb (e .target) (f .target)) u in
+    λ i. record {
+      source = eqb→eq (e .source) (f .source) a i;
+      word = eqb→eq (e .word) (f .word) b i;
+      target =
+          eqb→eq (e .target) (f .target) c i;
+    }
+
+pub same-refl : (e : Arc) → T (same e e)
+same-refl e =
+    →and (eqb (e .source) (e .source)) (eqb (e .word) (e .word) && eqb (e .target) (e .target)) (eqb-refl (e .source))
+    (→and (eqb (e .word) (e .word)) (eqb (e .target) (e .target)) (eqb-refl (e .word)) (eqb-refl (e .target)))
+
+pub same-is : (e f : Arc) → Whether (e ≡ f) (same e f)
+same-is e f = go (same e f) refl
+  where
+    go : (t : Bool) → same e f ≡ t → Whether (e ≡ f) (same e f)
+    go true q = so (same→eq e f (rw q tt)) q
+    go false q = nay (λ p. let u : T (same e f) = subst (λ y. T (same e y)) p (same-refl e) in rw q at u) q
+
+-- ---- how often an arc occurs
+
+pub among→count : (l : List Arc) (e : Arc) → T (among l e) → 0 < count e l
+among→count l e t = any→count (same e) l t
+
+pub count→among : (l : List Arc) (e : Arc) → 0 < count e l → T (among l e)
+count→among l e h = count→any (same e) l h
+
+-- each arc of a list is among it
+pub each-among : (l : List Arc) → Each (λ e. T (among l e)) l
+each-among [] = tt
+each-among (x ∷ l) = (
+  →orL (same x x) (among l x) (same-refl x),
+  each-map (λ e. T (among l e)) (λ e. T (among (x ∷ l) e))
+      (λ e t. →orR (same e x) (among l e) t) l (each-among l),
+)
+
+-- ---- sorting changes no sum
+pub tot-insert : (f : Arc → ℕ) (e : Arc) (l : List Arc) → tot f (insert e l) ≡ f e + tot f l
+tot-insert f e [] = refl
+tot-insert f e (x ∷ l) = go (earlier e x) (tot-insert f e l)
+  where
+    go : (b : Bool) → tot f (insert e l) ≡ f e + tot f l
+        → tot f (if b then e ∷ x ∷ l else x ∷ insert e l) ≡ f e + (f x + tot f l)
+    go true q = refl
+    go false q = omega arith
+
+pub tot-sort : (f : Arc → ℕ) (l : List Arc) → tot f (sort l) ≡ tot f l
+tot-sort f [] = refl
+tot-sort f (x ∷ l) = tot-insert f x (sort l) ∙ ap (λ k. f x + k) (tot-sort f l)
+
+pub length-sort : (l : List Arc) → length (sort l) ≡ length l
+length-sort l = sym (tot-length (sort l)) ∙ tot-sort (λ x. 1) l ∙ tot-length l
+
+-- ---- the sum over those arcs of g that are among keep
+pub tot-same : (f : Arc → ℕ) (k : Arc) (g : List Arc) → tot (mask (λ e. same e k) f) g ≡ tot (one (same k)) g * f k
+tot-same f k [] = sym (zero-mul (f k))
+tot-same f k (e ∷ g) = rw (tot-same f k g) (go (same-is e k) (same-is k e))
+  where
+    go : Whether (e ≡ k) (same e k) → Whether (k ≡ e) (same k e)
+        → mask (λ e. same e k) f e + count k g * f k ≡ (one (same k) e + count k g) * f k
+    go (so p q) (so p′ q′) = rw (q, q′, p) (omega arith)
+    go (so p q) (nay p′ q′) = absurd (p′ (sym p))
+    go (nay p q) (so p′ q′) = absurd (p (sym p′))
+    go (nay p q) (nay p′ q′) = rw (q, q′, zero-add (count k g)) (zero-add (count k g * f k))
+
+-- the terms of the sum, when k is not among keep
+mask-cons : (f : Arc → ℕ) (k : Arc) (keep : List Arc) → (T (among keep k) → ⊥) → (e : Arc)
+    → mask (among (k ∷ keep)) f e ≡ mask (λ e. same e k) f e + mask (among keep) f e
+mask-cons f k keep h e = go (same-is e k) (among keep e) refl
+  where
+    go : Whether (e ≡ k) (same e k) → (b : Bool) → among keep e ≡ b
+        → (if same e k || b then f e else 0) ≡ mask (λ e. same e k) f e + (if b then f e else 0)
+    go (so p q) true u = absurd (h (subst (λ y. T (among keep y)) p (rw u tt)))
+    go (so p q) false u = rw q (sym (add-zero (f e)))
+    go (nay p q) true u = rw q (sym (zero-add (f e)))
+    go (nay p q) false u = rw q
+
+pub pick : (f : Arc → ℕ) (keep g : List Arc) → ((e : Arc) → count e keep ≤ count e g) → ((e : Arc) → count e g ≤ 1)
+    → tot (mask (among keep) f) g ≡ tot f keep
+pick f [] g h d = tot-zero g
+pick f (k ∷ keep) g h d =
+    let c : one (same k) k ≡ 1 = rw (T→true (same k k) (same-refl k)) in
+    let a : count k g ≡ 1 = omega (arith, h k, d k) in
+    let new : T (among keep k) → ⊥ = λ t. let u : 0 < count k keep = among→count keep k t in
+    omega (arith, h k, d k) in
+    let rest : tot (mask (among keep) f) g ≡ tot f keep = pick f keep g (λ e. omega (arith, h e)) d in
+    let here : tot (mask (λ e. same e k) f) g ≡ f k = tot-same f k g ∙ (rw a (omega arith)) in
+    tot-eq (mask (among (k ∷ keep)) f) (λ e. mask (λ e. same e k) f e + mask (among keep) f e) g
+    (each-always (λ e. mask (among (k ∷ keep)) f e ≡ mask (λ e. same e k) f e + mask (among keep) f e)
+    (mask-cons f k keep new) g)
+    ∙ tot-add (mask (λ e. same e k) f) (mask (among keep) f) g ∙ ap₂ (λ a b. a + b) here rest

@@ -1,0 +1,181 @@
+-- Reaching: its steps, and that a closed set which holds a state holds all that it reaches.
+-- In order: Reaching, reaches-is, reach-trans, reach-edge.
+-- Assumes nothing.
+use mathlib.Core.Path.{_≡_, refl, sym, ap, subst, _∙_}
+use mathlib.Core.Logic.{_⊎_, inl, inr}
+use mathlib.Core.Bool.{Bool, true, false, not, _||_}
+use mathlib.Core.List.{List, [], _∷_, map}
+use Prim.Native.Nat.{ℕ, zero, suc, _≤_, _<_, zero-le, suc-le-suc}
+use native.Mathlib.Nat.{le-refl, le-trans, le-of-eq}
+use native.Mathlib.Omega.{arith}
+use lib.Dec.{T, eqb, eqb→eq, eqb-refl}
+use lib.ListN.{length, getD, length-map}
+use Rattle.laws.specs.Lists.{range, any}
+use Rattle.laws.proofs.Tests.{and→, →and, or→, →orL, →orR, length-from, map-range-at, tab→, →tab}
+use Rattle.laws.specs.Sums.{Each}
+use Rattle.laws.proofs.Sums.{each-map, each-both, each-any, any-each}
+use Rattle.graph.specs.Invariant.{Inside, Stays}
+use Rattle.graph.specs.Arcs.{Arc}
+use Rattle.laws.specs.Sets.{member}
+use Rattle.graph.specs.Component.{leadsInto, withSources, reaching, reachings, reaches}
+use Rattle.laws.proofs.Settle.{iterate-keeps, settles}
+
+missing : List Bool → ℕ
+missing [] = 0
+missing (true ∷ S) = missing S
+missing (false ∷ S) = suc (missing S)
+
+missing-le : (S : List Bool) → missing S ≤ length S
+unfolding missing
+missing-le [] = le-refl 0
+missing-le (true ∷ S) = omega (arith, missing-le S)
+missing-le (false ∷ S) = suc-le-suc (missing-le S)
+
+-- a set that grows is the same, or misses fewer
+grow : (S′ S : List Bool) → length S′ ≡ length S → ((i : ℕ) → T (member S i) → T (member S′ i))
+    → (S′ ≡ S) ⊎ (missing S′ < missing S)
+unfolding missing
+grow [] [] l h = inl refl
+grow [] (y ∷ S) l h = absurd (omega arith)
+grow (x ∷ S′) [] l h = absurd (omega arith)
+grow (x ∷ S′) (y ∷ S) l h = go x y (h 0) (grow S′ S (omega arith) (λ i. h (suc i)))
+  where
+    go : (x y : Bool) → (T y → T x) → (S′ ≡ S) ⊎ (missing S′ < missing S)
+        → (x ∷ S′ ≡ y ∷ S) ⊎ (missing (x ∷ S′) < missing (y ∷ S))
+    go true true k (inl e) = inl (ap (λ l. true ∷ l) e)
+    go true true k (inr m) = inr m
+    go true false k (inl e) = inr (rw e (le-refl (suc (missing S))))
+    go true false k (inr m) = inr (omega arith)
+    go false true k r = absurd (k tt)
+    go false false k (inl e) = inl (ap (λ l. false ∷ l) e)
+    go false false k (inr m) = inr (suc-le-suc m)
+
+member-lt : (S : List Bool) (i : ℕ) → T (member S i) → i < length S
+member-lt [] i t = absurd t
+member-lt (x ∷ S) zero t = suc-le-suc zero-le
+member-lt (x ∷ S) (suc i) t = suc-le-suc (member-lt S i t)
+
+before-length : (g : List Arc) (S : List Bool) → length (withSources g S) ≡ length S
+before-length g S = length-map (range (length S)) (λ s. member S s || any (leadsInto S s) g)
+    ∙ length-from 0 (length S)
+
+before-more : (g : List Arc) (S : List Bool) (i : ℕ) → T (member S i) → T (member (withSources g S) i)
+before-more g S i t =
+    →tab (λ s. member S s || any (leadsInto S s) g) (length S) i (member-lt S i t)
+    (→orL (member S i) (any (leadsInto S i) g) t)
+
+module _ (K : ℕ) (g : List Arc) (t : ℕ) where
+  abbrev start : List Bool
+  start = map (eqb t) (range K)
+
+  start-length : length start ≡ K
+  start-length = length-map (range K) (eqb t) ∙ length-from 0 K
+
+  reaching-length : length (reaching K g t) ≡ K
+  reaching-length = iterate-keeps (withSources g) (λ S. length S ≡ K)
+      (λ S e. before-length g S ∙ e) K start start-length
+
+  reaching-fixed : withSources g (reaching K g t) ≡ reaching K g t
+  reaching-fixed =
+      settles (withSources g) missing (λ S. length S ≡ K) (λ S e. before-length g S ∙ e)
+      (λ S e. grow (withSources g S) S (before-length g S) (before-more g S)) K start start-length
+      (le-trans (missing-le start) (le-of-eq start-length))
+
+  reaching-self : t < K → T (member (reaching K g t) t)
+  reaching-self h = iterate-keeps (withSources g) (λ S. T (member S t)) (λ S u. before-more g S t u) K start
+      (→tab (eqb t) K t h (eqb-refl t))
+
+  -- an edge to a state that reaches t
+  reaching-step : Each (λ e. e .source < K → T (member (reaching K g t) (e .target))
+      → T (member (reaching K g t) (e .source))) g
+  reaching-step =
+      let R = reaching K g t in
+      each-map _ (λ e. e .source < K → T (member R (e .target)) → T (member R (e .source)))
+      (λ e f h u. close (e .source) h
+      (f (e .source) (→and (eqb (e .source) (e .source)) (member R (e .target)) (eqb-refl (e .source)) u))) g
+      (each-for (λ s e. T (leadsInto R s e) → T (any (leadsInto R s) g)) g (λ s. each-any (leadsInto R s) g))
+    where
+      each-for : (P : ℕ → Arc → Type 0) (l : List Arc) → ((y : ℕ) → Each (P y) l) → Each (λ x. (y : ℕ) → P y x) l
+      each-for P [] h = tt
+      each-for P (x ∷ l) h = (λ y. h y .0, each-for P l (λ y. h y .1))
+
+      close : (s : ℕ) → s < K → T (any (leadsInto (reaching K g t) s) g) → T (member (reaching K g t) s)
+      close s h u =
+          subst (λ S. T (member S s)) reaching-fixed
+          (→tab (λ s. member (reaching K g t) s || any (leadsInto (reaching K g t) s) g)
+          (length (reaching K g t)) s (rw reaching-length h)
+          (→orR (member (reaching K g t) s) (any (leadsInto (reaching K g t) s) g) u))
+
+  abbrev Sound : (ℕ → Bool) → List Bool → Type 0
+  Sound Q S = (s : ℕ) → T (member S s) → T (Q s) → T (Q t)
+
+  -- a closed set that holds a state that reaches t holds t
+  reaching-sound : (Q : ℕ → Bool) → Each (Stays Q) g → (s : ℕ) → T (member (reaching K g t) s) → T (Q s) → T (Q t)
+  reaching-sound Q c = iterate-keeps (withSources g) (Sound Q) keep K start first-one
+    where
+      first-one : Sound Q start
+      first-one s m q = subst (λ x. T (Q x)) (sym (eqb→eq t s (tab→ (eqb t) K s m .1))) q
+
+      keep : (S : List Bool) → Sound Q S → Sound Q (withSources g S)
+      keep S h s m q = go (or→ (member S s) (any (leadsInto S s) g)
+          (tab→ (λ s. member S s || any (leadsInto S s) g) (length S) s m .1))
+        where
+          found : (e : Arc) × T (leadsInto S s e) × Stays Q e → T (Q t)
+          found (e, u, stay) =
+              let (a, b) = and→ (eqb (e .source) s) (member S (e .target)) u in
+              h (e .target) b (stay (rw (eqb→eq (e .source) s a) q))
+
+          go : T (member S s) ⊎ T (any (leadsInto S s) g) → T (Q t)
+          go (inl a) = h s a q
+          go (inr a) = found (any-each (leadsInto S s) (Stays Q) g a c)
+
+-- what the rest of the theory uses
+pub record Reaching (K : ℕ) (g : List Arc) (reach : ℕ → ℕ → Bool) : Type 0 where
+  pub self : (t : ℕ) → t < K → T (reach t t)
+  pub step : (t : ℕ) → t < K → Each (λ e. e .source < K → T (reach (e .target) t) → T (reach (e .source) t)) g
+  pub sound : (t : ℕ) → t < K → (Q : ℕ → Bool) → Each (Stays Q) g → (s : ℕ) → T (reach s t) → T (Q s) → T (Q t)
+
+pub reaches-is : (K : ℕ) (g : List Arc) → Reaching K g (reaches (reachings K g))
+reaches-is K g =
+    record {
+      self = λ t h. rw (at t h) (reaching-self K g t h);
+      step = λ t h. rw (at t h) (reaching-step K g t);
+      sound = λ t h Q c s u. reaching-sound K g t Q c s (rw (at t h) at u);
+    }
+  where
+    at : (t : ℕ) → t < K → getD (reachings K g) t [] ≡ reaching K g t
+    at t h = map-range-at (reaching K g) K t [] h
+
+module _ (K : ℕ) (g : List Arc) (reach : ℕ → ℕ → Bool) (R : Reaching K g reach) (i : Each (Inside K) g) where
+  not-T : (b : Bool) → T (not b) → T b → ⊥
+  not-T true a c = a
+  not-T false a c = c
+
+  T-not : (b : Bool) → (T b → ⊥) → T (not b)
+  T-not true h = h tt
+  T-not false h = tt
+
+  pub reach-trans : (s t u : ℕ) → t < K → u < K → T (reach s t) → T (reach t u) → T (reach s u)
+  reach-trans s t u ht hu a b = go (reach s u) refl
+    where
+      closed : Each (Stays (λ x. not (reach x u))) g
+      closed = each-map _ (Stays (λ x. not (reach x u)))
+          (λ e h n. T-not (reach (e .target) u) (λ m. not-T (reach (e .source) u) n (h .1 (h .0 .0) m))) g
+          (each-both (Inside K) _ g i (R .step u hu))
+
+      go : (c : Bool) → reach s u ≡ c → T (reach s u)
+      go true q = rw q tt
+      go false q = absurd (not-T (reach t u) (R .sound t ht (λ x. not (reach x u)) closed s a (rw q tt)) b)
+
+  -- an edge is reaching
+  pub reach-edge : Each (λ e. T (reach (e .source) (e .target))) g
+  reach-edge =
+      each-map _ (λ e. T (reach (e .source) (e .target)))
+      (λ e h. h .1 (e .target) (h .0 .1) (h .0 .0) (R .self (e .target) (h .0 .1))) g
+      (each-both (Inside K) _ g i (each-for-lt g (λ t h. R .step t h)))
+    where
+      each-for-lt : (l : List Arc)
+          → ((t : ℕ) → t < K → Each (λ e. e .source < K → T (reach (e .target) t) → T (reach (e .source) t)) l)
+          → Each (λ e. (t : ℕ) → t < K → e .source < K → T (reach (e .target) t) → T (reach (e .source) t)) l
+      each-for-lt [] h = tt
+      each-for-lt (x ∷ l) h = (λ t k. h t k .0, each-for-lt l (λ t k. h t k .1))

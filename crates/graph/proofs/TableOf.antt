@@ -1,0 +1,173 @@
+-- The table: each state has n edges, to states of the table, and each is an edge between the roots.
+-- In order: Tabled, union-each, table-length, tabled, reached-first.
+-- Assumes nothing.
+use mathlib.Core.Path.{_≡_, refl, ap, _∙_}
+use mathlib.Core.Bool.{Bool, true, false}
+use mathlib.Core.List.{List, [], _∷_, map}
+use Prim.Native.Nat.{ℕ, zero, suc, _≤_, _<_, zero-le, suc-le-suc}
+use native.Mathlib.Nat.{not-suc-le-zero}
+use lib.Dec.{T, eqb→eq}
+use lib.ListN.{length, getD, length-map}
+use Rattle.laws.specs.Lists.{if_then_else_, from, range, filter, concat, elem, indexOf}
+use Rattle.laws.proofs.Tests.{getD-map-lt}
+use Rattle.laws.specs.Sums.{Each}
+use Rattle.laws.proofs.Sums.{each-map, each-always, each-both, each-front, each-back, each-filter, each-take}
+use Rattle.graph.proofs.Arcs.{length-sort}
+use Rattle.graph.specs.Invariant.{Inside}
+use Rattle.graph.specs.Arcs.{Arc, arc, Work, leaves, out}
+use Rattle.graph.specs.Splitting.{sort}
+use Rattle.graph.specs.Component.{reachings, reaches}
+use Rattle.table.specs.Rows.{Edge, edge, Rows, edges, at}
+use Rattle.graph.specs.TableOf.{row, tableStates, named, tableOf}
+use Rattle.laws.proofs.Anys.{each-union, each-range}
+use Rattle.graph.proofs.Candidates.{each-sort, length-take-le}
+use Rattle.graph.proofs.Reach.{reaches-is, reach-trans, reach-edge}
+use Rattle.laws.proofs.Elems.{each-elem, elem-each, elem-filter, →elem-filter, each-at, elem-range, index-lt}
+use Rattle.laws.proofs.Elems.{at-index}
+
+-- a table of rows of n edges, whose edges lie over P under the roots; the root of state 0 is 0
+pub record Tabled (P : ℕ → ℕ → ℕ → Type 0) (n : ℕ) (t : Rows) (root : ℕ → ℕ) : Type 0 where
+  pub some : 0 < length t
+  pub full : (s : ℕ) → s < length t → length (edges t s) ≡ n
+  pub next : (s d : ℕ) → s < length t → d < n → at t s d .next < length t
+  pub over : (s d : ℕ) → s < length t → d < n → P (root s) (at t s d .word) (root (at t s d .next))
+
+pub union-each : {A B : Type 0} (P : A → Type 0) (h : B → List A) (l : List B) → Each P (concat (map h l))
+    → Each (λ y. Each P (h y)) l
+union-each P h [] e = tt
+union-each P h (x ∷ l) e =
+    (each-front P (h x) (concat (map h l)) e, union-each P h l (each-back P (h x) (concat (map h l)) e))
+
+module _ (n : ℕ) (x : Work) (i : Each (Inside (length (x .weights))) (x .arcs)) (pos : 0 < length (x .weights)) where
+  abbrev K : ℕ
+  K = length (x .weights)
+
+  abbrev firsts : List Arc
+  firsts = concat (map (row n (x .arcs)) (range K))
+
+  abbrev reach : ℕ → ℕ → Bool
+  reach = reaches (reachings K firsts)
+
+  abbrev S : List ℕ
+  S = tableStates n x
+
+  -- what holds of each edge holds of each in a row, and those start at the row's state
+  row-each : (P : Arc → Type 0) → Each P (x .arcs) → (s : ℕ) → Each (λ e. P e × (e .source ≡ s)) (row n (x .arcs) s)
+  row-each P h s =
+      each-take _ n (sort (out (x .arcs) s))
+      (each-sort _ (out (x .arcs) s)
+      (each-filter (λ e. P e × (e .source ≡ s)) (leaves s) (x .arcs)
+      (each-map P _ (λ e p t. (p, eqb→eq (e .source) s t)) (x .arcs) h)))
+
+  inside-firsts : Each (Inside K) firsts
+  inside-firsts = each-union (Inside K) (row n (x .arcs)) (range K)
+      (each-always _ (λ s. each-map _ (Inside K) (λ e h. h .0) (row n (x .arcs) s) (row-each (Inside K) i s))
+      (range K))
+
+  S-lt : (s : ℕ) → T (elem s S) → s < K
+  unfolding tableStates tableOf
+  S-lt s t = elem-each (λ s. s < K) s (range K) (elem-filter (reach 0) s (range K) t .1) (each-range K)
+
+  zero-in : T (elem 0 S)
+  unfolding tableStates tableOf
+  zero-in = →elem-filter (reach 0) 0 (range K) (elem-range K 0 pos) (reaches-is K firsts .self 0 pos)
+
+  -- the first edges of a state reached lead to states reached
+  row-stays : (s : ℕ) → T (elem s S) → Each (λ e. T (elem (e .target) S)) (row n (x .arcs) s)
+  unfolding tableStates tableOf
+  row-stays s t =
+      each-map _ (λ e. T (elem (e .target) S)) go (row n (x .arcs) s)
+      (each-both _ _ (row n (x .arcs) s) (row-each (Inside K) i s)
+      (elem-each (λ s. Each (λ e. T (reach (e .source) (e .target))) (row n (x .arcs) s)) s (range K)
+      (elem-range K s (S-lt s t))
+      (union-each (λ e. T (reach (e .source) (e .target))) (row n (x .arcs)) (range K)
+      (reach-edge K firsts reach (reaches-is K firsts) inside-firsts))))
+    where
+      go : (e : Arc) → (Inside K e × (e .source ≡ s)) × T (reach (e .source) (e .target)) → T (elem (e .target) S)
+      go e ((k, p), r) =
+          →elem-filter (reach 0) (e .target) (range K) (elem-range K (e .target) (k .1))
+          (reach-trans K firsts reach (reaches-is K firsts) inside-firsts 0 (e .source) (e .target) (k .0) (k .1)
+          (rw p (elem-filter (reach 0) s (range K) t .0)) r)
+
+  abbrev rows : ℕ → List Edge
+  rows s = map (named S) (row n (x .arcs) s)
+
+  pub table-length : length (tableOf n x) ≡ length S
+  unfolding tableStates tableOf
+  table-length = length-map S rows
+
+  S-at : (j : ℕ) → j < length S → T (elem (getD S j 0) S)
+  S-at j h = each-at (λ s. T (elem s S)) 0 S (each-elem S) j h
+
+  edges-are : (j : ℕ) → j < length S → edges (tableOf n x) j ≡ rows (getD S j 0)
+  unfolding tableStates tableOf
+  edges-are j h = getD-map-lt rows S j 0 [] h
+
+  positive-length : (l : List ℕ) (y : ℕ) → T (elem y l) → 0 < length l
+  positive-length [] y t = absurd t
+  positive-length (z ∷ l) y t = suc-le-suc zero-le
+
+  module _ (enough : (s : ℕ) → s < length (x .weights) → n ≤ length (out (x .arcs) s)) where
+    row-length : (s : ℕ) → s < K → length (row n (x .arcs) s) ≡ n
+    row-length s h = length-take-le n (sort (out (x .arcs) s)) (rw (length-sort (out (x .arcs) s)) (enough s h))
+
+    at-is : (j d : ℕ) → j < length S → d < n
+        → at (tableOf n x) j d ≡ named S (getD (row n (x .arcs) (getD S j 0)) d (arc 0 0 0))
+    at-is j d h k =
+        ap (λ l. getD l d (edge 0 0)) (edges-are j h)
+        ∙ getD-map-lt (named S) (row n (x .arcs) (getD S j 0)) d (arc 0 0 0) (edge 0 0)
+        (rw (row-length (getD S j 0) (S-lt (getD S j 0) (S-at j h))) k)
+
+    -- an edge of the table, from what holds of the row
+    from-row : (P : Arc → Type 0) (j d : ℕ) → j < length S → d < n → Each P (row n (x .arcs) (getD S j 0))
+        → P (getD (row n (x .arcs) (getD S j 0)) d (arc 0 0 0))
+    from-row P j d h k e =
+        each-at P (arc 0 0 0) (row n (x .arcs) (getD S j 0)) e d
+        (rw (row-length (getD S j 0) (S-lt (getD S j 0) (S-at j h))) k)
+
+    pub tabled : (P : ℕ → ℕ → ℕ → Type 0) (r : ℕ → ℕ)
+        → Each (λ e. P (r (e .source)) (e .word) (r (e .target))) (x .arcs)
+        → Tabled P n (tableOf n x) (λ j. r (getD (tableStates n x) j 0))
+    tabled P r o =
+        record {
+          some = rw table-length (positive-length S 0 zero-in);
+          full = λ j h. let k : j < length S = rw table-length at h in
+              rw (edges-are j k) (length-map (row n (x .arcs) (getD S j 0)) (named S)
+              ∙ row-length (getD S j 0) (S-lt (getD S j 0) (S-at j k)));
+          next = λ j d h l. let k : j < length S = rw table-length at h in
+              rw (table-length, at-is j d k l)
+              (index-lt _ S (from-row (λ e. T (elem (e .target) S)) j d k l (row-stays (getD S j 0) (S-at j k))));
+          over = λ j d h l. let k : j < length S = rw table-length at h in
+              rw (at-is j d k l) (over-row j k (getD (row n (x .arcs) (getD S j 0)) d (arc 0 0 0))
+              (from-row (λ e. T (elem (e .target) S)
+              × (P (r (e .source)) (e .word) (r (e .target)) × (e .source ≡ getD S j 0))) j d k l
+              (each-both _ _ (row n (x .arcs) (getD S j 0)) (row-stays (getD S j 0) (S-at j k))
+              (row-each (λ e. P (r (e .source)) (e .word) (r (e .target))) o (getD S j 0)))));
+        }
+      where
+        over-row : (j : ℕ) → j < length S → (e : Arc)
+            → T (elem (e .target) S) × (P (r (e .source)) (e .word) (r (e .target)) × (e .source ≡ getD S j 0))
+            → P (r (getD S j 0)) (e .word) (r (getD S (indexOf (e .target) S) 0))
+        over-row j k e (t, (o, p)) = rw (at-index (e .target) S t, ← p) o
+
+-- state 0 stays state 0
+pub reached-first : (n : ℕ) (x : Work) → 0 < length (x .weights) → getD (tableStates n x) 0 0 ≡ 0
+unfolding tableStates tableOf
+reached-first n x pos =
+    go (length (x .weights)) pos
+    (reaches-is (length (x .weights)) (concat (map (row n (x .arcs)) (range (length (x .weights))))) .self 0 pos)
+  where
+    head : (p : ℕ → Bool) (k : ℕ) → T (p 0) → (b : Bool) → p 0 ≡ b
+        → getD (if b then 0 ∷ filter p (from 1 k) else filter p (from 1 k)) 0 0 ≡ 0
+    head p k t true q = refl
+    head p k t false q = absurd (rw q at t)
+
+    go : (k : ℕ) → 0 < k → T
+        (reaches (reachings (length (x .weights)) (concat (map (row n (x .arcs)) (range (length (x .weights)))))) 0 0)
+        → getD (filter (reaches
+        (reachings (length (x .weights)) (concat (map (row n (x .arcs)) (range (length (x .weights)))))) 0)
+        (range k)) 0 0 ≡ 0
+    go zero h t = absurd (not-suc-le-zero h)
+    go (suc k) h t = head
+        (reaches (reachings (length (x .weights)) (concat (map (row n (x .arcs)) (range (length (x .weights)))))) 0) k
+        t _ refl
