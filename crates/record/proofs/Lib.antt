@@ -14,3 +14,4 @@ pub mod RecordTables
 pub mod RecordReady
 pub mod RecordReading
 pub mod RecordFollow
+pub mod Reasons
