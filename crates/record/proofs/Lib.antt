@@ -13,3 +13,5 @@ pub mod RecordChecks
 pub mod RecordTables
 pub mod RecordReady
 pub mod RecordReading
+pub mod RecordFollow
+pub mod Reasons

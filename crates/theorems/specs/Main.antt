@@ -1,6 +1,6 @@
 -- The main theorems, each written out in full; its proof is one citation.
 -- In order: no-code, greatest, each-split, splits-end, shortest-idle, least-window, no-window, compiled-passes,
--- run-length-passes, checker-exact, records, returns, recognised, demand-3, local, different-data, grows, sets.
+-- run-length-passes, checker-exact, record-order, records, returns, recognised, demand-3, local, different-data, grows, sets.
 -- Assumes nothing.
 use mathlib.Core.Path.{_≡_}
 use mathlib.Core.Logic.{_↔_}
@@ -21,6 +21,8 @@ use Rattle.table.proofs.WindowGrows.{window-grows-memory, window-grows-lookahea
 use Rattle.record.specs.Layout.{pack}
 use Rattle.record.specs.Parse.{parse, judged}
 use Rattle.record.proofs.RecordWrite.{parse-pack}
+use Rattle.record.specs.Reasons.{Reason}
+use Rattle.record.proofs.Reasons.{reason}
 use Rattle.record.proofs.Accepted.{parse-exact, parse-canonical}
 use Rattle.codec.specs.Reading.{mark, block}
 use Rattle.codec.specs.Answers.{encodeUnder, decodeUnder}
@@ -99,6 +101,10 @@ run-length-passes = compiler.run-length-passes
 pub checker-exact : (xs : List ℕ) → Below 256 xs → (c : Code)
     → (parse xs ≡ done c) ↔ (T (formed c) × (pack c ≡ xs) × Accepted c)
 checker-exact = parse-exact
+
+-- Each refusal of a record comes exactly where the order says: 8, 7, 8, 7, 9, 10.
+pub record-order : (xs : List ℕ) → Reason xs (parse xs)
+record-order = reason
 
 -- A record is read as it was written, up to refusals 9 and 10, and written as it was read.
 pub records : ((c : Code) → T (formed c) → parse (pack c) ≡ judged c)
