@@ -94,8 +94,10 @@ module _ (t : Rows) (n : ℕ) (H : Pairs) (most : ℕ) (cur : List Bool) where
     where
       f : Pairs → Pairs
       f = into (reversed t)
+
       fixed : f (iterate f k H) ≡ iterate f k H
       fixed = sym (ap f (h .set)) ∙ sym s ∙ q ∙ h .set
+
       go : (j : ℕ) → Dec (j < k) → empty t (iterate f j H) ≡ false
       go j (yes l) = h .sooner j l
       go j (no l) =

@@ -13,8 +13,8 @@ use Rattle.table.specs.PairSets.{pairsIn}
 use Rattle.table.specs.Steps.{Reached, Leading}
 use Rattle.table.proofs.Leading.{lead-done, lead-rest}
 
--- z is the best with memory up to m, `last` the first memory that cannot be better, and `stop` is `last`, or 0 where one
--- word more leads to the same pairs
+-- z is the best with memory up to m, `last` the first memory that cannot be better, and `stop` is `last`, or 0 where
+-- one word more leads to the same pairs
 module _ (t : Rows) (n m : ℕ) (z : Size) (last stop : ℕ) (g r : Pasts) (hm : m < 16) (lead : Leading t (m + 1) z)
     (had : Reached t n m g) (low : last ≤ 16) (low′ : last ≤ z .memory + z .lookahead + 1)
     (is : (last ≡ 16) ⊎ (last ≡ z .memory + z .lookahead + 1)) (more : m + 1 < last → Reached t n (m + 1) r)

@@ -1,10 +1,8 @@
 -- While the search goes on, the best window with memory below m and the sets of m words are known; at its end, the
 -- best is the least.
-use mathlib.Core.Path.{_≡_, refl, sym, subst, _∙_}
-use mathlib.Core.Logic.{_⊎_, inl, inr, ⊎-elim}
+use mathlib.Core.Path.{_≡_, subst}
 use Prim.Native.Nat.{_+_, _-_, _≤_, _<_}
 use native.Mathlib.Omega.{arith}
-use native.Mathlib.Decide.{decLt}
 use borrow.Author.Tests.{lt-ltb}
 use denote.Ref.{now}
 use lib.ListN.{length}
@@ -22,7 +20,7 @@ abbrev Inv-loop : tie.InvT-loop
 Inv-loop states n word next head link g₀ best₀ stop₀ m₀ g best stop m =
     (m ≤ 16) × (stop ≤ 16)
     × (m < stop → (m ≤ best .memory + best .lookahead) × Reached (rowsOf (arrays states n word next)) states m g
-        × Leading (rowsOf (arrays states n word next)) m (size (best .memory) (best .lookahead)))
+    × Leading (rowsOf (arrays states n word next)) m (size (best .memory) (best .lookahead)))
     × (stop ≤ m → window (rowsOf (arrays states n word next)) ≡ size (best .memory) (best .lookahead))
 
 abbrev μ-loop : tie.MeasureT-loop
@@ -38,11 +36,17 @@ loop-holds : tie.Need-loop-holds Inv-loop μ-loop
 loop-holds c =
     let s = c .before in
     let t = table s in
-    let e : length (rowsOf t) ≡ s .args .states = length-rows t in
-    (omega arith, omega arith,
-        (λ l. (omega arith, subst (λ k. Reached (rowsOf t) k 0 (c .begin .result)) e
-            (c .begin .ensures (rowsOf t) (rw e (s .pre .fits .few))), lead-start (rowsOf t))),
-        (λ l. absurd (omega arith)))
+    let e : length (rowsOf t) ≡ s .args .states = length-rows t in (
+      omega arith,
+      omega arith,
+      (λ l. (
+        omega arith,
+        subst (λ k. Reached (rowsOf t) k 0 (c .begin .result)) e
+            (c .begin .ensures (rowsOf t) (rw e (s .pre .fits .few))),
+        lead-start (rowsOf t),
+      )),
+      (λ l. absurd (omega arith)),
+    )
 
 better-requires : tie.Need-better-requires Inv-loop μ-loop
 better-requires c κs =
@@ -78,8 +82,8 @@ loop-again c =
     let e = f .before .stop-of .ensures in
     let z = size (b .better .result .memory) (b .better .result .lookahead) in
     let go = turn (rowsOf (table s)) (a .states) (l .m) z (f .before .stop-of .result) (c .stop-at .result) (l .g)
-        (f .more-if .result) (omega arith) (b .better .ensures) (k .1) (e .0) (e .1) (e .2)
-        (λ h. f .more-if .ensures (l .m) (lt-ltb _ _ h) (k .1)) (c .stop-at .ensures) in
+    (f .more-if .result) (omega arith) (b .better .ensures) (k .1) (e .0) (e .1) (e .2)
+    (λ h. f .more-if .ensures (l .m) (lt-ltb _ _ h) (k .1)) (c .stop-at .ensures) in
     (omega arith, go .0, go .1, go .2)
 
 returns : tie.Need-returns Inv-loop μ-loop

@@ -13,8 +13,11 @@ same-pairs-requires c κs = search needs
 returns : tie.Need-returns
 returns c =
     let s = c .before .before in
-    inr (refl, same-pairs (s .args .states) (now (s .args .a)) (now (s .args .b)) (s .pre)
-        (sym (c .before .same-pairs .ensures) ∙ c .if1 .taken))
+    inr (
+      refl,
+      same-pairs (s .args .states) (now (s .args .a)) (now (s .args .b)) (s .pre)
+          (sym (c .before .same-pairs .ensures) ∙ c .if1 .taken),
+    )
 
 returns-2 : tie.Need-returns-2
 returns-2 c = inl refl

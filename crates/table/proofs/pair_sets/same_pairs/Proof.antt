@@ -1,6 +1,6 @@
 -- The loop has found no place that differs among those that it has passed.
 use mathlib.Core.Path.{_≡_, sym, ap, _∙_}
-use mathlib.Core.Bool.{true, false, not}
+use mathlib.Core.Bool.{false, not}
 use Prim.Native.Nat.{_-_, _*_, _≤_}
 use native.Mathlib.Omega.{arith}
 use denote.Ref.{now}
@@ -48,9 +48,11 @@ loop-less c = search needs
 loop-again : tie.Need-loop-again Inv-loop μ-loop
 loop-again c =
     let l = c .before .before .before .before .before .loop in
-    let a = c .before .before .before .before .before .before .args in
-    (omega arith, none-more (differsAt (now (a .a)) (now (a .b))) (l .z) (l .inv .1)
-        (sym (c .before .differ .ensures) ∙ c .if1 .left))
+    let a = c .before .before .before .before .before .before .args in (
+      omega arith,
+      none-more (differsAt (now (a .a)) (now (a .b))) (l .z) (l .inv .1)
+          (sym (c .before .differ .ensures) ∙ c .if1 .left),
+    )
 
 returns-2 : tie.Need-returns-2 Inv-loop μ-loop
 returns-2 c =

@@ -8,7 +8,12 @@ use Rattle.table.specs.PairSets.{pairsIn}
 use Rattle.table.proofs.RowsOf.{length-rows}
 use Rattle.table.proofs.SetLaws.{same-pairs}
 use Rattle.table.proofs.Steps.{
-  Stepped, stepped-start, stepped-more, stepped-stop, stepped-end, stepped-rest
+  Stepped,
+  stepped-start,
+  stepped-more,
+  stepped-stop,
+  stepped-end,
+  stepped-rest,
 }
 use borrow.Author.Needs.{needs}
 use Rattle.table.proofs.windows.emptied.Statement.{statement}
