@@ -13,3 +13,6 @@ pub mod RecordChecks
 pub mod RecordTables
 pub mod RecordReady
 pub mod RecordReading
+pub mod RecordParts
+pub mod Runs
+pub mod RecordRuns
