@@ -16,3 +16,5 @@ pub mod RecordReading
 pub mod RecordParts
 pub mod Runs
 pub mod RecordRuns
+pub mod RecordOut
+pub mod RecordWriting

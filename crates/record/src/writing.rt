@@ -1,16 +1,19 @@
 // A table written as a record, part by part into lent bytes.
 ghost use mathlib.Core.Path.{_≡_};
+ghost use mathlib.Core.List.{_++_};
 ghost use Prim.Native.Nat.{_+_, _*_, _-_, _^_, _≤_};
-ghost use lib.ListN.{length};
+ghost use lib.ListN.{length, drop};
 ghost use Rattle.bits.specs.Bytes.{spliced};
 ghost use Rattle.bits.specs.Fields.{bits, bitsOf};
 ghost use Rattle.constraint.specs.Value.{constraintOf};
-ghost use Rattle.table.specs.Value.{rowsIn, Ready};
+ghost use Rattle.table.specs.Value.{codeIn, rowsIn, Ready};
+ghost use Rattle.record.specs.Layout.{size, pack};
 ghost use Rattle.record.specs.Checks.{headIn};
-ghost use Rattle.record.specs.Parts.{frontBits, nextBits, statesBits, rowsBits};
+ghost use Rattle.record.specs.Parts.{tableHead, frontBits, nextBits, statesBits, rowsBits};
 use constraint::Constraint;
 use table::Table;
 use crate::Front;
+use crate::numbers;
 
 // The lowest `width` bits of x become the field at the bit place `at`.
 fn put_low(out: &mut [u8], at: usize, width: usize, x: usize)
@@ -92,4 +95,31 @@ pub fn put_edges(out: &mut [u8], t: Table, first: usize)
         put_low(out, at + q, 7, t.next[i] as usize);
         e += 1;
     }
+}
+
+// The numbers in front of a table's record.
+pub fn front_in(t: Table) -> Front
+    ensures answer { λ r. ⌜ headIn r ≡ tableHead t ⌝ }
+{
+    Front {
+        p: t.p,
+        q: t.q,
+        states: t.states,
+        memory: t.memory,
+        lookahead: t.lookahead,
+        count: t.constraint.states,
+        start: t.start,
+    }
+}
+
+// The whole record of a table, with the numbers f in front and `long` bytes.
+pub fn put_record(out: &mut [u8], t: Table, f: Front, long: usize)
+    requires { ⌜ Ready t × (headIn f ≡ tableHead t) × (long ≡ size (tableHead t)) × (long ≤ length (now out)) ⌝ }
+    ensures written { λ r. ⌜ now (out .exit) ≡ pack (codeIn t) ++ drop (length (pack (codeIn t))) (now (out .entry)) ⌝ }
+{
+    let at = numbers::bit_count(f);
+    put_front(out, f);
+    put_states(out, t.constraint);
+    put_edges(out, t, 30 + f.count * 10);
+    bits::put(out, at, 8 * long - at, 0);
 }
