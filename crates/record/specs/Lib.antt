@@ -3,3 +3,4 @@ pub mod Parse
 pub mod Checks
 pub mod Places
 pub mod Reasons
+pub mod Parts
