@@ -33,3 +33,4 @@ pub mod CodePart
 pub mod CodeKept
 pub mod CodeState
 pub mod CodeSplit
+pub mod CodeLoop
