@@ -34,3 +34,5 @@ pub mod CodeKept
 pub mod CodeState
 pub mod CodeSplit
 pub mod CodeLoop
+pub mod CodeTabled
+pub mod CodeWeights
