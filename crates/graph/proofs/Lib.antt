@@ -36,3 +36,4 @@ pub mod CodeSplit
 pub mod CodeLoop
 pub mod CodeTabled
 pub mod CodeWeights
+pub mod CodeReach

@@ -8,3 +8,4 @@ pub mod Value
 pub mod EdgeKeys
 pub mod SplitParts
 pub mod PowerTable
+pub mod ReachSets
