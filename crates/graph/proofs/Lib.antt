@@ -37,3 +37,5 @@ pub mod CodeLoop
 pub mod CodeTabled
 pub mod CodeWeights
 pub mod CodeReach
+pub mod CodeMembers
+pub mod CodeFails

@@ -140,3 +140,96 @@ fn reach_all(edge: &[bool; 256], k: usize) -> [bool; 256]
     }
     m
 }
+
+// A state of this weight is reached and does not reach back.
+fn no_return(v: usize, there: bool, back: bool) -> bool
+    ensures answer { λ r. ⌜ r ≡ (ltb 0 v && (there && not back)) ⌝ }
+{
+    if 0 < v {
+        if there {
+            return !back;
+        }
+    }
+    false
+}
+
+// "every state reachable from it can reach back".
+fn returns_all(m: &[bool; 256], v: [usize; 16], k: usize, s: usize) -> bool
+    requires { ⌜ (length (now m) ≡ 256) × (k ≤ 16) × (s < k) ⌝ }
+    ensures answer { λ r. ⌜ r ≡ returning (rowsOf (now (m .entry)) k) (live (take k v)) s ⌝ }
+{
+    let mut t = 0;
+    while t < k {
+        if no_return(v[t], m[t * 16 + s], m[s * 16 + t]) {
+            return false;
+        }
+        t += 1;
+    }
+    true
+}
+
+// s has a weight above 0, and every state reachable from it can reach it back.
+fn is_returning(m: &[bool; 256], v: [usize; 16], k: usize, s: usize) -> bool
+    requires { ⌜ (length (now m) ≡ 256) × (k ≤ 16) × (s < k) ⌝ }
+    ensures answer {
+        λ r. ⌜ r ≡ (weighs (take k v) s && returning (rowsOf (now (m .entry)) k) (live (take k v)) s) ⌝
+    }
+{
+    if v[s] == 0 {
+        return false;
+    }
+    returns_all(m, v, k, s)
+}
+
+// "the lowest state that every state reachable from it can reach back".
+fn first_returning(m: &[bool; 256], v: [usize; 16], k: usize) -> usize
+    requires { ⌜ (length (now m) ≡ 256) × (k ≤ 16) ⌝ }
+    ensures answer {
+        λ r. ⌜ (r ≡ first (returning (rowsOf (now (m .entry)) k) (live (take k v))) 0 (live (take k v))) × (r < 16) ⌝
+    }
+{
+    let mut s = 0;
+    while s < k {
+        if is_returning(m, v, k, s) {
+            return s;
+        }
+        s += 1;
+    }
+    0
+}
+
+// A state of this weight is reached.
+fn is_member(v: usize, there: bool) -> bool
+    ensures answer { λ r. ⌜ r ≡ (ltb 0 v && there) ⌝ }
+{
+    if 0 < v {
+        return there;
+    }
+    false
+}
+
+// "all states reachable from it", which is s, numbered in rising order.
+fn list_members(m: &[bool; 256], v: [usize; 16], k: usize, s: usize) -> Members
+    requires { ⌜ (length (now m) ≡ 256) × (k ≤ 16) × (s < k) ⌝ }
+    ensures answer {
+        λ r. ⌜ Listed k (filter (reaches (rowsOf (now (m .entry)) k) s) (live (take k v))) r ⌝
+    }
+{
+    let mut state = [0usize; 16];
+    let mut index = [16usize; 16];
+    let mut count = 0;
+    let mut t = 0;
+    while t < k {
+        if is_member(v[t], m[t * 16 + s]) {
+            state[count] = t;
+            index[t] = count;
+            count += 1;
+        }
+        t += 1;
+    }
+    Members {
+        count: count,
+        state: state,
+        index: index,
+    }
+}
