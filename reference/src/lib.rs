@@ -10,6 +10,7 @@ pub mod accept;
 pub mod answer;
 pub mod bits;
 pub mod calls;
+pub mod checksum;
 pub mod compile;
 pub mod component;
 pub mod constraint;

@@ -1,18 +1,8 @@
 //! Compiles every run-length job and prints the counts of the answers and a checksum over all records.
 
 use reference::calls::compile_run_length;
+use reference::checksum::Checksum;
 use std::time::Instant;
-
-/// FNV-1a over 64 bits.
-struct Checksum(u64);
-
-impl Checksum {
-    fn add(&mut self, bytes: &[u8]) {
-        for byte in bytes {
-            self.0 = (self.0 ^ u64::from(*byte)).wrapping_mul(0x0000_0100_0000_01b3);
-        }
-    }
-}
 
 /// All run-length jobs in order of their bytes: 136 pairs d, k, and 512 choices of p, q and cap for each.
 fn jobs() -> impl Iterator<Item = [u8; 5]> {
@@ -25,7 +15,7 @@ fn main() {
     let begun = Instant::now();
     let mut counts = [0u32; 14];
     let mut longest = (0, [0; 5]);
-    let mut checksum = Checksum(0xcbf2_9ce4_8422_2325);
+    let mut checksum = Checksum::default();
     for job in jobs() {
         let answer = compile_run_length(&job, 4096);
         counts[usize::from(answer.refusal)] += 1;
@@ -42,6 +32,6 @@ fn main() {
         println!("refusal {refusal} {count}");
     }
     println!("longest record {} {:?}", longest.0, longest.1);
-    println!("checksum {:016x}", checksum.0);
+    println!("checksum {:016x}", checksum.value());
     println!("seconds {:.1}", begun.elapsed().as_secs_f64());
 }
