@@ -1,5 +1,6 @@
 //! The file of test vectors: its format, its contents, its size.
 
+use reference::checksum::Checksum;
 use reference::vectors::file::{call, Walk};
 use reference::vectors::generate;
 
@@ -27,7 +28,12 @@ fn the_file_walks_and_every_case_answers_again() {
     assert_eq!(refusals(7), [0, 13]);
 }
 
+/// The numbers that the README states.
 #[test]
-fn the_file_is_the_same_each_time() {
-    assert_eq!(generate(1), generate(1));
+fn the_file_is_the_one_described() {
+    let bytes = generate(1);
+    let mut checksum = Checksum::default();
+    checksum.add(&bytes);
+    assert_eq!((Walk(&bytes).count(), bytes.len()), (13_368, 991_051));
+    assert_eq!(checksum.value(), 0xb012_4f92_fb93_517c);
 }

@@ -8,8 +8,9 @@ use crate::window::{Search, MOST};
 
 /// A foreign record of some family.
 pub fn any(random: &mut Random) -> Record {
-    match random.below(3) {
+    match random.below(4) {
         0 => shift_register(random),
+        3 => led_into(random),
         1 => {
             let length = random.within(2, 34);
             ring(length)
@@ -66,6 +67,24 @@ fn scattered(random: &mut Random) -> Record {
     let states = random.within(1, 7);
     let rows = (0..states).map(|_| scattered_row(random, p, q, states)).collect();
     free(p, q, rows)
+}
+
+/// A random table behind a few states that lead in and are never met again. Only paths from the start pass them, so
+/// that what they leave open rules a window out by its second condition alone.
+fn led_into(random: &mut Random) -> Record {
+    let body = scattered(random);
+    let more = random.within(1, 3);
+    let mut rows = Vec::new();
+    for s in 0..more {
+        let next = |random: &mut Random| random.within(s + 1, more + body.table.states() - 1).min(s + 2);
+        let row = scattered_row(random, body.p, body.q, 1);
+        rows.push(row.iter().map(|e| Entry { word: e.word, next: next(random) }).collect::<Vec<_>>());
+        let (one, other) = (random.below(1 << body.p), random.below(1 << body.p));
+        rows[s][one].word = rows[s][other].word;
+    }
+    let moved = |e: &Entry| Entry { word: e.word, next: e.next + more };
+    rows.extend(body.table.rows.iter().map(|row| row.iter().map(moved).collect()));
+    free(body.p, body.q, rows)
 }
 
 fn scattered_row(random: &mut Random, p: usize, q: usize, states: usize) -> Vec<Entry> {

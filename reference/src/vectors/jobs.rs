@@ -45,12 +45,13 @@ pub fn compiling_run_length(random: &mut Random) -> ([u8; 5], Vec<u8>) {
     }
 }
 
-/// A general job: random next states, or a run-length constraint renumbered, altered, or with a way in.
+/// A general job: random next states, states in classes, or a run-length constraint renumbered or altered.
 pub fn general(random: &mut Random) -> Vec<u8> {
-    let next = match random.below(4) {
+    let next = match random.below(5) {
         0 => scattered(random, 4),
         1 => scattered(random, 2),
         2 => renumbered(random),
+        3 => periodic(random),
         _ => altered(random),
     };
     let p = 1 + random.below(4) * random.below(2);
@@ -67,6 +68,23 @@ fn scattered(random: &mut Random, times: usize) -> Vec<[u8; 2]> {
     let states = random.within(1, 16);
     let mut one = || if random.once_in(times) { NONE } else { random.below(states) as u8 };
     (0..states).map(|_| [one(), one()]).collect()
+}
+
+/// States in classes that follow one another bit by bit: words of a fitting length stay in a class, so that single
+/// bits reach more states than words do.
+fn periodic(random: &mut Random) -> Vec<[u8; 2]> {
+    let period = random.within(2, 4);
+    let each = random.within(1, 16 / period);
+    let times = random.within(3, 12);
+    let mut one = |s: usize| {
+        let class = (s + 1) % period;
+        if random.once_in(times) {
+            NONE
+        } else {
+            (random.below(each) * period + class) as u8
+        }
+    };
+    (0..period * each).map(|s| [one(s), one(s)]).collect()
 }
 
 fn bytes_of(constraint: &Constraint) -> Vec<[u8; 2]> {

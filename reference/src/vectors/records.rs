@@ -28,7 +28,7 @@ pub fn add(file: &mut File, random: &mut Random, pool: &Pool, scale: usize) {
         let good = random.pick(&pool.large);
         one_field(file, random, good);
     }
-    for _ in 0..120 * scale {
+    for _ in 0..150 * scale {
         let record = foreign::any(random);
         windows_about(file, &record);
     }
