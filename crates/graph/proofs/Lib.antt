@@ -39,3 +39,6 @@ pub mod CodeWeights
 pub mod CodeReach
 pub mod CodeMembers
 pub mod CodeFails
+pub mod CodeRows
+pub mod CodeLinked
+pub mod CodeFound
