@@ -42,3 +42,6 @@ pub mod CodeFails
 pub mod CodeRows
 pub mod CodeLinked
 pub mod CodeFound
+pub mod CodeClosure
+pub mod CodeRank
+pub mod CodeTable

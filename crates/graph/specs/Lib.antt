@@ -10,3 +10,4 @@ pub mod SplitParts
 pub mod PowerTable
 pub mod ReachSets
 pub mod ComponentParts
+pub mod TableParts
