@@ -40,3 +40,9 @@ pub mod CodeWeights
 pub mod CodeReach
 pub mod CodeMembers
 pub mod CodeFails
+pub mod CodeRows
+pub mod CodeLinked
+pub mod CodeFound
+pub mod CodeClosure
+pub mod CodeRank
+pub mod CodeTable

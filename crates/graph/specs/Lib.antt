@@ -9,3 +9,5 @@ pub mod EdgeKeys
 pub mod SplitParts
 pub mod PowerTable
 pub mod ReachSets
+pub mod ComponentParts
+pub mod TableParts

@@ -18,7 +18,7 @@ pub struct Members {
 }
 
 // At s * 16 + t, whether words lead from s to t, both of weight above 0.
-fn live_edges(count: &[usize; 256], v: [usize; 16], k: usize) -> [bool; 256]
+pub fn live_edges(count: &[usize; 256], v: [usize; 16], k: usize) -> [bool; 256]
     requires { ⌜ (length (now count) ≡ 256) × (k ≤ 16) ⌝ }
     ensures answer { λ r. ⌜ ((x : ℕ) → x < k * 16 → getD r x false ≡ liveEdge (now (count .entry)) v x) ⌝ }
 {
@@ -123,7 +123,7 @@ fn same_places(a: &[bool; 256], b: &[bool; 256], n: usize) -> bool
 }
 
 // For each state those that can reach it, until nothing changes.
-fn reach_all(edge: &[bool; 256], k: usize) -> [bool; 256]
+pub fn reach_all(edge: &[bool; 256], k: usize) -> [bool; 256]
     requires { ⌜ (length (now edge) ≡ 256) × (k ≤ 16) ⌝ }
     ensures answer { λ r. ⌜ ((g : List Arc) → Linked (now (edge .entry)) k g → rowsOf r k ≡ reachings k g) ⌝ }
 {
@@ -182,10 +182,10 @@ fn is_returning(m: &[bool; 256], v: [usize; 16], k: usize, s: usize) -> bool
 }
 
 // "the lowest state that every state reachable from it can reach back".
-fn first_returning(m: &[bool; 256], v: [usize; 16], k: usize) -> usize
+pub fn first_returning(m: &[bool; 256], v: [usize; 16], k: usize) -> usize
     requires { ⌜ (length (now m) ≡ 256) × (k ≤ 16) ⌝ }
     ensures answer {
-        λ r. ⌜ (r ≡ first (returning (rowsOf (now (m .entry)) k) (live (take k v))) 0 (live (take k v))) × (r < 16) ⌝
+        λ r. ⌜ (r ≡ first (returning (rowsOf (now (m .entry)) k) (live (take k v))) 0 (live (take k v))) × (0 < k → r < k) ⌝
     }
 {
     let mut s = 0;
@@ -209,7 +209,7 @@ fn is_member(v: usize, there: bool) -> bool
 }
 
 // "all states reachable from it", which is s, numbered in rising order.
-fn list_members(m: &[bool; 256], v: [usize; 16], k: usize, s: usize) -> Members
+pub fn list_members(m: &[bool; 256], v: [usize; 16], k: usize, s: usize) -> Members
     requires { ⌜ (length (now m) ≡ 256) × (k ≤ 16) × (s < k) ⌝ }
     ensures answer {
         λ r. ⌜ Listed k (filter (reaches (rowsOf (now (m .entry)) k) s) (live (take k v))) r ⌝

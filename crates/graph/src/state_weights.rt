@@ -23,7 +23,7 @@ fn words_between(power: &[u8; 4096], words: usize, s: usize, t: u8) -> usize
 }
 
 // At s * 16 + t, how many words lead from s to t.
-fn word_counts(power: &[u8; 4096], words: usize, k: usize) -> [usize; 256]
+pub fn word_counts(power: &[u8; 4096], words: usize, k: usize) -> [usize; 256]
     requires { ⌜ (length (now power) ≡ 4096) × (words ≤ 256) × (k ≤ 16) ⌝ }
     ensures answer {
         λ r. ⌜ ((x : ℕ) → x < k * 16 → (getD r x 0 ≡ wordCount (now (power .entry)) words (x / 16) (x % 16)) × (getD r x 0 ≤ 256)) ⌝

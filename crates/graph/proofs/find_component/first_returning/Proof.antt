@@ -31,7 +31,7 @@ returns c =
     let p = c .before .before .before .before .args in
     let a : length (p .v) ≡ 16 = search needs in
     (lowest-at (now (p .m)) (p .v) (p .k) (c .before .before .before .before .pre .1) a (c .before .before .before .loop .s) (c .before .before .loop-test .taken) (c .before .before .before .loop .inv .1)
-        (sym (c .before .is-returning .ensures) ∙ c .if1 .taken), omega arith)
+        (sym (c .before .is-returning .ensures) ∙ c .if1 .taken), λ h. c .before .before .loop-test .taken)
 
 add-s : tie.Need-add-s Inv-loop μ-loop
 add-s c = search needs
@@ -47,7 +47,7 @@ returns-2 : tie.Need-returns-2 Inv-loop μ-loop
 returns-2 c =
     let p = c .before .before .args in
     let a : length (p .v) ≡ 16 = search needs in
-    (lowest-none (now (p .m)) (p .v) (p .k) (c .before .before .pre .1) a (λ j h. c .before .loop .inv .1 j (omega arith)), omega arith)
+    (lowest-none (now (p .m)) (p .v) (p .k) (c .before .before .pre .1) a (λ j h. c .before .loop .inv .1 j (omega arith)), λ h. h)
 
 pub first-returning-spec : {M : Type 1} → statement M
 first-returning-spec =
