@@ -4,3 +4,5 @@ pub mod Local
 pub mod RoundTrip
 pub mod Answers
 pub mod Promises
+pub mod Writing
+pub mod Tabled
