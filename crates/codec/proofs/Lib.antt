@@ -6,3 +6,6 @@ pub mod Answers
 pub mod Promises
 pub mod Writing
 pub mod Tabled
+pub mod StateSteps
+pub mod FirstReading
+pub mod Windowed
