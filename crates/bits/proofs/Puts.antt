@@ -40,6 +40,9 @@ length-uniform n [] = sym (zero-mul n)
 length-uniform n (x ∷ xs) =
     length-append (bits n x) (uniform n xs) ∙ rw (length-bits n x, length-uniform n xs, suc-mul) (omega arith)
 
+pub bitsOf-append : (xs ys : List ℕ) → bitsOf (xs ++ ys) ≡ bitsOf xs ++ bitsOf ys
+bitsOf-append xs ys = uniform-append 8 xs ys
+
 pub length-bitsOf : (xs : List ℕ) → length (bitsOf xs) ≡ length xs * 8
 length-bitsOf xs = length-uniform 8 xs
 

@@ -34,3 +34,9 @@ pub mod CodePart
 pub mod CodeKept
 pub mod CodeState
 pub mod CodeSplit
+pub mod CodeLoop
+pub mod CodeTabled
+pub mod CodeWeights
+pub mod CodeReach
+pub mod CodeMembers
+pub mod CodeFails

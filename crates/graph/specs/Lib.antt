@@ -7,3 +7,5 @@ pub mod Invariant
 pub mod Value
 pub mod EdgeKeys
 pub mod SplitParts
+pub mod PowerTable
+pub mod ReachSets
