@@ -27,4 +27,4 @@ pub mod Steps
 pub mod Lookahead
 pub mod Leading
 pub mod Turns
-pub mod Ready
+pub mod ReadyTables
