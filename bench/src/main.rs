@@ -1,6 +1,8 @@
 //! Compares the proved library with the outside implementation, and measures both.
+mod chains;
 mod compare;
 mod library;
+mod plain;
 mod speed;
 
 fn main() {

@@ -1,8 +1,10 @@
 // The functions exported for C and Rust. Each takes bytes as pointer and length, and answers one number.
 ghost use mathlib.Core.Path.{_≡_};
 ghost use Prim.Native.Nat.{ℕ, _≤_, min};
-ghost use Rattle.answer.specs.Outcomes.{answerOf};
+ghost use Rattle.answer.specs.Outcomes.{answerOf, outputOf};
+ghost use lib.ListN.{length};
 ghost use Rattle.record.specs.Checks.{checkedOnly};
+ghost use Rattle.codec.specs.Answers.{encodeUnder, decodeUnder};
 ghost use Rattle.api.specs.Words.{held, wordOf};
 use answer::Answer;
 
@@ -31,4 +33,36 @@ pub extern "C" fn sbc_check(bytes: &[u8]) -> u64
     ensures answer { λ r. ⌜ r ≡ wordOf (answerOf (checkedOnly (now (bytes .entry)))) ⌝ }
 {
     word(record::loading::check(bytes))
+}
+
+// Blocks recorded under a record: the record's refusals, 13, 11 with the place of the first bad block; otherwise how many
+// words were written. A refusal changes no byte of the output, and bytes past the words stay as lent.
+#[no_mangle]
+pub extern "C" fn sbc_encode(bytes: &[u8], blocks: &[u8], out: &mut [u8]) -> u64
+    ensures answer {
+        λ r. ⌜ r ≡ wordOf (answerOf
+        (encodeUnder (now (bytes .entry)) (length (now (out .entry))) (now (blocks .entry)))) ⌝
+    }
+    ensures written {
+        λ r. ⌜ now (out .exit) ≡ outputOf
+        (encodeUnder (now (bytes .entry)) (length (now (out .entry))) (now (blocks .entry))) (now (out .entry)) ⌝
+    }
+{
+    word(codec::encoding::encode(bytes, blocks, out))
+}
+
+// Words decoded under a record: the record's refusals, 12, 13, 11 with the place of the first bad word; otherwise how many
+// blocks were written. A refusal changes no byte of the output, and bytes past the blocks stay as lent.
+#[no_mangle]
+pub extern "C" fn sbc_decode(bytes: &[u8], words: &[u8], out: &mut [u8]) -> u64
+    ensures answer {
+        λ r. ⌜ r ≡ wordOf (answerOf
+        (decodeUnder (now (bytes .entry)) (length (now (out .entry))) (now (words .entry)))) ⌝
+    }
+    ensures written {
+        λ r. ⌜ now (out .exit) ≡ outputOf
+        (decodeUnder (now (bytes .entry)) (length (now (out .entry))) (now (words .entry))) (now (out .entry)) ⌝
+    }
+{
+    word(codec::decoding::decode(bytes, words, out))
 }
