@@ -3,3 +3,4 @@ pub mod Jobs
 pub mod Compile
 pub mod Accepted
 pub mod Promises
+pub mod JobSteps

@@ -1,20 +1,26 @@
 -- What the parts of a split answer.
--- In order: choosing, whether an edge makes its source the better choice; RunTo, FirstRun, what a search for a run finds;
--- keptArcs; SplitInto, the answer of a split.
+-- In order: lowerSource; runIn, RunTo, FirstRun, what a search for a run finds; keptArcs; Moved, Doubled, Weighed, the steps
+-- of a split; entering, PartedInto, SplitInto, the answer of a split; Splits, SplitAllInto, all splits.
 -- Assumes nothing.
 use mathlib.Core.Path.{_≡_}
 use mathlib.Core.Bool.{Bool, true, false, _&&_}
-use mathlib.Core.List.{List, [], map}
-use Prim.Native.Nat.{ℕ, _+_, _≤_, _<_, min}
+use mathlib.Core.List.{List, [], _∷_, _++_, map}
+use Prim.Native.Nat.{ℕ, _+_, _-_, _/_, _≤_, _<_, min}
 use lib.Dec.{ltb, eqb}
-use lib.ListN.{length, take, drop}
-use Rattle.laws.specs.Lists.{if_then_else_, any, first}
+use lib.ListN.{length, getD, take, drop, set}
+use Rattle.laws.specs.Lists.{if_then_else_, sum, filter, any, first}
+use Rattle.graph.specs.declared.Graph.{Graph}
 use Rattle.graph.specs.declared.keys.Keys.{Keys}
 use Rattle.graph.specs.declared.find_run.Run.{Run}
-use Rattle.graph.specs.Arcs.{Arc}
+use Rattle.graph.specs.declared.split_graph.NextGraph.{NextGraph}
+use Rattle.graph.specs.Arcs.{Arc, enters}
 use Rattle.graph.specs.Weights.{weight, total}
-use Rattle.graph.specs.Splitting.{runsTo, divisible, firstRun}
-use Rattle.graph.specs.EdgeKeys.{keysIn, arcOf}
+use Rattle.graph.specs.Splitting.{
+  runsTo, divisible, firstRun, kept, moved, doubled, parted, split, splitAll, crowded
+}
+use Rattle.graph.specs.Invariant.{Inv}
+use Rattle.graph.specs.Value.{arcsIn, weightsIn, workIn}
+use Rattle.graph.specs.EdgeKeys.{keysIn, arcOf, Fits}
 
 -- the lower of `best` and s, if s weighs M and leads to a lighter state
 abbrev pub lowerSource : ℕ → ℕ → ℕ → ℕ → ℕ → ℕ
@@ -42,3 +48,54 @@ pub record FirstRun (n : ℕ) (W : List ℕ) (r : Run) : Type 0 where
 -- the edges of s that a run of keys keeps
 abbrev pub keptArcs : ℕ → Keys → Run → List Arc
 keptArcs s l r = map (arcOf s) (take (r .count) (drop (r .from) (keysIn l)))
+
+-- r is g, but "a new last state takes all other edges of s"
+pub record Moved (g : Graph) (s : ℕ) (keep : List Arc) (r : Graph) : Type 0 where
+  pub arcs : arcsIn r ≡ map (moved s (g .states) keep) (arcsIn g)
+  pub edges : r .edges ≡ g .edges
+  pub states : r .states ≡ g .states
+  pub weight : r .weight ≡ g .weight
+
+-- how many edges lead into s
+abbrev pub entering : List Arc → ℕ → ℕ
+entering l s = length (filter (enters s) l)
+
+-- r is g, but "every edge into s becomes two, to s and to the new state"
+pub record Doubled (g : Graph) (s : ℕ) (r : Graph) : Type 0 where
+  pub arcs : arcsIn r ≡ doubled s (g .states) (arcsIn g)
+  pub room : r .edges ≤ 2048
+  pub states : r .states ≡ g .states
+  pub weight : r .weight ≡ g .weight
+
+-- r is g, but s has weight w, "and a new last state" what is left of its weight
+pub record Weighed (g : Graph) (s w : ℕ) (r : Graph) : Type 0 where
+  pub weights : weightsIn r ≡ set (weightsIn g) s w ++ ((getD (weightsIn g) s 0 - w) ∷ [])
+  pub arcs : arcsIn r ≡ arcsIn g
+  pub edges : r .edges ≡ g .edges
+  pub states : r .states ≡ g .states + 1
+
+-- r is g with s split by the rule
+pub record PartedInto (n : ℕ) (g : Graph) (s : ℕ) (r : Graph) : Type 0 where
+  pub work : workIn r ≡ parted s (kept n (weightsIn g) (arcsIn g) s)
+      (total (weightsIn g) (kept n (weightsIn g) (arcsIn g) s) / n) (workIn g)
+  pub fits : Fits r
+
+-- r is g after a split, or says that it would have "over 2,048 edges"
+pub record SplitInto (n : ℕ) (g : Graph) (r : NextGraph) : Type 0 where
+  pub crowds : r .crowded ≡ crowded (split n (workIn g))
+  pub work : r .crowded ≡ false → workIn (r .graph) ≡ split n (workIn g)
+  pub fits : r .crowded ≡ false → Fits (r .graph)
+
+-- a graph that all splits serve: it keeps to its arrays and to what every split keeps, and weighs at most 128
+pub record Splits (n : ℕ) (g : Graph) : Type 0 where
+  pub fits : Fits g
+  pub some : 0 < n
+  pub few : n ≤ 16
+  pub inv : Inv n (sum (weightsIn g)) (workIn g)
+  pub weighs : sum (weightsIn g) ≤ 128
+
+-- r is g after all splits, or says that there were "over 2,048 edges"
+pub record SplitAllInto (n : ℕ) (g : Graph) (r : NextGraph) : Type 0 where
+  pub crowds : r .crowded ≡ crowded (splitAll n (workIn g))
+  pub work : r .crowded ≡ false → workIn (r .graph) ≡ splitAll n (workIn g)
+  pub fits : r .crowded ≡ false → Fits (r .graph)

@@ -13,6 +13,8 @@ pub mod RecordChecks
 pub mod RecordTables
 pub mod RecordReady
 pub mod RecordReading
+pub mod RecordFollow
+pub mod Reasons
 pub mod RecordParts
 pub mod Runs
 pub mod RecordRuns

@@ -1,7 +1,7 @@
 -- Laws of edges as places and of chains.
--- In order: below-more, below-le, below-bears, some-below, the last edge below a bound; chain-start, chain-skip, chain-put,
--- the chains with one edge more; bears-edge, bears-word, link-below, one edge of a chain; on-le, on-bears, on-some, a place
--- of a chain.
+-- In order: below-more, below-le, below-bears, some-below, below-gap, the last edge below a bound; chain-start, chain-skip,
+-- chain-put, the chains with one edge more; bears-edge, bears-word, link-below, one edge of a chain; on-le, on-bears,
+-- on-some, on-gap, a place of a chain.
 -- Assumes nothing.
 use mathlib.Core.Path.{_≡_, refl, sym, ap, ap₂, subst, _∙_}
 use mathlib.Core.Bool.{Bool, true, false, _&&_, _||_, or-false}
@@ -12,7 +12,7 @@ use native.Mathlib.Omega.{arith}
 use native.Mathlib.Decide.{ℕ-discrete}
 use lib.Dec.{eqb}
 use borrow.Author.Tests.{eq-eqb, ne-eqb, eqb-true}
-use lib.ListN.{length, getD, set, length-set, replicate, length-replicate, getD-replicate}
+use lib.ListN.{getD, set, length-set, replicate, length-replicate, getD-replicate}
 use lib.Seq.{getD-set-same, getD-set-other}
 use Rattle.laws.specs.Lists.{if_then_else_}
 use Rattle.table.specs.Marks.{some}
@@ -57,6 +57,18 @@ module _ (t : Arrays) (w : ℕ) where
           → some f (suc b) ≡ some f (if k then suc b else lastBelow t w b)
       go true e r = refl
       go false e r = some-suc f b ∙ ap₂ (λ x y. x || y) r (h b e) ∙ or-false (some f (lastBelow t w b))
+
+  -- between lastBelow and its bound no edge bears the word
+  below-gap : (b e : ℕ) → lastBelow t w b ≤ e → e < b → bears t w e ≡ false
+  unfolding lastBelow
+  below-gap zero e h l = absurd (omega arith)
+  below-gap (suc b) e h l = go (bears t w b) refl h (λ q r. below-gap b e q r) (ℕ-discrete e b)
+    where
+      go : (k : Bool) → bears t w b ≡ k → (if k then suc b else lastBelow t w b) ≤ e
+          → (lastBelow t w b ≤ e → e < b → bears t w e ≡ false) → Dec (e ≡ b) → bears t w e ≡ false
+      go true p q r d = absurd (omega arith)
+      go false p q r (yes d) = ap (bears t w) d ∙ p
+      go false p q r (no d) = r q (omega arith)
 
 -- ---- the chains, one edge more
 pub chain-start : (t : Arrays) → Chained t 0 (replicate 256 0) (replicate 2048 0)
@@ -145,3 +157,6 @@ module _ (t : Arrays) (w b c : ℕ) (q : c ≡ lastBelow t w b) where
 
   pub on-some : (f : ℕ → Bool) → ((e : ℕ) → bears t w e ≡ false → f e ≡ false) → some f b ≡ some f c
   on-some f h = some-below t w f h b ∙ ap (some f) (sym q)
+
+  pub on-gap : (e : ℕ) → c ≤ e → e < b → bears t w e ≡ false
+  on-gap e h l = below-gap t w b e (rw q at h) l

@@ -10,12 +10,11 @@ use native.Mathlib.Decide.{decLt}
 use borrow.Author.Tests.{le-leb, lt-leb}
 use lib.Dec.{T, leb}
 use lib.ListN.{length}
-use Rattle.laws.specs.Lists.{iterate}
 use Rattle.laws.proofs.Tests.{T→true}
 use Rattle.table.specs.Rows.{Rows}
 use Rattle.table.specs.Paths.{Closed}
-use Rattle.table.specs.Works.{into, reversed, works}
-use Rattle.table.specs.Search.{hits, pasts, empty}
+use Rattle.table.specs.Works.{works}
+use Rattle.table.specs.Search.{hits, pasts}
 use Rattle.table.specs.Steps.{size, Emptied}
 use Rattle.table.proofs.Search.{works-by-hits}
 use Rattle.table.proofs.WindowGrows.{works-grows}

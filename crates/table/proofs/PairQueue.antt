@@ -1,7 +1,7 @@
 -- Laws of a set of places and the list of its members, to which the places that edges lead to are added until all
 -- members have been followed.
--- In order: member-lt, member-put; absent-put, absent-blank; queue-blank, queue-room, queue-put, queue-same; grown-none,
--- grown-more; Reaching, reach-start, reach-more, reach-done.
+-- In order: member-lt, member-put; absent-put, absent-blank; queue-blank, queue-room, queue-put, queue-same;
+-- grown-none, grown-more; Reaching, reach-start, reach-more, reach-done.
 -- Assumes nothing.
 use mathlib.Core.Path.{_≡_, refl, sym, subst, _∙_}
 use mathlib.Core.Logic.{_⊎_, inl, inr}

@@ -12,13 +12,14 @@ use lib.ListN.{length, getD}
 use Rattle.laws.specs.Lists.{from, range}
 use Rattle.laws.specs.Sets.{member, Pairs, has, grid}
 use Rattle.laws.proofs.Tests.{map-range-at}
-use Rattle.table.specs.Rows.{Rows, edges}
+use Rattle.table.specs.Rows.{Rows}
 use Rattle.table.specs.Works.{meet, into, entering, reversed}
 use Rattle.table.specs.PairSets.{pairsIn}
 use Rattle.table.proofs.Same.{has-into}
 
 -- ---- the same pairs
-map-from : {A : Type 0} (f g : ℕ → A) (i n : ℕ) → ((x : ℕ) → x < i + n → f x ≡ g x) → map f (from i n) ≡ map g (from i n)
+map-from : {A : Type 0} (f g : ℕ → A) (i n : ℕ) → ((x : ℕ) → x < i + n → f x ≡ g x)
+    → map f (from i n) ≡ map g (from i n)
 map-from f g i zero h = refl
 map-from f g i (suc n) h =
     ap₂ _∷_ (h i (omega arith)) (map-from f g (suc i) n (λ x l. h x (omega arith)))

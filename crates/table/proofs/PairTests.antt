@@ -1,6 +1,6 @@
 -- Laws of the tests of places, as loops make them: a test that all numbers below a bound pass.
--- In order: all-passed, all-failed; other-than, same-as; test-in, test-out; each-passed, each-failed,
--- each→, →each, all places.
+-- In order: all-passed, all-failed; other-than, same-as; test-in, test-out; pick-same, pick-other; each-passed,
+-- each-failed, each→, →each, all places.
 -- Assumes nothing.
 use mathlib.Core.Path.{_≡_, refl, sym, subst}
 use mathlib.Core.Bool.{Bool, true, false, not, _||_}
@@ -9,7 +9,7 @@ use Prim.Native.Nat.{ℕ, _≤_, _<_}
 use native.Mathlib.Omega.{arith}
 use borrow.Author.Tests.{eq-eqb, ne-eqb}
 use lib.Dec.{T, T-not, eqb}
-use Rattle.laws.specs.Lists.{range, all}
+use Rattle.laws.specs.Lists.{if_then_else_, range, all}
 use Rattle.laws.specs.Sets.{member}
 use Rattle.laws.proofs.Tests.{T→true, imp→, →imp, all-below→, →all-below}
 use Rattle.constraint.specs.Walking.{none}
@@ -38,6 +38,12 @@ test-in a b e = rw e
 pub test-out : (a b : Bool) → a ≡ false → true ≡ (not a || b)
 test-out a b e = rw e
 
+pub pick-same : (k v a b : ℕ) → k ≡ v → a ≡ (if eqb k v then a else b)
+pick-same k v a b h = rw (eq-eqb k v h)
+
+pub pick-other : (k v a b : ℕ) → (k ≡ v → ⊥) → b ≡ (if eqb k v then a else b)
+pick-other k v a b h = rw (ne-eqb k v h)
+
 -- ---- all places
 module _ (word power : List ℕ) (n : ℕ) (S : List Bool) where
   pub each-passed : (x : ℕ) → 2048 ≤ x → ((i : ℕ) → i < x → T (pairFinds word power n S i))
@@ -56,7 +62,8 @@ module _ (word power : List ℕ) (n : ℕ) (S : List Bool) where
   each→ t x d h u l e =
       T-not (eqb (stateAfter word power x d) none)
       (all-below→ (findsAt word power x) n
-      (imp→ (member S x) (all (findsAt word power x) (range n)) (all-below→ (pairFinds word power n S) 2048 t x h) u) d l)
+      (imp→ (member S x) (all (findsAt word power x) (range n))
+      (all-below→ (pairFinds word power n S) 2048 t x h) u) d l)
       (rw (eq-eqb (stateAfter word power x d) none e) tt)
 
   pub →each : ((x d : ℕ) → x < 2048 → T (member S x) → d < n → (stateAfter word power x d ≡ none) → ⊥)

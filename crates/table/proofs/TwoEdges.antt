@@ -4,19 +4,17 @@
 use mathlib.Core.Path.{_≡_, sym, ap, subst, subst₂, _∙_}
 use mathlib.Core.Bool.{Bool, true, false, not, _&&_}
 use mathlib.Core.List.{List}
-use Prim.Native.Nat.{ℕ, _+_, _*_, _/_, _%_, _≤_, _<_}
+use Prim.Native.Nat.{ℕ, _+_, _*_, _/_, _%_, _<_}
 use native.Mathlib.Omega.{arith}
-use lib.Dec.{T, T-not, not-T, eqb, eqb→eq, eqb-refl, ltb, ltb→lt}
-use borrow.Author.Tests.{eq-eqb}
-use lib.ListN.{length, getD}
-use Rattle.laws.specs.Lists.{if_then_else_}
+use lib.Dec.{T, T-not, not-T, eqb, eqb→eq, eqb-refl, ltb→lt}
+use lib.ListN.{length}
 use Rattle.laws.specs.Sets.{member, Pairs, has, grid}
 use Rattle.laws.proofs.Tests.{and→, →and, bool-eq, T→true}
 use Rattle.table.specs.Rows.{edges, at}
 use Rattle.table.specs.Works.{into, reversed}
 use Rattle.table.specs.Search.{hits}
 use Rattle.table.specs.Marks.{some}
-use Rattle.table.specs.Edges.{Arrays, Fits, edgeOf, rowsOf, places, isEdge, wordOf, nextOf, bears}
+use Rattle.table.specs.Edges.{Arrays, Fits, rowsOf, places, isEdge, wordOf, nextOf, bears}
 use Rattle.table.specs.PairSets.{pairsIn, counts, joins, leftOut, joinsAny}
 use Rattle.table.proofs.Same.{onward}
 use Rattle.table.proofs.Works.{back-one}
@@ -32,7 +30,6 @@ use Rattle.table.proofs.RowsOf.{
   place-datum,
   place-lt,
   place-edge,
-  place-next,
 }
 use Rattle.table.proofs.PairSets.{grid-has, has-pairs, pairs-grid, into-grid}
 

@@ -1,5 +1,5 @@
--- How the code tests that recordings obey the constraint. The pair of table state s and constraint state k has the place
--- s * 16 + k, below 2,048; the arrays are the table's words and next states and the power table in bytes.
+-- How the code tests that recordings obey the constraint. The pair of table state s and constraint state k has the
+-- place s * 16 + k, below 2,048; the arrays are the table's words and next states and the power table in bytes.
 -- In order: stateAfter, pairAfter, one edge; Reached, Closure, the places that recordings reach; absent, Queue, Grown,
 -- the list of places still to be followed; findsAt, pairFinds, eachFinds, the test; Followable, what the test needs.
 -- Assumes nothing.

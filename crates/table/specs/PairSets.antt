@@ -1,5 +1,5 @@
 -- Sets of pairs of states in an array, the pair of x and y at x * 128 + y, and the tests by which the code marks them.
--- In order: pairsIn; counts, joins, leftOut, joinsAny, two edges with one word; holdsAt, addsAt.
+-- In order: pairsIn; counts, joins, leftOut, joinsAny, two edges with one word; holdsAt, addsAt, differsAt.
 -- Assumes nothing.
 use mathlib.Core.Bool.{Bool, false, not, _&&_}
 use mathlib.Core.List.{List}
@@ -27,7 +27,8 @@ joins t P k i z j = bears t (wordOf t i) j && (counts P (i / 16) k j && eqb (nex
 abbrev pub leftOut : Bool → ℕ → ℕ
 leftOut apart i = if apart then i % 16 else 16
 
--- the edge i and some edge with its word, and with other data where they must differ, lead from a pair of P to the place z
+-- the edge i and some edge with its word, and with other data where they must differ, lead from a pair of P to the
+-- place z
 abbrev pub joinsAny : Arrays → List Bool → Bool → ℕ → ℕ → Bool
 joinsAny t P apart z i = isEdge t i && some (joins t P (leftOut apart i) i z) (places t)
 
@@ -38,3 +39,7 @@ holdsAt n P z = ltb (z % 128) n && member P z
 -- turn z adds the place x
 abbrev pub addsAt : List Bool → ℕ → ℕ → Bool
 addsAt Q x z = member Q z && eqb z x
+
+-- one of A and B holds the place z, and the other does not
+abbrev pub differsAt : List Bool → List Bool → ℕ → Bool
+differsAt A B z = if member A z then not (member B z) else member B z

@@ -10,8 +10,8 @@ use lib.Dec.{T}
 use Rattle.laws.specs.Lists.{iterate}
 use Rattle.laws.specs.Sets.{Pairs}
 use Rattle.table.specs.declared.windows.Pasts.{Pasts}
-use Rattle.table.specs.declared.windows.Found.{Found}
-use Rattle.table.specs.declared.windows.Found.the-variants.{None, Window}
+use Rattle.table.specs.declared.least.Found.{Found}
+use Rattle.table.specs.declared.least.Found.the-variants.{None, Window}
 use Rattle.table.specs.Rows.{Rows, Size}
 use Rattle.table.specs.Works.{into, reversed, past, started, works}
 use Rattle.table.specs.Window.{NoLater}
@@ -22,7 +22,8 @@ use Rattle.table.specs.PairSets.{pairsIn}
 abbrev pub size : ℕ → ℕ → Size
 size m a = record { memory = m; lookahead = a }
 
--- the pairs that i common words lead to from any two states and from the start, and those that fewer lead to from the start
+-- the pairs that i common words lead to from any two states and from the start, and those that fewer lead to from the
+-- start
 pub record Reached (t : Rows) (n i : ℕ) (g : Pasts) : Type 0 where
   pub all : pairsIn n (g .all) ≡ past t i
   pub first : pairsIn n (g .first) ≡ started t i

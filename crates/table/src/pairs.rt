@@ -1,13 +1,13 @@
 // Sets of pairs of states, the pair of x and y at x * 128 + y, and where two edges with one word lead them.
 ghost use mathlib.Core.Path.{_≡_};
-ghost use mathlib.Core.Bool.{Bool, true, false};
-ghost use Prim.Native.Nat.{ℕ, _+_, _*_, _≤_, _<_};
-ghost use lib.ListN.{length, getD};
+ghost use mathlib.Core.Bool.{true, false};
+ghost use Prim.Native.Nat.{ℕ, _+_, _*_, _<_};
+ghost use lib.ListN.{length};
 ghost use Rattle.laws.specs.Sets.{member};
 ghost use Rattle.table.specs.Works.{into, reversed};
 ghost use Rattle.table.specs.Search.{hits};
 ghost use Rattle.table.specs.Marks.{some, Marked};
-ghost use Rattle.table.specs.Edges.{arrays, rowsOf, places, isEdge, Linked};
+ghost use Rattle.table.specs.Edges.{arrays, rowsOf, isEdge, Linked};
 ghost use Rattle.table.specs.PairSets.{pairsIn, counts, joins, leftOut, joinsAny};
 use crate::chains::wide;
 
@@ -80,7 +80,8 @@ fn joined(
     requires { ⌜ Linked (arrays states n (now word) (now next)) (now head) (now link) ⌝ }
     ensures answer { λ r. ⌜
         ((z : ℕ) → member r z ≡ some
-        (joinsAny (arrays states n (now (word .entry)) (now (next .entry))) (now (pairs .entry)) apart z) (states * 16)) ⌝ }
+        (joinsAny (arrays states n (now (word .entry)) (now (next .entry))) (now (pairs .entry)) apart z)
+        (states * 16)) ⌝ }
 {
     let mut out = [false; 16384];
     let mut i = 0;
@@ -136,7 +137,8 @@ pub fn clashes(
     requires { ⌜ Linked (arrays states n (now word) (now next)) (now head) (now link) ⌝ }
     ensures answer { λ r. ⌜
         pairsIn states r
-        ≡ hits (rowsOf (arrays states n (now (word .entry)) (now (next .entry)))) (pairsIn states (now (pairs .entry))) ⌝ }
+        ≡ hits (rowsOf (arrays states n (now (word .entry)) (now (next .entry))))
+        (pairsIn states (now (pairs .entry))) ⌝ }
 {
     joined(states, n, word, next, head, link, pairs, true)
 }

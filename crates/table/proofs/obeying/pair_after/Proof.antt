@@ -1,8 +1,10 @@
 -- Each return is one side of the definition's test.
 use mathlib.Core.Path.{sym, ap₂, _∙_}
 use Prim.Native.Nat.{_+_, _*_}
-use borrow.Author.Tests.{eq-eqb, ne-eqb}
 use borrow.Author.Needs.{needs}
+use denote.Ref.{now}
+use Rattle.table.specs.Obeying.{stateAfter}
+use Rattle.table.proofs.PairTests.{pick-same, pick-other}
 use Rattle.table.proofs.obeying.pair_after.Statement.{statement}
 use Rattle.table.proofs.obeying.pair_after.Tie as tie
 
@@ -11,8 +13,9 @@ state-after-requires c κs = search needs
 
 returns : tie.Need-returns
 returns c =
+    let a = c .before .before .args in
     let e = c .before .state-after .ensures .0 in
-    simp (eq-eqb _ _ (sym e ∙ c .if1 .taken))
+    pick-same (stateAfter (now (a .word)) (now (a .power)) (a .x) (a .d)) 255 2048 _ (sym e ∙ c .if1 .taken)
 
 mul-wide : tie.Need-mul-wide
 mul-wide c = search needs
@@ -36,7 +39,10 @@ returns-2 : tie.Need-returns-2
 returns-2 c =
     let b = c .before .before .before in
     let e = b .state-after .ensures .0 in
-    simp (ne-eqb _ _ (λ z. c .before .before .if1 .left (e ∙ z))) (ap₂ (λ u v. u * 16 + v) (c .wide .ensures .0) e)
+    let a = b .before .args in
+    ap₂ (λ u v. u * 16 + v) (c .wide .ensures .0) e
+    ∙ pick-other (stateAfter (now (a .word)) (now (a .power)) (a .x) (a .d)) 255 2048 _
+    (λ z. c .before .before .if1 .left (e ∙ z))
 
 pub pair-after-spec : {M : Type 1} → statement M
 pair-after-spec =

@@ -33,8 +33,9 @@ wide-requires-2 c κs = search needs
 
 returns : tie.Need-returns
 returns c =
-    let a = c .before .before .before .before .args in (
-      c .wide2 .ensures .0 ∙ ap (λ w. getD (now (a .power)) (a .x % 16 * 256 + w) 0) (c .before .before .wide .ensures .0),
+    let a = c .before .before .before .before .args in
+    let w = c .before .before .wide .ensures .0 in (
+      c .wide2 .ensures .0 ∙ ap (λ w. getD (now (a .power)) (a .x % 16 * 256 + w) 0) w,
       c .wide2 .ensures .1,
     )
 

@@ -1,7 +1,6 @@
 -- Every place is marked.
 use native.Mathlib.Omega.{arith}
 use Rattle.table.proofs.SetLaws.{all-of}
-use borrow.Author.Needs.{needs}
 use Rattle.table.proofs.pair_sets.all_pairs.Statement.{statement}
 use Rattle.table.proofs.pair_sets.all_pairs.Tie as tie
 

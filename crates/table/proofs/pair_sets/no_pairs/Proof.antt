@@ -1,7 +1,6 @@
 -- No place is marked.
 use Rattle.table.specs.Marks.{blank}
 use Rattle.table.proofs.SetLaws.{none-of}
-use borrow.Author.Needs.{needs}
 use Rattle.table.proofs.pair_sets.no_pairs.Statement.{statement}
 use Rattle.table.proofs.pair_sets.no_pairs.Tie as tie
 

@@ -2,7 +2,6 @@
 use mathlib.Core.Path.{sym, ap}
 use Prim.Native.Nat.{_%_}
 use Rattle.laws.specs.Lists.{if_then_else_}
-use borrow.Author.Needs.{needs}
 use Rattle.table.proofs.pairs.left_out.Statement.{statement}
 use Rattle.table.proofs.pairs.left_out.Tie as tie
 

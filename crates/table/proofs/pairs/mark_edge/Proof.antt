@@ -2,12 +2,12 @@
 use mathlib.Core.Path.{_≡_, sym, ap, _∙_}
 use mathlib.Core.Bool.{true}
 use mathlib.Core.Logic.{⊎-elim}
-use Prim.Native.Nat.{_+_, _-_, _*_, _/_, _≤_, _<_}
+use Prim.Native.Nat.{_+_, _-_, _*_, _≤_, _<_}
 use native.Mathlib.Omega.{arith}
 use denote.Ref.{now}
 use lib.ListN.{length, getD}
 use Rattle.table.specs.Edges.{Arrays, arrays, nextOf, bears, lastBelow}
-use Rattle.table.specs.PairSets.{counts, joins}
+use Rattle.table.specs.PairSets.{joins}
 use Rattle.table.proofs.Marks.{Left, left-start, left-jump, left-put, left-skip, left-done}
 use Rattle.table.proofs.Edges.{bears-edge, link-below, on-le, on-bears, on-some}
 use Rattle.table.proofs.Joins.{edge-target, join-in, join-out, join-only}

@@ -22,8 +22,8 @@ returns c = λ i h.
     let a = s .args in
     let t = arrays (a .states) (a .n) (now (a .word)) (now (a .next)) in
     let u = c .before .before .before in
-    reached-more (rowsOf t) (a .states) i (a .t7) _ (u .before .before .before .before .forward .ensures) (c .forward2 .ensures)
-    (u .union-of .ensures (rowsOf t) (length-rows t)) h
+    reached-more (rowsOf t) (a .states) i (a .t7) _ (u .before .before .before .before .forward .ensures)
+    (c .forward2 .ensures) (u .union-of .ensures (rowsOf t) (length-rows t)) h
 
 pub more-spec : {M : Type 1} → statement M
 more-spec = tie.close (tie.spec forward-requires union-of-requires forward-requires-2 returns)
