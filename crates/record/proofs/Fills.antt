@@ -1,9 +1,9 @@
 -- Arrays filled place by place, and lists made from a range.
--- In order: fill-more, one place more; spot-lt, spot-once, the places of edges; reach-spot, reach-step, reach-end,
+-- In order: fill-more, one place more; spot-once, spot-lt, the places of edges; reach-spot, reach-step, reach-end,
 -- column-more; map-range.
 -- Assumes nothing.
-use mathlib.Core.Path.{_≡_, refl, sym, ap, ap₂, subst, _∙_}
-use mathlib.Core.List.{List, [], _∷_, map}
+use mathlib.Core.Path.{_≡_, refl, sym, ap₂, subst, _∙_}
+use mathlib.Core.List.{List, _∷_, map}
 use Prim.Native.Nat.{ℕ, zero, suc, _+_, _*_, _/_, _%_, _≤_, _<_}
 use native.Mathlib.Nat.{mod-lt, div-add-mod', div-lt-iff-lt-mul}
 use native.Mathlib.Omega.{arith}
@@ -50,7 +50,7 @@ module _ (l n k o d w e : ℕ) (r : Reach l n k o d w) (h : e < k) where
   pub reach-end : o + e * d + w ≤ l
   reach-end = place-le o k d w l e h (r .last)
 
-  -- THEOREM: the field of one edge more
+  -- the field of one edge more
   pub column-more : (bs a : List ℕ) (v : ℕ) → v ≡ field bs (o + e * d) w → Column bs n e o d w a
       → Column bs n (e + 1) o d w (set a (spot n e) v)
   column-more bs a v q c = record {
@@ -59,11 +59,12 @@ module _ (l n k o d w e : ℕ) (r : Reach l n k o d w) (h : e < k) where
         (subst (λ m. spot n e < m) (sym (c .whole)) reach-spot) q (c .filled);
   }
 
-map-from : {A : Type 0} (f g : ℕ → A) (i n : ℕ) → ((k : ℕ) → k < i + n → f k ≡ g k) → map f (from i n) ≡ map g (from i n)
+map-from : {A : Type 0} (f g : ℕ → A) (i n : ℕ) → ((k : ℕ) → k < i + n → f k ≡ g k) → map f (from i n)
+    ≡ map g (from i n)
 map-from f g i zero h = refl
 map-from f g i (suc n) h =
     ap₂ _∷_ (h i (omega arith)) (map-from f g (suc i) n (λ k l. h k (omega arith)))
 
--- THEOREM: lists over a range are equal where their elements are
+-- lists over a range are equal where their elements are
 pub map-range : {A : Type 0} (f g : ℕ → A) (n : ℕ) → ((k : ℕ) → k < n → f k ≡ g k) → map f (range n) ≡ map g (range n)
 map-range f g n h = map-from f g 0 n (λ k l. h k (omega arith))

@@ -4,21 +4,20 @@
 use mathlib.Core.Path.{_≡_, refl, sym, ap, ap₂, _∙_}
 use mathlib.Core.Bool.{Bool, true, false, _&&_}
 use mathlib.Core.List.{List, [], _∷_, _++_, append-assoc}
-use Prim.Native.Nat.{ℕ, zero, suc, _+_, _*_, _-_, _^_, _≤_, _<_}
+use Prim.Native.Nat.{ℕ, zero, suc, _+_, _*_, _-_, _^_}
 use native.Mathlib.Nat.{zero-mul, suc-mul, add-zero, zero-add}
 use native.Mathlib.Omega.{arith}
 use lib.Dec.{ltb, eqb}
-use lib.ListN.{length, getD, take, drop}
+use lib.ListN.{getD, take, drop}
 use lib.Seq.{drop-drop}
 use Rattle.laws.specs.Lists.{all, from, range, repeat}
+use Rattle.laws.proofs.Lists.{length-repeat, sum-repeat}
 use Rattle.bits.specs.Fields.{field, value, read}
-use Rattle.table.specs.Rows.{Edge}
 use Rattle.table.specs.Formed.{Head}
-use Rattle.record.specs.Layout.{bitCount, fill, widths, edgesOf, rowsOf, codeOf}
-use Rattle.record.specs.Parse.{goodField, goodFields, goodTarget, filler, goodRest}
+use Rattle.record.specs.Layout.{bitCount, fill, widths, edgesOf, rowsOf}
+use Rattle.record.specs.Parse.{goodField, goodFields, goodTarget, filler}
 use Rattle.record.specs.Checks.{codeAt, restGood}
 use Rattle.record.specs.Places.{goodAt, edgesPlace, goodTargetAt}
-use Rattle.laws.proofs.Lists.{length-repeat, sum-repeat}
 use Rattle.record.proofs.RecordPlaces.{behind, behind-head}
 
 and-assoc : (a b c : Bool) → ((a && b) && c) ≡ (a && (b && c))
@@ -60,7 +59,8 @@ module _ (bs us : List ℕ) (K : ℕ) where
   next-good : (o i m : ℕ) → o + i * 5 ≡ m
       → goodField K (value (take 1 (drop m bs))) (value (take 4 (drop 1 (drop m bs)))) ≡ nextGood bs K o i
   next-good o i m e =
-      ap₂ (λ x y. goodField K (value (take 1 (drop x bs))) (value (take 4 y))) (sym e) (past bs 1 m (o + i * 5 + 1) (omega arith))
+      ap₂ (λ x y. goodField K (value (take 1 (drop x bs))) (value (take 4 y))) (sym e)
+      (past bs 1 m (o + i * 5 + 1) (omega arith))
 
   states-good : (n o : ℕ) → goodFields K n (read (repeat n (1 ∷ 4 ∷ 1 ∷ 4 ∷ []) ++ us) (drop o bs))
       ≡ all (nextGood bs K o) (range (2 * n))
@@ -83,9 +83,10 @@ module _ (bs us : List ℕ) (K : ℕ) where
       shifted o j = let e : o + (2 + j) * 5 ≡ o + 10 + j * 5 = omega arith in
           ap (λ m. goodField K (field bs m 1) (field bs (m + 1) 4)) e
 
--- THEOREM: the check of the constraint's fields
+-- the check of the constraint's fields
 pub states-checked : (h : Head) (bs : List ℕ)
-    → goodFields (h .count) (h .count) (drop 7 (read (widths h) bs)) ≡ all (goodAt bs (h .count)) (range (2 * h .count))
+    → goodFields (h .count) (h .count) (drop 7 (read (widths h) bs))
+    ≡ all (goodAt bs (h .count)) (range (2 * h .count))
 states-checked h bs =
     ap (goodFields (h .count) (h .count)) (behind-head h bs) ∙ states-good bs _ (h .count) (h .count) 30
 
@@ -99,7 +100,8 @@ module _ (bs : List ℕ) (q S : ℕ) where
       let e : o + q + (k + j) * (q + 7) ≡ o + k * (q + 7) + q + j * (q + 7) = omega arith in
       ap (λ m. ltb (field bs m 7) S) e
 
-  edges-good : (n o : ℕ) (us : List ℕ) → all (goodTarget S) (edgesOf n (read (repeat n (q ∷ 7 ∷ []) ++ us) (drop o bs)))
+  edges-good : (n o : ℕ) (us : List ℕ) → all (goodTarget S)
+      (edgesOf n (read (repeat n (q ∷ 7 ∷ []) ++ us) (drop o bs)))
       ≡ all (targetGood o) (range n)
   edges-good zero o us = refl
   edges-good (suc n) o us =
@@ -107,7 +109,8 @@ module _ (bs : List ℕ) (q S : ℕ) where
       let d : drop 7 (drop q (drop o bs)) ≡ drop (o + 1 * (q + 7)) bs =
       ap (drop 7) (past bs q o (o + q) refl) ∙ past bs 7 (o + q) (o + 1 * (q + 7)) (omega arith) in
       ap₂ _&&_ (ap (λ l. ltb (value (take 7 l)) S) (past bs q o (o + q + 0 * (q + 7)) z))
-      (ap (λ l. all (goodTarget S) (edgesOf n (read (repeat n (q ∷ 7 ∷ []) ++ us) l))) d ∙ edges-good n (o + 1 * (q + 7)) us
+      (ap (λ l. all (goodTarget S) (edgesOf n (read (repeat n (q ∷ 7 ∷ []) ++ us) l))) d
+      ∙ edges-good n (o + 1 * (q + 7)) us
       ∙ sym (all-shift (targetGood o) (targetGood (o + 1 * (q + 7))) 1 0 n (moved o 1)))
 
   rows-good : (s n o : ℕ) (us : List ℕ)
@@ -137,14 +140,14 @@ behind-states h bs =
     ∙ behind (h .count) (h .count * 4) (1 ∷ 4 ∷ 1 ∷ 4 ∷ []) us (drop 30 bs) refl
     ∙ ap (read us) (past bs (h .count * 10) 30 (edgesPlace h) refl)
 
--- THEOREM: the check of the edges' targets
+-- the check of the edges' targets
 pub targets-checked : (h : Head) (bs : List ℕ)
     → all (all (goodTarget (h .states))) (codeAt h bs .table) ≡ all (goodTargetAt bs h) (range (h .states * 2 ^ h .p))
 targets-checked h bs =
     ap (λ vs. all (all (goodTarget (h .states))) (rowsOf (h .states) (2 ^ h .p) vs)) (behind-states h bs)
     ∙ rows-good bs (h .q) (h .states) (h .states) (2 ^ h .p) (edgesPlace h) (fill h ∷ [])
 
--- THEOREM: the fill
+-- the fill
 pub fill-checked : (h : Head) (bs : List ℕ) → filler h (read (widths h) bs) ≡ field bs (bitCount h) (fill h)
 fill-checked h bs =
     let n = 2 ^ h .p in
@@ -155,7 +158,7 @@ fill-checked h bs =
     ∙ ap (λ m. value (take (fill h) (drop (h .states * m) (drop (edgesPlace h) bs)))) (sum-repeat n (h .q ∷ 7 ∷ []))
     ∙ ap (λ l. value (take (fill h) l)) (past bs (h .states * (n * (h .q + 7))) (edgesPlace h) (bitCount h) e)
 
--- THEOREM: the check of the fields behind the header, in the code's order
+-- the check of the fields behind the header, in the code's order
 pub rest-checked : (h : Head) (bs : List ℕ) → restGood h bs
     ≡ (all (goodAt bs (h .count)) (range (2 * h .count)) && (all (goodTargetAt bs h) (range (h .states * 2 ^ h .p))
     && eqb (field bs (bitCount h) (fill h)) 0))

@@ -1,16 +1,16 @@
--- The parts of a record one behind the other are its bits, and bytes with these bits in front are the record in lent bytes.
--- In order: states-write, rows-write, parts-are; length-parts; bytes-are.
+-- The parts of a record one behind the other are its bits, and bytes with these bits in front are the record in lent
+-- bytes.
+-- In order: length-front, length-states, length-table; parts-are, length-parts; bytes-are.
 -- Assumes nothing.
 use mathlib.Core.Path.{_≡_, refl, sym, ap, ap₂, subst, _∙_}
 use mathlib.Core.List.{List, [], _∷_, _++_, map, append-assoc, append-nil}
-use Prim.Native.Nat.{ℕ, zero, suc, _+_, _*_, _-_, _^_, _≤_, _<_}
+use Prim.Native.Nat.{ℕ, suc, _+_, _*_, _-_, _^_, _≤_}
 use native.Mathlib.Nat.{le-refl}
 use native.Mathlib.Omega.{arith}
-use lib.ListN.{length, take, drop, replicate, length-append, length-drop}
-use Rattle.laws.specs.Lists.{concat, range, repeat, sum}
+use lib.ListN.{length, drop, replicate, length-append, length-drop}
+use Rattle.laws.specs.Lists.{concat, repeat, sum}
 use Rattle.laws.specs.Sums.{Each, Below}
 use Rattle.laws.proofs.Lists.{sum-repeat, sum-replicate, below-append, below-drop}
-use Rattle.laws.proofs.Sums.{each-image, each-always}
 use Rattle.bits.specs.Fields.{bits, write, read, bitsOf}
 use Rattle.bits.specs.Bytes.{spliced}
 use Rattle.bits.proofs.Fields.{write-read, read-back, below-write, fits-read, fits-bytes, fits-below}
@@ -19,7 +19,7 @@ use Rattle.bits.proofs.Puts.{bitsOf-append}
 use Rattle.constraint.specs.Walking.{Constraint}
 use Rattle.table.specs.Rows.{Edge, Rows, Code}
 use Rattle.table.specs.Formed.{Head, head}
-use Rattle.record.specs.Layout.{header, size, fill, widths, present, shown, nexts, pairs, rows, values, pack}
+use Rattle.record.specs.Layout.{header, size, fill, widths, nexts, pairs, rows, values, pack}
 use Rattle.record.specs.Parts.{frontValues, frontBits, nextBits, stateBits, edgeBits, statesBits, rowsBits}
 use Rattle.record.proofs.RecordFits.{sum-widths}
 use Rattle.record.proofs.RecordParts.{length-fields, write-append}
@@ -70,7 +70,7 @@ module _ (q : ℕ) where
   rows-write n (es ∷ t) (e, h) =
       let R = repeat (length t) (repeat n (q ∷ 7 ∷ [])) in
       write-append (repeat n (q ∷ 7 ∷ [])) R (pairs es) (rows t)
-          (ap (λ m. length (repeat m (q ∷ 7 ∷ []))) (sym e) ∙ length-pairs es)
+      (ap (λ m. length (repeat m (q ∷ 7 ∷ []))) (sym e) ∙ length-pairs es)
       ∙ ap₂ _++_ (ap (λ m. write (repeat m (q ∷ 7 ∷ [])) (pairs es)) (sym e) ∙ pairs-write es) (rows-write n t h)
       ∙ sym (pieces es (concat t))
 
@@ -81,7 +81,8 @@ length-front h = length-fields header (frontValues h) refl
 
 pub length-states : (c : Constraint) → length (statesBits c) ≡ length c * 10
 length-states c =
-    ap length (sym (states-write c)) ∙ length-fields (repeat (length c) (1 ∷ 4 ∷ 1 ∷ 4 ∷ [])) (nexts c) (length-nexts c)
+    ap length (sym (states-write c)) ∙ length-fields (repeat (length c) (1 ∷ 4 ∷ 1 ∷ 4 ∷ [])) (nexts c)
+    (length-nexts c)
     ∙ sum-repeat (length c) (1 ∷ 4 ∷ 1 ∷ 4 ∷ [])
 
 pub length-table : (q n : ℕ) (t : Rows) → Each (λ es. length es ≡ n) t
@@ -91,7 +92,7 @@ length-table q n t h =
     ∙ length-fields (repeat (length t) (repeat n (q ∷ 7 ∷ []))) (rows t) (length-rows q n t h)
     ∙ sum-repeat (length t) (repeat n (q ∷ 7 ∷ [])) ∙ ap (λ m. length t * m) (sum-repeat n (q ∷ 7 ∷ []))
 
--- THEOREM: the parts are the record's bits
+-- the parts are the record's bits
 module _ (c : Code) (even : Each (λ es. length es ≡ 2 ^ c .p) (c .table)) where
   abbrev wide : List ℕ
   wide = repeat (length (c .table)) (repeat (2 ^ c .p) (c .q ∷ 7 ∷ []))
@@ -108,12 +109,13 @@ module _ (c : Code) (even : Each (λ es. length es ≡ 2 ^ c .p) (c .table)) whe
   parts-are =
       let ks = repeat {A = ℕ} (length (c .constraint)) (1 ∷ 4 ∷ 1 ∷ 4 ∷ []) in
       let tail = rowsBits (c .q) (c .table) ++ bits (fill (head c)) 0 in
-      append-assoc (frontBits (head c) ++ statesBits (c .constraint)) (rowsBits (c .q) (c .table)) (bits (fill (head c)) 0)
+      append-assoc (frontBits (head c) ++ statesBits (c .constraint)) (rowsBits (c .q) (c .table))
+      (bits (fill (head c)) 0)
       ∙ append-assoc (frontBits (head c)) (statesBits (c .constraint)) tail
       ∙ sym (write-append header (ks ++ (wide ++ (fill (head c) ∷ []))) (frontValues (head c))
-          (nexts (c .constraint) ++ (rows (c .table) ++ (0 ∷ []))) refl
+      (nexts (c .constraint) ++ (rows (c .table) ++ (0 ∷ []))) refl
       ∙ ap (λ l. frontBits (head c) ++ l) (write-append ks (wide ++ (fill (head c) ∷ [])) (nexts (c .constraint))
-          (rows (c .table) ++ (0 ∷ [])) (length-nexts (c .constraint))
+      (rows (c .table) ++ (0 ∷ [])) (length-nexts (c .constraint))
       ∙ ap₂ _++_ (states-write (c .constraint)) behind-states))
 
   -- there are as many fields as widths
@@ -129,7 +131,8 @@ module _ (c : Code) (even : Each (λ es. length es ≡ 2 ^ c .p) (c .table)) whe
       omega arith
 
   pub length-parts : length (write (widths (head c)) (values c)) ≡ size (head c) * 8
-  length-parts = length-fields (widths (head c)) (values c) length-values ∙ sum-widths (head c) ∙ sum-replicate (size (head c)) 8
+  length-parts = length-fields (widths (head c)) (values c) length-values ∙ sum-widths (head c)
+      ∙ sum-replicate (size (head c)) 8
 
 -- bytes are known by their bits
 same-bytes : (xs ys : List ℕ) → Below 256 xs → Below 256 ys → length xs ≡ length ys → bitsOf xs ≡ bitsOf ys → xs ≡ ys
@@ -137,7 +140,7 @@ same-bytes xs ys b d l e =
     sym (read-back (replicate (length xs) 8) xs (fits-bytes xs b))
     ∙ ap₂ (λ n t. read (replicate n 8) t) l e ∙ read-back (replicate (length ys) 8) ys (fits-bytes ys d)
 
--- THEOREM: bytes that hold the record's bits in front, and are as lent behind them
+-- bytes that hold the record's bits in front, and are as lent behind them
 module _ (c : Code) (long : length (write (widths (head c)) (values c)) ≡ size (head c) * 8) where
   abbrev W : List ℕ
   W = write (widths (head c)) (values c)
@@ -164,8 +167,9 @@ module _ (c : Code) (long : length (write (widths (head c)) (values c)) ≡ size
       let k = length (pack c) in
       let ek : k ≡ size (head c) = length-pack c in
       let ln : length new ≡ length (pack c ++ drop k out) =
-              l ∙ sym (length-append (pack c) (drop k out) ∙ ap (λ n. k + n) (length-drop k out) ∙ omega arith) in
+      l ∙ sym (length-append (pack c) (drop k out) ∙ ap (λ n. k + n) (length-drop k out) ∙ omega arith) in
       let lw : k * 8 ≡ 0 + length W = omega arith in
-      same-bytes new (pack c ++ drop k out) d (below-append 256 (pack c) (drop k out) pack-below (below-drop 256 k out b)) ln
+      same-bytes new (pack c ++ drop k out) d
+      (below-append 256 (pack c) (drop k out) pack-below (below-drop 256 k out b)) ln
       (e ∙ sym (bitsOf-append (pack c) (drop k out) ∙ ap₂ _++_ pack-bits
-          (sym (drop-bytes k out) ∙ ap (λ n. drop n (bitsOf out)) lw)))
+      (sym (drop-bytes k out) ∙ ap (λ n. drop n (bitsOf out)) lw)))

@@ -1,5 +1,6 @@
 -- Parts of a record put one behind the other among lent bits.
--- In order: put-low-is; put-absent, put-present; spliced-next; length-frontBits, front-spliced.
+-- In order: put-low-is; put-absent, put-present; spliced-next, spliced-none; length-fields, write-append;
+-- front-spliced.
 -- Assumes nothing.
 use mathlib.Core.Path.{_≡_, refl, sym, ap, ap₂, subst, _∙_}
 use mathlib.Core.Bool.{false}
@@ -7,10 +8,10 @@ use mathlib.Core.List.{List, [], _∷_, _++_, append-assoc, append-nil}
 use Prim.Native.Nat.{ℕ, _+_, _-_, _*_, _%_, _^_, _≤_, _<_}
 use native.Mathlib.Nat.{mod-lt, add-zero}
 use native.Mathlib.Omega.{arith}
+use borrow.Author.Tests.{ne-eqb}
 use lib.Dec.{eqb}
 use lib.ListN.{length, take, drop, length-append, take-append-drop}
 use lib.Pow.{pow-pos}
-use borrow.Author.Tests.{ne-eqb}
 use Rattle.laws.specs.Lists.{sum}
 use Rattle.bits.specs.Fields.{bits, write}
 use Rattle.bits.specs.Bytes.{spliced}
@@ -19,8 +20,8 @@ use Rattle.bits.proofs.Fields.{length-bits}
 use Rattle.bits.proofs.Places.{bits-join}
 use Rattle.bits.proofs.Puts.{spliced-field, spliced-twice}
 use Rattle.constraint.specs.Walking.{none}
-use Rattle.record.specs.Layout.{header, present, shown}
 use Rattle.table.specs.Formed.{Head}
+use Rattle.record.specs.Layout.{header, present, shown}
 use Rattle.record.specs.Parts.{frontValues, frontBits, nextBits}
 
 -- a field of the lowest bits
@@ -49,7 +50,8 @@ put-present B at s v h e =
     let n : eqb s none ≡ false = ne-eqb s none h in
     let p : present s ≡ 1 = rw n in
     let q : shown s ≡ s = rw n in
-    sym (spliced-field at 5 (16 + v) B) ∙ ap (λ l. spliced at l B) (joined s 1 v refl e ∙ ap₂ (λ x y. bits 1 x ++ bits 4 y) (sym p) (sym q))
+    sym (spliced-field at 5 (16 + v) B) ∙ ap (λ l. spliced at l B)
+    (joined s 1 v refl e ∙ ap₂ (λ x y. bits 1 x ++ bits 4 y) (sym p) (sym q))
 
 -- ---- one part behind another
 pub spliced-next : (B B₁ B₂ F G : List ℕ) (at m : ℕ) → m ≡ at + length F → m + length G ≤ length B
@@ -86,7 +88,8 @@ field-next B B₁ B₂ ws vs w v m e s h p q =
     let l = length-fields ws vs e in
     let b = length-bits w v in
     spliced-next B B₁ B₂ (write ws vs) (bits w v) 0 m (omega arith) (omega arith) p q
-    ∙ ap (λ l. spliced 0 l B) (sym (write-append ws (w ∷ []) vs (v ∷ []) e ∙ ap (λ l. write ws vs ++ l) (append-nil (bits w v))))
+    ∙ ap (λ l. spliced 0 l B) (sym (write-append ws (w ∷ []) vs (v ∷ []) e
+    ∙ ap (λ l. write ws vs ++ l) (append-nil (bits w v))))
 
 -- the numbers in front, field by field
 pub front-spliced : (h : Head) (s k : ℕ) (B B₁ B₂ B₃ B₄ B₅ B₆ B₇ : List ℕ) → 30 ≤ length B

@@ -1,11 +1,12 @@
 -- A record read check by check: the header's numbers are in range, and the whole chain of checks is the reading
 -- followed by the two checks of the table.
--- In order: ranges-of, ranges-in; parse-fields; checked-short, checked-front, checked-length, checked-rest, checked-good.
+-- In order: below-bytes, ranges-of, ranges-in; parse-fields; checked-short, checked-front, checked-length,
+-- checked-rest, checked-good.
 -- Assumes nothing.
 use mathlib.Core.Path.{_≡_, refl, sym, ap, subst, _∙_}
 use mathlib.Core.Bool.{Bool, true, false, _&&_}
 use mathlib.Core.List.{List}
-use Prim.Native.Nat.{ℕ, _+_, _*_, _^_, _≤_, _<_}
+use Prim.Native.Nat.{ℕ, _<_}
 use native.Mathlib.Omega.{arith}
 use lib.Dec.{T, leb, ltb, eqb, leb→le, ltb→lt, lit<}
 use lib.ListN.{length, getD, replicate}
@@ -14,9 +15,8 @@ use Rattle.laws.proofs.Tests.{and→}
 use Rattle.answer.specs.declared.Refusal.{Refusal}
 use Rattle.answer.specs.declared.Refusal.the-variants.{Field, Length}
 use Rattle.answer.specs.Outcomes.{Outcome, done, refused, unless, onward}
-use Rattle.bits.specs.Fields.{field, read, bitsOf}
+use Rattle.bits.specs.Fields.{read, bitsOf}
 use Rattle.bits.proofs.Fields.{read-at, below-write}
-use Rattle.table.specs.Rows.{Code}
 use Rattle.table.specs.Formed.{Head, Ranges}
 use Rattle.record.specs.Layout.{header, headOf, size}
 use Rattle.record.specs.Parse.{goodHead, judged, parse}
@@ -26,7 +26,7 @@ use Rattle.record.proofs.RecordReady.{field-lt}
 pub below-bytes : (xs : List ℕ) → Below 2 (bitsOf xs)
 below-bytes xs = below-write (replicate (length xs) 8) xs
 
--- THEOREM: what the header's widths and its check leave
+-- what the header's widths and its check leave
 pub ranges-of : (bs : List ℕ) → Below 2 bs → T (goodHead (headOf (read header bs))) → Ranges (headOf (read header bs))
 ranges-of bs b g =
     let h = headOf (read header bs) in
@@ -39,11 +39,20 @@ ranges-of bs b g =
     let a : getD (read header bs) 4 0 < 16 = rw (read-at header bs 4 (lit< tt)) (field-lt bs b 18 4) in
     let k : getD (read header bs) 5 0 < 16 = rw (read-at header bs 5 (lit< tt)) (field-lt bs b 22 4) in
     record {
-      p₁ = leb→le _ _ p₁; p₂ = leb→le _ _ p₂; q₁ = leb→le _ _ q₁; q₂ = leb→le _ _ q₂;
-      s₁ = omega arith; s₂ = omega arith; m = m; a = a; k₁ = omega arith; k₂ = omega arith; start = ltb→lt _ _ gz
+      p₁ = leb→le _ _ p₁;
+      p₂ = leb→le _ _ p₂;
+      q₁ = leb→le _ _ q₁;
+      q₂ = leb→le _ _ q₂;
+      s₁ = omega arith;
+      s₂ = omega arith;
+      m = m;
+      a = a;
+      k₁ = omega arith;
+      k₂ = omega arith;
+      start = ltb→lt _ _ gz;
     }
 
--- THEOREM: the same of the header of bytes
+-- the same of the header of bytes
 pub ranges-in : (xs : List ℕ) (h : Head) → h ≡ headOf (read header (bitsOf xs)) → goodHead h ≡ true → Ranges h
 ranges-in xs h e g =
     subst Ranges (sym e) (ranges-of (bitsOf xs) (below-bytes xs) (subst T (sym (ap goodHead (sym e) ∙ g)) tt))
@@ -59,7 +68,7 @@ unless-no r b x e = ap (λ c. unless r c x) e
 unless-yes : {A : Type 0} (r : Refusal) (b : Bool) (x : Outcome A) → b ≡ true → unless r b x ≡ x
 unless-yes r b x e = ap (λ c. unless r c x) e
 
--- THEOREM: the checks of the fields, and then those of the table
+-- the checks of the fields, and then those of the table
 pub parse-fields : (xs : List ℕ) → parse xs ≡ onward (fieldsChecked xs) judged
 unfolding parse fieldsChecked
 parse-fields xs =

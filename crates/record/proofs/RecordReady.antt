@@ -1,8 +1,8 @@
 -- A table that holds the code of a record whose fields are in range is ready for use.
 -- In order: field-lt; edge-of; ready-of.
 -- Assumes nothing.
-use mathlib.Core.Path.{_≡_, refl, sym, ap, subst, _∙_}
-use mathlib.Core.Bool.{Bool, _&&_}
+use mathlib.Core.Path.{_≡_, sym, ap, subst, _∙_}
+use mathlib.Core.Bool.{_&&_}
 use mathlib.Core.List.{List, []}
 use Prim.Native.Nat.{ℕ, _+_, _*_, _^_, _≤_, _<_}
 use native.Mathlib.Omega.{arith}
@@ -17,7 +17,7 @@ use Rattle.bits.specs.Fields.{field}
 use Rattle.bits.proofs.Fields.{value-lt}
 use Rattle.constraint.specs.Value.{nextStatesAt}
 use Rattle.table.specs.declared.Table.{Table}
-use Rattle.table.specs.Rows.{Edge, edge, at}
+use Rattle.table.specs.Rows.{edge, at}
 use Rattle.table.specs.Formed.{Head, Ranges}
 use Rattle.table.specs.Value.{edgeIn, rowIn, rowsIn, codeIn, Ready}
 use Rattle.record.specs.Layout.{bitCount, fill}
@@ -70,7 +70,6 @@ module _ (h : Head) (r : Ranges h) (bs : List ℕ) (b : Below 2 bs) (good : T (r
   edge-is s d i l =
       sym (edge-of t s d (rw states-is i) (rw p-is l)) ∙ ap (λ c. at (c .table) s d) same ∙ table-at h bs s d i l
 
-  -- THEOREM
   pub ready-of : Ready t
   ready-of = record {
     some = rw states-is (r .s₁);
@@ -78,9 +77,10 @@ module _ (h : Head) (r : Ranges h) (bs : List ℕ) (b : Below 2 bs) (good : T (r
     narrow = rw p-is (r .p₂);
     short = rw q-is (r .q₂);
     reading = λ s d i l.
-        rw (q-is, ap (λ e. e .word) (edge-is s d (rw states-is at i) (rw p-is at l))) (field-lt bs b (edgesPlace h + (s * 2 ^ h .p + d) * (h .q + 7)) (h .q));
+        rw (q-is, ap (λ e. e .word) (edge-is s d (rw states-is at i) (rw p-is at l)))
+        (field-lt bs b (edgesPlace h + (s * 2 ^ h .p + d) * (h .q + 7)) (h .q));
     inside = λ s d i l. inner s d (rw states-is at i) (rw p-is at l);
-    limits = rw count-is (r .k₂)
+    limits = rw count-is (r .k₂);
   }
     where
       inner : (s d : ℕ) → s < h .states → d < 2 ^ h .p → edgeIn t s d .next < t .states
@@ -88,5 +88,5 @@ module _ (h : Head) (r : Ranges h) (bs : List ℕ) (b : Below 2 bs) (good : T (r
           let e = s * 2 ^ h .p + d in
           let o : edgesPlace h + h .q + e * (h .q + 7) ≡ edgesPlace h + e * (h .q + 7) + h .q = omega arith in
           let g = ltb→lt _ _ (all-below→ (goodTargetAt bs h) (h .states * 2 ^ h .p) targets e
-                  (edge-lt (h .states) (2 ^ h .p) s d i l)) in
+          (edge-lt (h .states) (2 ^ h .p) s d i l)) in
           rw (states-is, ap (λ x. x .next) (edge-is s d i l)) (subst (λ m. field bs m 7 < h .states) o g)

@@ -1,10 +1,9 @@
 -- The constraint's states and the table's edges written one behind the other.
--- In order: states-begin, states-next; edgesBits, edges-begin, edges-next, edges-all.
+-- In order: states-begin, states-next; edgeNo, edgesBits, edges-begin, edges-next, edges-all.
 -- Assumes nothing.
 use mathlib.Core.Path.{_≡_, refl, sym, ap, ap₂, _∙_}
-use mathlib.Core.List.{List, [], _∷_, _++_, map, map-map}
-use Prim.Native.Nat.{ℕ, _+_, _*_, _/_, _%_, _^_, _≤_, _<_}
-use native.Mathlib.Nat.{mod-eq-of-lt, add-mul-div-right, mul-add-mod-self-right, div-eq-of-lt, add-comm, add-assoc}
+use mathlib.Core.List.{List, _++_, map, map-map}
+use Prim.Native.Nat.{ℕ, _+_, _*_, _/_, _%_, _^_, _≤_}
 use native.Mathlib.Omega.{arith}
 use lib.ListN.{length, getD, length-append}
 use Rattle.laws.specs.Lists.{concat, range}
@@ -32,7 +31,8 @@ length-state k s =
     length-append (nextBits (nextStatesAt k s .zero)) (nextBits (nextStatesAt k s .one))
     ∙ ap₂ _+_ (length-next (nextStatesAt k s .zero)) (length-next (nextStatesAt k s .one))
 
-pub states-begin : (k : Constraint) (B : List ℕ) (at : ℕ) → B ≡ spliced at (statesBits (map (nextStatesAt k) (range 0))) B
+pub states-begin : (k : Constraint) (B : List ℕ) (at : ℕ) → B
+    ≡ spliced at (statesBits (map (nextStatesAt k) (range 0))) B
 unfolding statesBits
 states-begin k B at = spliced-none at B
 
@@ -48,7 +48,8 @@ states-next k s B B₁ B₂ B₃ h l p q r =
     let o = getD (k .one) s 0 in
     let e : 35 + s * 10 ≡ 30 + s * 10 + length (nextBits z) = omega (arith, length-next z) in
     let g : B₃ ≡ spliced (30 + s * 10) (nextBits z ++ nextBits o) B₁ =
-            spliced-next B₁ B₂ B₃ (nextBits z) (nextBits o) (30 + s * 10) (35 + s * 10) e (omega (arith, length-next o)) q r in
+    spliced-next B₁ B₂ B₃ (nextBits z) (nextBits o) (30 + s * 10) (35 + s * 10) e
+    (omega (arith, length-next o)) q r in
     run-next (λ i. stateBits (nextStatesAt k i)) 10 (length-state k) B B₁ B₃ 30 s (30 + s * 10) refl (omega arith)
     (p ∙ ap (λ x. spliced 30 (concat x) B) (map-map stateBits (nextStatesAt k) (range s))) g
     ∙ ap (λ x. spliced 30 (concat x) B) (sym (map-map stateBits (nextStatesAt k) (range (s + 1))))
@@ -83,7 +84,8 @@ edges-next t n e at m B B₁ B₂ B₃ f h l p q r =
     let x = bits 7 (edgeNo t n e .next) in
     let lw = length-bits (t .q) (edgeNo t n e .word) in
     let g : B₃ ≡ spliced m (w ++ x) B₁ =
-            spliced-next B₁ B₂ B₃ w x m (m + t .q) (omega arith) (omega (arith, length-bits 7 (edgeNo t n e .next))) q r in
+    spliced-next B₁ B₂ B₃ w x m (m + t .q) (omega arith) (omega (arith, length-bits 7 (edgeNo t n e .next))) q
+    r in
     run-next (λ i. edgeBits (t .q) (edgeNo t n i)) (t .q + 7) (λ i. length-edge (t .q) (edgeNo t n i)) B B₁ B₃ at e m f
     (omega arith) p g
 
@@ -95,5 +97,5 @@ edges-all t =
     ap concat (sym (map-map (edgeBits (t .q)) (edgeNo t n) (range (t .states * n))))
     ∙ ap (λ l. concat (map (edgeBits (t .q)) l)) (sym (flat (edgeNo t n) n (t .states))
     ∙ ap concat (map-range (λ s. map (λ d. edgeNo t n (s * n + d)) (range n)) (rowIn t) (t .states)
-        (λ s h. map-range (λ d. edgeNo t n (s * n + d)) (edgeIn t s) n
-            (λ d g. ap₂ (edgeIn t) (quotient-of n s d g) (remainder-of n s d g)))))
+    (λ s h. map-range (λ d. edgeNo t n (s * n + d)) (edgeIn t s) n
+    (λ d g. ap₂ (edgeIn t) (quotient-of n s d g) (remainder-of n s d g)))))

@@ -1,43 +1,45 @@
 -- A table's arrays filled from a record's bits stand for the code that the bits hold.
--- In order: length-over; states-are; quotient-of, remainder-of, spot-of, edge-lt, rows-are; code-is.
+-- In order: length-over; states-are; quotient-of, remainder-of, spot-of, edge-lt; rows-are; code-is.
 -- Assumes nothing.
-use mathlib.Core.Path.{_≡_, refl, sym, ap, ap₂, subst, _∙_}
-use mathlib.Core.List.{List, [], _∷_, _++_, map}
-use Prim.Native.Nat.{ℕ, zero, suc, _+_, _*_, _/_, _%_, _^_, _≤_, _<_}
-use native.Mathlib.Nat.{mul-le-mul-right, not-suc-le-zero, le-of-suc-le-suc, mod-eq-of-lt, add-mul-div-right, mul-add-mod-self-right, div-eq-of-lt, add-comm}
+use mathlib.Core.Path.{_≡_, sym, ap, ap₂, subst, _∙_}
+use mathlib.Core.List.{List, [], map}
+use Prim.Native.Nat.{ℕ, zero, suc, _+_, _*_, _/_, _%_, _^_, _<_}
+use native.Mathlib.Nat.{mul-le-mul-right, not-suc-le-zero, le-of-suc-le-suc, mod-eq-of-lt, add-mul-div-right}
+use native.Mathlib.Nat.{mul-add-mod-self-right, div-eq-of-lt, add-comm}
 use native.Mathlib.Omega.{arith}
-use lib.ListN.{length, getD, take, drop, length-map}
-use lib.Pow.{pow-pos}
+use lib.ListN.{length, getD, drop, length-map}
 use lib.Seq.{ext-getD}
-use Rattle.laws.specs.Lists.{range, from}
+use Rattle.laws.specs.Lists.{range}
 use Rattle.laws.proofs.Tests.{length-from, map-range-at}
 use Rattle.bits.specs.Fields.{field}
 use Rattle.constraint.specs.Walking.{Constraint, nowhere}
 use Rattle.table.specs.Rows.{Edge, edge, at}
-use Rattle.table.specs.Formed.{Head, Ranges}
-use Rattle.record.specs.Layout.{opened, edgesOf, rowsOf}
+use Rattle.table.specs.Formed.{Head}
+use Rattle.record.specs.Layout.{opened, rowsOf}
 use Rattle.record.specs.Checks.{codeAt}
 use Rattle.record.specs.Places.{stateIn, edgesPlace, spot, Column}
 use Rattle.record.proofs.RecordAgain.{length-edgesOf, length-nextsOf, length-rowsOf}
-use Rattle.record.proofs.RecordPlaces.{nextAt, edgeAt, constraint-at, table-at}
+use Rattle.record.proofs.RecordPlaces.{nextAt, constraint-at, table-at}
 
 pub length-over : {A : Type 0} (f : ℕ → A) (n : ℕ) → length (map f (range n)) ≡ n
 length-over f n = length-map (range n) f ∙ length-from 0 n
 
--- THEOREM: the constraint
+-- the constraint
 pub states-are : (h : Head) (bs : List ℕ) → map (stateIn bs) (range (h .count)) ≡ codeAt h bs .constraint
 states-are h bs =
     ext-getD nowhere (map (stateIn bs) (range (h .count))) (codeAt h bs .constraint)
     (length-over (stateIn bs) (h .count) ∙ sym (length-nextsOf (h .count) _))
     (λ k l. let g : k < h .count = subst (λ n. k < n) (length-over (stateIn bs) (h .count)) l in
-        map-range-at (stateIn bs) (h .count) k nowhere g ∙ same k ∙ sym (constraint-at h bs k nowhere g))
+    map-range-at (stateIn bs) (h .count) k nowhere g ∙ same k ∙ sym (constraint-at h bs k nowhere g))
   where
     same : (k : ℕ) → stateIn bs k ≡ nextAt bs (30 + k * 10)
     same k =
         let e : 35 + k * 10 ≡ 30 + k * 10 + 5 = omega arith in
         let f : 35 + k * 10 + 1 ≡ 30 + k * 10 + 6 = omega arith in
-        ap₂ (λ x y. record { zero = opened (field bs (30 + k * 10) 1) (field bs (30 + k * 10 + 1) 4);
-            one = opened (field bs x 1) (field bs y 4) }) e f
+        ap₂ (λ x y. record {
+          zero = opened (field bs (30 + k * 10) 1) (field bs (30 + k * 10 + 1) 4);
+          one = opened (field bs x 1) (field bs y 4);
+        }) e f
 
 -- the state and the datum of an edge by its number
 pub quotient-of : (n s d : ℕ) → d < n → (s * n + d) / n ≡ s
@@ -86,29 +88,37 @@ module _ (h : Head) (bs word next : List ℕ) where
         ext-getD (edge 0 0) (rowOf s) (getD (codeAt h bs .table) s [])
         (length-over (edgeOf s) n ∙ sym (length-row (h .states) n _ s i))
         (λ d l. let g : d < n = subst (λ m. d < m) (length-over (edgeOf s) n) l in
-            map-range-at (edgeOf s) n d (edge 0 0) g ∙ edge-is s d i g)
+        map-range-at (edgeOf s) n d (edge 0 0) g ∙ edge-is s d i g)
 
-    -- THEOREM: the table
+    -- the table
     pub rows-are : map rowOf (range (h .states)) ≡ codeAt h bs .table
     rows-are =
         ext-getD [] (map rowOf (range (h .states))) (codeAt h bs .table)
         (length-over rowOf (h .states) ∙ sym (length-rowsOf (h .states) (2 ^ h .p) _))
         (λ s l. let g : s < h .states = subst (λ m. s < m) (length-over rowOf (h .states)) l in
-            map-range-at rowOf (h .states) s [] g ∙ row-is s g)
+        map-range-at rowOf (h .states) s [] g ∙ row-is s g)
 
--- THEOREM: the code, from the constraint and the columns
+-- the code, from the constraint and the columns
 pub code-is : (h : Head) (bs word next : List ℕ) (k : Constraint) (n : ℕ) → n ≡ 2 ^ h .p
     → k ≡ map (stateIn bs) (range (h .count))
     → Column bs n (h .states * n) (edgesPlace h) (h .q + 7) (h .q) word
     → Column bs n (h .states * n) (edgesPlace h + h .q) (h .q + 7) 7 next
     → record {
-      p = h .p; q = h .q; window = record { memory = h .memory; lookahead = h .lookahead }; constraint = k;
-      start = h .start; table = map (rowOf h bs word next) (range (h .states))
+      p = h .p;
+      q = h .q;
+      window = record { memory = h .memory; lookahead = h .lookahead };
+      constraint = k;
+      start = h .start;
+      table = map (rowOf h bs word next) (range (h .states));
     } ≡ codeAt h bs
 code-is h bs word next k n e f w x =
     let w' = subst (λ m. Column bs m (h .states * m) (edgesPlace h) (h .q + 7) (h .q) word) e w in
     let x' = subst (λ m. Column bs m (h .states * m) (edgesPlace h + h .q) (h .q + 7) 7 next) e x in
     ap₂ (λ c t. record {
-      p = h .p; q = h .q; window = record { memory = h .memory; lookahead = h .lookahead }; constraint = c;
-      start = h .start; table = t
+      p = h .p;
+      q = h .q;
+      window = record { memory = h .memory; lookahead = h .lookahead };
+      constraint = c;
+      start = h .start;
+      table = t;
     }) (f ∙ states-are h bs) (rows-are h bs word next w' x')

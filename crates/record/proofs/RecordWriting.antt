@@ -1,28 +1,27 @@
 -- A table's record written part by part into lent bytes.
 -- In order: head-in, small-in; below-all; even, whole-record; pack-long, pack-short, pack-fits.
 -- Assumes nothing.
-use mathlib.Core.Path.{_≡_, refl, sym, ap, ap₂, subst, _∙_}
+use mathlib.Core.Path.{_≡_, sym, ap, ap₂, subst, _∙_}
 use mathlib.Core.List.{List, [], _∷_, _++_}
-use Prim.Native.Nat.{ℕ, zero, suc, _+_, _*_, _-_, _^_, _≤_, _<_}
-use native.Mathlib.Nat.{mul-assoc}
+use Prim.Native.Nat.{ℕ, suc, _+_, _*_, _-_, _^_, _≤_, _<_}
 use native.Mathlib.Omega.{arith}
 use borrow.Author.Tests.{lt-leb, le-leb}
 use lib.ListN.{length, getD, take, drop, length-append}
 use Rattle.laws.specs.Lists.{range}
 use Rattle.laws.specs.Sums.{Each, Below}
 use Rattle.laws.proofs.Sums.{each-image, each-always}
+use Rattle.answer.specs.declared.Refusal.the-variants.{ShortOutput}
+use Rattle.answer.specs.Outcomes.{done, refused}
 use Rattle.bits.specs.Fields.{bits, bitsOf}
 use Rattle.bits.specs.Bytes.{spliced}
 use Rattle.bits.proofs.Fields.{length-bits}
 use Rattle.bits.proofs.Puts.{length-bitsOf, spliced-field}
-use Rattle.constraint.specs.Value.{nextStatesAt, constraintOf}
+use Rattle.constraint.specs.Value.{nextStatesAt}
 use Rattle.table.specs.declared.Table.{Table}
-use Rattle.table.specs.Rows.{Edge, Code}
-use Rattle.table.specs.Formed.{Head, head}
+use Rattle.table.specs.Rows.{Code}
+use Rattle.table.specs.Formed.{head}
 use Rattle.table.specs.Value.{edgeIn, rowIn, rowsIn, codeIn, Ready}
-use Rattle.answer.specs.declared.Refusal.the-variants.{ShortOutput}
-use Rattle.answer.specs.Outcomes.{done, refused}
-use Rattle.record.specs.Layout.{bitCount, size, fill, widths, values, pack}
+use Rattle.record.specs.Layout.{bitCount, size, fill, pack}
 use Rattle.record.specs.Parse.{packInto}
 use Rattle.record.specs.Parts.{tableHead, frontBits, statesBits, rowsBits}
 use Rattle.record.specs.Places.{Small}
@@ -30,13 +29,20 @@ use Rattle.record.proofs.Sizes.{size-holds}
 use Rattle.record.proofs.RecordTables.{length-over}
 use Rattle.record.proofs.RecordParts.{spliced-next}
 use Rattle.record.proofs.RecordWrite.{length-pack}
-use Rattle.record.proofs.RecordOut.{length-front, length-states, length-table, parts-are, length-parts, bytes-are}
+use Rattle.record.proofs.RecordOut.{length-front, length-states, length-table, parts-are, length-parts}
+use Rattle.record.proofs.RecordOut.{bytes-are}
 
 -- the numbers in front are those of the code
 pub head-in : (t : Table) → tableHead t ≡ head (codeIn t)
 head-in t =
     ap₂ (λ s k. record {
-      p = t .p; q = t .q; states = s; memory = t .memory; lookahead = t .lookahead; count = k; start = t .start
+      p = t .p;
+      q = t .q;
+      states = s;
+      memory = t .memory;
+      lookahead = t .lookahead;
+      count = k;
+      start = t .start;
     }) (sym (length-over (rowIn t) (t .states)))
     (sym (length-over (nextStatesAt (t .constraint)) (t .constraint .states)))
 
@@ -52,7 +58,7 @@ even t =
     each-image (λ es. length es ≡ 2 ^ t .p) (rowIn t) (range (t .states))
     (each-always (λ s. length (rowIn t s) ≡ 2 ^ t .p) (λ s. length-over (edgeIn t s) (2 ^ t .p)) (range (t .states)))
 
--- THEOREM: the four parts put one behind the other are the record
+-- the four parts put one behind the other are the record
 module _ (c : Code) (each : Each (λ es. length es ≡ 2 ^ c .p) (c .table)) (out new B₁ B₂ B₃ : List ℕ) (a w m : ℕ) where
   abbrev B : List ℕ
   B = bitsOf out
@@ -74,7 +80,8 @@ module _ (c : Code) (each : Each (λ es. length es ≡ 2 ^ c .p) (c .table)) (ou
       let lb = length-bitsOf out in
       let lf : length F ≡ 30 = length-front (head c) in
       let ls : length S ≡ length (c .constraint) * 10 = length-states (c .constraint) in
-      let lr : length R ≡ length (c .table) * (2 ^ c .p * (c .q + 7)) = length-table (c .q) (2 ^ c .p) (c .table) each in
+      let lr : length R ≡ length (c .table) * (2 ^ c .p * (c .q + 7)) = length-table (c .q) (2 ^ c .p) (c .table)
+      each in
       let lz : length (bits w 0) ≡ w = length-bits w 0 in
       let fits : bitCount (head c) ≤ 8 * size (head c) = size-holds (head c) in
       let fs = length-append F S in

@@ -1,9 +1,9 @@
 -- Lists made from a range, one piece a number, and such pieces put one behind the other among bits.
--- In order: concat-more, length-run; run-next; flat, a table's edges in a row.
+-- In order: concat-more, flat; length-run; run-next.
 -- Assumes nothing.
 use mathlib.Core.Path.{_≡_, refl, sym, ap, ap₂, _∙_}
 use mathlib.Core.List.{List, [], _∷_, _++_, map, append-assoc, append-nil}
-use Prim.Native.Nat.{ℕ, zero, suc, _+_, _*_, _≤_, _<_}
+use Prim.Native.Nat.{ℕ, zero, suc, _+_, _*_, _≤_}
 use native.Mathlib.Nat.{add-zero, zero-add, zero-mul, suc-mul}
 use native.Mathlib.Numerals.{add-one}
 use native.Mathlib.Omega.{arith}
@@ -48,7 +48,7 @@ module _ {A : Type 0} where
       ∙ ap₂ (λ a b. a ++ map (λ d. g (b * n + d)) (range n)) (flat g n s) (zero-add s)
       ∙ ap (λ l. map g (range (s * n)) ++ l) (map-shift g (s * n) 0 n ∙ ap (λ m. map g (from m n)) z)
       ∙ sym (ap (λ m. map g (range m)) e ∙ ap (map g) (from-split 0 (s * n) n)
-          ∙ map-append g (range (s * n)) (from (0 + s * n) n))
+      ∙ map-append g (range (s * n)) (from (0 + s * n) n))
     where
       from-split : (i a b : ℕ) → from i (a + b) ≡ from i a ++ from (i + a) b
       from-split i zero b = ap₂ from (sym (add-zero i)) (zero-add b)
@@ -58,7 +58,8 @@ module _ {A : Type 0} where
           ap (from i) e ∙ ap (λ l. i ∷ l) (from-split (suc i) a b ∙ ap (λ m. from (suc i) a ++ from m b) d)
 
 -- as many bits as pieces of one length have
-length-from-run : (f : ℕ → List ℕ) (w i n : ℕ) → ((k : ℕ) → length (f k) ≡ w) → length (concat (map f (from i n))) ≡ n * w
+length-from-run : (f : ℕ → List ℕ) (w i n : ℕ) → ((k : ℕ) → length (f k) ≡ w) → length (concat (map f (from i n)))
+    ≡ n * w
 length-from-run f w i zero h = sym (zero-mul w)
 length-from-run f w i (suc n) h =
     length-append (f i) (concat (map f (from (suc i) n)))

@@ -1,7 +1,8 @@
 -- How large the numbers of a record get, and which fields the header has.
--- In order: row-le, edges-le, bitCount-le; front-is.
+-- In order: small-of; power-le, row-le, edges-le, bitCount-le; front-is; place-le, product-le; edge-count-le,
+-- size-holds, edges-end; reach-words, reach-nexts.
 -- Assumes nothing.
-use mathlib.Core.Path.{_≡_, refl, sym, ap, _∙_}
+use mathlib.Core.Path.{_≡_}
 use mathlib.Core.List.{List}
 use Prim.Native.Nat.{ℕ, _+_, _*_, _/_, _^_, _≤_, _<_}
 use native.Mathlib.Nat.{mul-le-mul, mul-le-mul-right, mul-assoc}
@@ -33,7 +34,7 @@ edges-le h r =
 pub bitCount-le : (h : Head) → Small h → bitCount h ≤ 30910
 bitCount-le h r = omega (arith, edges-le h r, r .k₂)
 
--- THEOREM: the numbers in front, by bit places
+-- the numbers in front, by bit places
 pub front-is : (bs : List ℕ) (p q s m a k z : ℕ) → p ≡ field bs 0 3 → q ≡ field bs 3 4 → s ≡ field bs 7 7
     → m ≡ field bs 14 4 → a ≡ field bs 18 4 → k ≡ field bs 22 4 → z ≡ field bs 26 4
     → record { p = p; q = q; states = s + 1; memory = m; lookahead = a; count = k + 1; start = z }
@@ -70,20 +71,30 @@ size-holds h = go (bitCount h)
 pub edges-end : (h : Head) (n l : ℕ) → n ≡ 2 ^ h .p → l ≡ size h → edgesPlace h + h .states * n * (h .q + 7) ≤ 8 * l
 edges-end h n l e f =
     let g : bitCount h ≤ 8 * l = rw f (size-holds h) in
-    let m : h .states * n * (h .q + 7) ≡ h .states * (2 ^ h .p * (h .q + 7)) = rw e (mul-assoc (h .states) (2 ^ h .p) (h .q + 7)) in
+    let m : h .states * n * (h .q + 7) ≡ h .states * (2 ^ h .p * (h .q + 7)) = rw e
+    (mul-assoc (h .states) (2 ^ h .p) (h .q + 7)) in
     omega arith
 
 -- the words and the next states of all edges lie within the record
 module _ (h : Head) (n l : ℕ) (r : Small h) (e : n ≡ 2 ^ h .p) (f : l ≡ size h) where
   pub reach-words : Reach (8 * l) n (h .states * n) (edgesPlace h) (h .q + 7) (h .q)
   reach-words = record {
-    some = rw e (pow-pos (h .p)); few = rw e (power-le h r); states = mul-le-mul-right n (r .s₂); width = r .q₂;
-    apart = omega (arith, r .q₂); first = omega (arith, r .k₂); last = omega (arith, edges-end h n l e f)
+    some = rw e (pow-pos (h .p));
+    few = rw e (power-le h r);
+    states = mul-le-mul-right n (r .s₂);
+    width = r .q₂;
+    apart = omega (arith, r .q₂);
+    first = omega (arith, r .k₂);
+    last = omega (arith, edges-end h n l e f);
   }
 
   pub reach-nexts : Reach (8 * l) n (h .states * n) (edgesPlace h + h .q) (h .q + 7) 7
   reach-nexts = record {
-    some = rw e (pow-pos (h .p)); few = rw e (power-le h r); states = mul-le-mul-right n (r .s₂);
-    width = lit≤ tt; apart = omega (arith, r .q₂); first = omega (arith, r .k₂, r .q₂);
-    last = omega (arith, edges-end h n l e f)
+    some = rw e (pow-pos (h .p));
+    few = rw e (power-le h r);
+    states = mul-le-mul-right n (r .s₂);
+    width = lit≤ tt;
+    apart = omega (arith, r .q₂);
+    first = omega (arith, r .k₂, r .q₂);
+    last = omega (arith, edges-end h n l e f);
   }

@@ -1,5 +1,5 @@
--- A record's fields read and checked, before the two checks of the table: "8 below four bytes, header by 7, 8, the rest
--- by 7"; and what values of the code's structs stand for.
+-- A record's fields read and checked, before the two checks of the table: "8 below four bytes, header by 7, 8, the
+-- rest by 7"; and what values of the code's structs stand for.
 -- In order: headIn; codeAt, restGood, fieldsGood, fieldsChecked; verdictOf, outcomeIn; Judgeable, what the two
 -- checks of the table need; checkedOnly, what the checker answers.
 -- Assumes nothing.

@@ -1,5 +1,6 @@
 -- The bits of a record, part by part, as they are written one behind the other.
--- In order: tableHead, frontValues, frontBits, the numbers in front; nextBits, stateBits, the constraint; edgeBits, the edges; statesBits, rowsBits, of all.
+-- In order: tableHead, frontValues, frontBits, the numbers in front; nextBits, stateBits, the constraint; edgeBits,
+-- the edges; statesBits, rowsBits, of all.
 -- Assumes nothing.
 use mathlib.Core.List.{List, [], _∷_, _++_, map}
 use Prim.Native.Nat.{ℕ, _-_}

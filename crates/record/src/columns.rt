@@ -10,9 +10,9 @@ ghost use Rattle.table.specs.Value.{codeIn};
 ghost use Rattle.record.specs.Layout.{size};
 ghost use Rattle.record.specs.Checks.{headIn, codeAt};
 ghost use Rattle.record.specs.Places.{nextIn, stateIn, Column, Reach, Small};
+use crate::Front;
 use constraint::Constraint;
 use table::Table;
-use crate::Front;
 
 // The next state at the bit place `at`, 255 for none.
 fn next_of(bytes: &[u8], at: usize) -> u8
@@ -46,8 +46,8 @@ pub fn states_of(bytes: &[u8], count: usize) -> Constraint
     }
 }
 
-// For each of `edges` edges, n a state, the field of `width` bits: the first at the bit place `first`, each of the others
-// `step` bits behind the one before.
+// For each of `edges` edges, n a state, the field of `width` bits: the first at the bit place `first`, each of the
+// others `step` bits behind the one before.
 pub fn column(
     bytes: &[u8],
     n: usize,

@@ -1,4 +1,5 @@
-// The fields behind the header are in range: "record field out of range, absent state not 0, or fill not 0" is refusal 7.
+// The fields behind the header are in range: "record field out of range, absent state not 0, or fill not 0" is
+// refusal 7.
 ghost use mathlib.Core.Path.{_≡_};
 ghost use Prim.Native.Nat.{_+_, _*_, _≤_};
 ghost use lib.Dec.{eqb};

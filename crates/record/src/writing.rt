@@ -10,10 +10,10 @@ ghost use Rattle.table.specs.Value.{codeIn, rowsIn, Ready};
 ghost use Rattle.record.specs.Layout.{size, pack};
 ghost use Rattle.record.specs.Checks.{headIn};
 ghost use Rattle.record.specs.Parts.{tableHead, frontBits, nextBits, statesBits, rowsBits};
-use constraint::Constraint;
-use table::Table;
 use crate::Front;
 use crate::numbers;
+use constraint::Constraint;
+use table::Table;
 
 // The lowest `width` bits of x become the field at the bit place `at`.
 fn put_low(out: &mut [u8], at: usize, width: usize, x: usize)
@@ -37,7 +37,8 @@ fn less_one(x: usize) -> usize
 // The numbers in front.
 pub fn put_front(out: &mut [u8], f: Front)
     requires { ⌜ 4 ≤ length (now out) ⌝ }
-    ensures written { λ r. ⌜ bitsOf (now (out .exit)) ≡ spliced 0 (frontBits (headIn f)) (bitsOf (now (out .entry))) ⌝ }
+    ensures written { λ r. ⌜ bitsOf (now (out .exit)) ≡ spliced 0 (frontBits (headIn f))
+        (bitsOf (now (out .entry))) ⌝ }
     ensures kept { λ r. ⌜ length (now (out .exit)) ≡ length (now (out .entry)) ⌝ }
 {
     put_low(out, 0, 3, f.p);
@@ -81,7 +82,8 @@ pub fn put_states(out: &mut [u8], constraint: Constraint)
 // The edges of all states, behind the constraint, the first at the bit place `first`.
 pub fn put_edges(out: &mut [u8], t: Table, first: usize)
     requires { ⌜ Ready t × (first ≤ 256) × (first + t .states * 2 ^ t .p * (t .q + 7) ≤ 8 * length (now out)) ⌝ }
-    ensures written { λ r. ⌜ bitsOf (now (out .exit)) ≡ spliced first (rowsBits (t .q) (rowsIn t)) (bitsOf (now (out .entry))) ⌝ }
+    ensures written { λ r. ⌜ bitsOf (now (out .exit))
+        ≡ spliced first (rowsBits (t .q) (rowsIn t)) (bitsOf (now (out .entry))) ⌝ }
     ensures kept { λ r. ⌜ length (now (out .exit)) ≡ length (now (out .entry)) ⌝ }
 {
     let n = bits::power(t.p);
@@ -115,7 +117,8 @@ pub fn front_in(t: Table) -> Front
 // The whole record of a table, with the numbers f in front and `long` bytes.
 pub fn put_record(out: &mut [u8], t: Table, f: Front, long: usize)
     requires { ⌜ Ready t × (headIn f ≡ tableHead t) × (long ≡ size (tableHead t)) × (long ≤ length (now out)) ⌝ }
-    ensures written { λ r. ⌜ now (out .exit) ≡ pack (codeIn t) ++ drop (length (pack (codeIn t))) (now (out .entry)) ⌝ }
+    ensures written { λ r. ⌜ now (out .exit) ≡ pack (codeIn t)
+        ++ drop (length (pack (codeIn t))) (now (out .entry)) ⌝ }
 {
     let at = numbers::bit_count(f);
     put_front(out, f);

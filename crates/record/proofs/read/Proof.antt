@@ -1,23 +1,23 @@
 -- `read` meets its contract: each return follows the checks before it, in document 01's order.
 -- Assumes nothing.
-use Rattle.table.specs.Formed.{Ranges}
-use Rattle.record.specs.Parse.{goodHead}
 use mathlib.Core.Bool.{true}
 use mathlib.Core.Path.{_≡_, sym, ap, subst, _∙_}
-use native.Mathlib.Omega.{arith}
 use borrow.Author.Tests.{not-true, not-false, lt-leb, le-leb, eq-eqb, ne-eqb}
+use borrow.Author.Needs.{needs}
 use denote.Ref.{now}
 use lib.Dec.{T}
 use lib.ListN.{length}
 use Rattle.answer.specs.Outcomes.{done}
 use Rattle.bits.specs.Fields.{bitsOf}
+use Rattle.table.specs.Formed.{Ranges}
+use Rattle.record.specs.Parse.{goodHead}
 use Rattle.record.specs.Layout.{size}
 use Rattle.record.specs.Checks.{headIn}
 use Rattle.record.specs.Places.{Small}
 use Rattle.record.proofs.Sizes.{small-of}
 use Rattle.record.proofs.RecordReady.{ready-of}
-use Rattle.record.proofs.RecordReading.{below-bytes, ranges-in, checked-short, checked-front, checked-length, checked-rest, checked-good}
-use borrow.Author.Needs.{needs}
+use Rattle.record.proofs.RecordReading.{below-bytes, ranges-in, checked-short, checked-front, checked-length}
+use Rattle.record.proofs.RecordReading.{checked-rest, checked-good}
 use Rattle.record.proofs.read.Statement.{statement}
 use Rattle.record.proofs.read.Tie as tie
 
@@ -47,9 +47,12 @@ bad-requires : tie.Need-bad-requires
 bad-requires c κs = search needs
 
 returns : tie.Need-returns
-returns c = 
-    let xs = now (c .before .before .before .args .bytes) in
-    (c .bad .ensures .0 ∙ sym (checked-short xs (lt-leb 4 (length xs) (c .before .if1 .taken))), λ e. absurd (c .bad .ensures .1 e))
+returns c =
+    let xs = now (c .before .before .before .args .bytes) in (
+      c .bad .ensures .0 ∙ sym (checked-short xs (lt-leb 4 (length xs) (c .before .if1 .taken))),
+      λ e. absurd
+          (c .bad .ensures .1 e),
+    )
 
 front-of-requires : tie.Need-front-of-requires
 front-of-requires c κs = search needs
@@ -61,12 +64,16 @@ bad-requires-2 : tie.Need-bad-requires-2
 bad-requires-2 c κs = search needs
 
 returns-2 : tie.Need-returns-2
-returns-2 c = 
+returns-2 c =
     let g = c .before .before in
     let f = g .before in
-    let xs = now (f .before .before .before .args .bytes) in
-    (c .bad2 .ensures .0 ∙ sym (checked-front xs (headIn (f .front-of .result)) (f .front-of .ensures) (le-leb 4 (length xs) (f .before .if1 .left))
-        (sym (g .good-front .ensures) ∙ not-true (g .good-front .result) (c .before .if2 .taken))), λ e. absurd (c .bad2 .ensures .1 e))
+    let xs = now (f .before .before .before .args .bytes) in (
+      c .bad2 .ensures .0 ∙ sym (checked-front xs (headIn (f .front-of .result)) (f .front-of .ensures)
+          (le-leb 4 (length xs) (f .before .if1 .left))
+          (sym (g .good-front .ensures) ∙ not-true (g .good-front .result) (c .before .if2 .taken))),
+      λ e. absurd
+          (c .bad2 .ensures .1 e),
+    )
 
 size-of-requires : tie.Need-size-of-requires
 size-of-requires c κs = small c
@@ -75,14 +82,15 @@ bad-requires-3 : tie.Need-bad-requires-3
 bad-requires-3 c κs = search needs
 
 returns-3 : tie.Need-returns-3
-returns-3 c = 
+returns-3 c =
     let s = c .before .before in
     let f = s .before .before .before in
-    let xs = now (f .before .before .before .args .bytes) in
-    (c .bad3 .ensures .0 ∙ sym (checked-length xs (headIn (f .front-of .result)) (f .front-of .ensures)
-        (le-leb 4 (length xs) (f .before .if1 .left)) (fronted (s .before))
-        (ne-eqb _ _ (λ e. c .before .if3 .taken (e ∙ sym (s .size-of .ensures))))),
-     λ e. absurd (c .bad3 .ensures .1 e))
+    let xs = now (f .before .before .before .args .bytes) in (
+      c .bad3 .ensures .0 ∙ sym (checked-length xs (headIn (f .front-of .result)) (f .front-of .ensures)
+          (le-leb 4 (length xs) (f .before .if1 .left)) (fronted (s .before))
+          (ne-eqb _ _ (λ e. c .before .if3 .taken (e ∙ sym (s .size-of .ensures))))),
+      λ e. absurd (c .bad3 .ensures .1 e),
+    )
 
 good-rest-requires : tie.Need-good-rest-requires
 good-rest-requires c κs = (small (c .before .before), sized c)
@@ -91,31 +99,33 @@ bad-requires-4 : tie.Need-bad-requires-4
 bad-requires-4 c κs = search needs
 
 returns-4 : tie.Need-returns-4
-returns-4 c = 
+returns-4 c =
     let g = c .before .before in
     let s = g .before .before in
     let f = s .before .before .before in
-    let xs = now (f .before .before .before .args .bytes) in
-    (c .bad4 .ensures .0 ∙ sym (checked-rest xs (headIn (f .front-of .result)) (f .front-of .ensures)
-        (le-leb 4 (length xs) (f .before .if1 .left)) (fronted (s .before)) (eq-eqb _ _ (sized (g .before)))
-        (sym (g .good-rest .ensures) ∙ not-true (g .good-rest .result) (c .before .if4 .taken))),
-     λ e. absurd (c .bad4 .ensures .1 e))
+    let xs = now (f .before .before .before .args .bytes) in (
+      c .bad4 .ensures .0 ∙ sym (checked-rest xs (headIn (f .front-of .result)) (f .front-of .ensures)
+          (le-leb 4 (length xs) (f .before .if1 .left)) (fronted (s .before)) (eq-eqb _ _ (sized (g .before)))
+          (sym (g .good-rest .ensures) ∙ not-true (g .good-rest .result) (c .before .if4 .taken))),
+      λ e. absurd (c .bad4 .ensures .1 e),
+    )
 
 table-of-requires : tie.Need-table-of-requires
 table-of-requires c κs = (small (c .before .before .before .before), sized (c .before .before))
 
 returns-5 : tie.Need-returns-5
-returns-5 c = 
+returns-5 c =
     let g = c .before .before in
     let s = g .before .before in
     let f = s .before .before .before in
     let h = headIn (f .front-of .result) in
     let xs = now (f .before .before .before .args .bytes) in
-    let good = sym (g .good-rest .ensures) ∙ not-false (g .good-rest .result) (c .before .if4 .left) in
-    (ap done (c .table-of .ensures) ∙ sym (checked-good xs h (f .front-of .ensures)
-        (le-leb 4 (length xs) (f .before .if1 .left)) (fronted (s .before)) (eq-eqb _ _ (sized (g .before))) good),
-     λ e. ready-of h (ranged (s .before)) (bitsOf xs) (below-bytes xs) (subst T (sym good) tt) (c .table-of .result)
-        (c .table-of .ensures))
+    let good = sym (g .good-rest .ensures) ∙ not-false (g .good-rest .result) (c .before .if4 .left) in (
+      ap done (c .table-of .ensures) ∙ sym (checked-good xs h (f .front-of .ensures)
+          (le-leb 4 (length xs) (f .before .if1 .left)) (fronted (s .before)) (eq-eqb _ _ (sized (g .before))) good),
+      λ e. ready-of h (ranged (s .before)) (bitsOf xs) (below-bytes xs) (subst T (sym good) tt) (c .table-of .result)
+          (c .table-of .ensures),
+    )
 
 pub read-spec : {M : Type 1} → statement M
 read-spec =

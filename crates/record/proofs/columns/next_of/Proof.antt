@@ -1,6 +1,5 @@
 -- `next_of` meets its contract: the field "present" says whether there is a next state.
 -- Assumes nothing.
-use mathlib.Core.Path.{_≡_, ap, sym, _∙_}
 use native.Mathlib.Omega.{arith}
 use borrow.Author.Tests.{eq-eqb, ne-eqb}
 use borrow.Author.Needs.{needs}
@@ -20,7 +19,8 @@ get-requires-2 : tie.Need-get-requires-2
 get-requires-2 c κs = search needs
 
 returns-2 : tie.Need-returns-2
-returns-2 c = rw (← c .before .before .get .ensures, ne-eqb (c .before .before .get .result) 0 (λ e. omega arith)) (c .get2 .ensures)
+returns-2 c = rw (← c .before .before .get .ensures, ne-eqb (c .before .before .get .result) 0 (λ e. omega arith))
+    (c .get2 .ensures)
 
 pub next-of-spec : {M : Type 1} → statement M
 next-of-spec = tie.close (tie.spec get-requires returns add-get get-requires-2 returns-2)

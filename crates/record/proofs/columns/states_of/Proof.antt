@@ -1,15 +1,13 @@
 -- `states_of` meets its contract. The loop's invariant: the arrays hold the next states of every state passed. The
 -- measure is what is left.
 -- Assumes nothing.
-use mathlib.Core.Path.{_≡_, ap₂, refl, _∙_}
+use mathlib.Core.Path.{_≡_, ap₂, refl}
 use Prim.Native.Nat.{ℕ, _+_, _*_, _-_, _≤_, _<_}
 use native.Mathlib.Omega.{arith}
-use borrow.Author.Needs.{needs}
 use denote.Ref.{now}
 use lib.ListN.{length, getD, length-set}
 use Rattle.bits.specs.Fields.{bitsOf}
-use Rattle.constraint.specs.Walking.{NextStates}
-use Rattle.record.specs.Places.{nextIn, stateIn}
+use Rattle.record.specs.Places.{nextIn}
 use Rattle.record.proofs.Fills.{fill-more, map-range}
 use Rattle.record.proofs.columns.states_of.Statement.{statement}
 use Rattle.record.proofs.columns.states_of.Tie as tie
@@ -64,15 +62,20 @@ loop-again c =
       omega arith,
       simp length-set (b .loop .inv .1),
       simp length-set (b .loop .inv .2),
-      fill-more (λ k. k) (λ k. nextIn bs (30 + k * 10)) (b .loop .zero) s (c .before .next-of .result) (λ k h q. q) (omega arith) (c .before .next-of .ensures) (b .loop .inv .3),
-      fill-more (λ k. k) (λ k. nextIn bs (35 + k * 10)) (b .loop .one) s (c .next-of2 .result) (λ k h q. q) (omega arith) (c .next-of2 .ensures) (b .loop .inv .4),
+      fill-more (λ k. k) (λ k. nextIn bs (30 + k * 10)) (b .loop .zero) s (c .before .next-of .result) (λ k h q. q)
+          (omega arith) (c .before .next-of .ensures) (b .loop .inv .3),
+      fill-more (λ k. k) (λ k. nextIn bs (35 + k * 10)) (b .loop .one) s (c .next-of2 .result) (λ k h q. q)
+          (omega arith) (c .next-of2 .ensures) (b .loop .inv .4),
     )
 
 returns : tie.Need-returns Inv-loop μ-loop
 returns c =
     let b = c .before in
-    let a = b .before .before .args in
-    (map-range _ _ (a .count) (λ k h. ap₂ (λ x y. record { zero = x; one = y }) (b .loop .inv .3 k (omega arith)) (b .loop .inv .4 k (omega arith))), refl)
+    let a = b .before .before .args in (
+      map-range _ _ (a .count) (λ k h. ap₂ (λ x y. record { zero = x; one = y }) (b .loop .inv .3 k (omega arith))
+          (b .loop .inv .4 k (omega arith))),
+      refl,
+    )
 
 pub states-of-spec : {M : Type 1} → statement M
 states-of-spec =

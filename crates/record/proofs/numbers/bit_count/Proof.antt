@@ -1,11 +1,11 @@
 -- `bit_count` meets its contract: the numbers are small, so nothing wraps.
 -- Assumes nothing.
-use mathlib.Core.Path.{_≡_, ap}
-use Prim.Native.Nat.{_+_, _*_, _^_, _≤_}
+use mathlib.Core.Path.{ap}
+use Prim.Native.Nat.{_+_, _*_}
 use native.Mathlib.Omega.{arith}
+use borrow.Author.Needs.{needs}
 use Rattle.record.specs.Checks.{headIn}
 use Rattle.record.proofs.Sizes.{row-le, edges-le}
-use borrow.Author.Needs.{needs}
 use Rattle.record.proofs.numbers.bit_count.Statement.{statement}
 use Rattle.record.proofs.numbers.bit_count.Tie as tie
 
@@ -39,7 +39,11 @@ add-result-3 c =
     let f = headIn (c .before .before .before .before .args .f) in
     record {
       fits = rw (c .before .before .before .power .ensures)
-          (omega (arith, edges-le f (c .before .before .before .before .pre), c .before .before .before .before .pre .k₂));
+          (omega (
+            arith,
+            edges-le f (c .before .before .before .before .pre),
+            c .before .before .before .before .pre .k₂,
+          ));
     }
 
 returns : tie.Need-returns

@@ -1,9 +1,9 @@
 -- `front_of` meets its contract: each number is the field at its place.
 -- Assumes nothing.
+use borrow.Author.Needs.{needs}
 use denote.Ref.{now}
 use Rattle.bits.specs.Fields.{bitsOf}
 use Rattle.record.proofs.Sizes.{front-is}
-use borrow.Author.Needs.{needs}
 use Rattle.record.proofs.numbers.front_of.Statement.{statement}
 use Rattle.record.proofs.numbers.front_of.Tie as tie
 

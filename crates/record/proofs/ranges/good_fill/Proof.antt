@@ -1,16 +1,14 @@
 -- `good_fill` meets its contract: the fill stands behind the last field and ends with the last byte.
 -- Assumes nothing.
-use mathlib.Core.Path.{_≡_, ap, ap₂, _∙_}
+use mathlib.Core.Path.{ap, ap₂, _∙_}
 use Prim.Native.Nat.{_-_, _*_}
 use native.Mathlib.Omega.{arith}
+use borrow.Author.Needs.{needs}
 use denote.Ref.{now}
 use lib.Dec.{eqb}
-use lib.ListN.{length}
 use Rattle.bits.specs.Fields.{bitsOf, field}
-use Rattle.record.specs.Layout.{bitCount, size}
 use Rattle.record.specs.Checks.{headIn}
 use Rattle.record.proofs.Sizes.{bitCount-le}
-use borrow.Author.Needs.{needs}
 use Rattle.record.proofs.ranges.good_fill.Statement.{statement}
 use Rattle.record.proofs.ranges.good_fill.Tie as tie
 

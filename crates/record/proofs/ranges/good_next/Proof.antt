@@ -1,6 +1,5 @@
 -- `good_next` meets its contract: the field "present" says which test is made of the other.
 -- Assumes nothing.
-use mathlib.Core.Path.{_≡_, ap, sym, _∙_}
 use native.Mathlib.Omega.{arith}
 use borrow.Author.Tests.{eq-eqb, ne-eqb}
 use borrow.Author.Needs.{needs}
@@ -20,10 +19,20 @@ get-requires-2 : tie.Need-get-requires-2
 get-requires-2 c κs = search needs
 
 returns : tie.Need-returns
-returns c = rw (← c .before .before .get .ensures, ← c .before .get2 .ensures, eq-eqb (c .before .get2 .result) 0 (c .if1 .taken))
+returns c = rw (
+  ← c .before .before .get .ensures,
+  ← c .before .get2 .ensures,
+  eq-eqb (c .before .get2 .result) 0
+      (c .if1 .taken),
+)
 
 returns-2 : tie.Need-returns-2
-returns-2 c = rw (← c .before .before .get .ensures, ← c .before .get2 .ensures, ne-eqb (c .before .get2 .result) 0 (λ e. omega arith))
+returns-2 c = rw (
+  ← c .before .before .get .ensures,
+  ← c .before .get2 .ensures,
+  ne-eqb (c .before .get2 .result) 0
+      (λ e. omega arith),
+)
 
 pub good-next-spec : {M : Type 1} → statement M
 good-next-spec =

@@ -1,18 +1,18 @@
 -- `good_rest` meets its contract: each return follows the first of the three checks that fails, or the last check.
 -- Assumes nothing.
+use mathlib.Core.Path.{ap, _∙_}
 use Prim.Native.Nat.{_*_}
-use Rattle.laws.specs.Lists.{all, range}
-use Rattle.record.specs.Places.{goodTargetAt}
-use mathlib.Core.Path.{_≡_, sym, ap, _∙_}
 use native.Mathlib.Omega.{arith}
 use borrow.Author.Tests.{not-true, not-false}
+use borrow.Author.Needs.{needs}
 use denote.Ref.{now}
 use lib.ListN.{length}
+use Rattle.laws.specs.Lists.{all, range}
 use Rattle.bits.specs.Fields.{bitsOf}
+use Rattle.record.specs.Places.{goodTargetAt}
 use Rattle.record.specs.Checks.{headIn}
 use Rattle.record.proofs.Sizes.{edge-count-le, edges-end}
 use Rattle.record.proofs.RecordChecks.{rest-checked}
-use borrow.Author.Needs.{needs}
 use Rattle.record.proofs.ranges.good_rest.Statement.{statement}
 use Rattle.record.proofs.ranges.good_rest.Tie as tie
 
@@ -22,7 +22,12 @@ good-states-requires c κs = search needs
 returns : tie.Need-returns
 returns c =
     let a = c .before .before .before .args in
-    rw (rest-checked (headIn (a .f)) (bitsOf (now (a .bytes))), ← c .before .good-states .ensures, not-true (c .before .good-states .result) (c .if1 .taken))
+    rw (
+      rest-checked (headIn (a .f)) (bitsOf (now (a .bytes))),
+      ← c .before .good-states .ensures,
+      not-true
+          (c .before .good-states .result) (c .if1 .taken),
+    )
 
 power-requires : tie.Need-power-requires
 power-requires c κs = search needs
@@ -30,7 +35,13 @@ power-requires c κs = search needs
 mul-edges : tie.Need-mul-edges
 mul-edges c =
     let b = c .before .before .before .before .before in
-    record { fits = omega (arith, edge-count-le (headIn (b .args .f)) (c .before .power .result) (b .pre .0) (c .before .power .ensures)) }
+    record {
+      fits = omega (
+        arith,
+        edge-count-le (headIn (b .args .f)) (c .before .power .result) (b .pre .0)
+            (c .before .power .ensures),
+      );
+    }
 
 good-targets-requires : tie.Need-good-targets-requires
 good-targets-requires c κs =
@@ -47,7 +58,8 @@ returns-2 c =
     let a = d .before .before .before .before .args in
     let h = headIn (a .f) in
     let bs = bitsOf (now (a .bytes)) in
-    let t = c .before .good-targets .ensures ∙ ap (λ n. all (goodTargetAt bs h) (range (h .states * n))) (d .power .ensures) in
+    let t = c .before .good-targets .ensures ∙ ap (λ n. all (goodTargetAt bs h) (range (h .states * n)))
+    (d .power .ensures) in
     rw (
       rest-checked h bs,
       ← d .before .before .good-states .ensures,
@@ -65,7 +77,8 @@ returns-3 c =
     let a = d .before .before .before .before .args in
     let h = headIn (a .f) in
     let bs = bitsOf (now (a .bytes)) in
-    let t = c .before .before .good-targets .ensures ∙ ap (λ n. all (goodTargetAt bs h) (range (h .states * n))) (d .power .ensures) in
+    let t = c .before .before .good-targets .ensures
+    ∙ ap (λ n. all (goodTargetAt bs h) (range (h .states * n))) (d .power .ensures) in
     rw (
       rest-checked h bs,
       ← d .before .before .good-states .ensures,

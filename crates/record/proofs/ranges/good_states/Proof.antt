@@ -3,7 +3,7 @@
 -- Assumes nothing.
 use mathlib.Core.Path.{_≡_, sym, _∙_}
 use mathlib.Core.Bool.{true}
-use Prim.Native.Nat.{ℕ, _+_, _*_, _-_, _≤_, _<_}
+use Prim.Native.Nat.{ℕ, _*_, _-_, _≤_, _<_}
 use native.Mathlib.Omega.{arith}
 use borrow.Author.Count.{below-more}
 use borrow.Author.Tests.{not-true, not-false}
@@ -38,7 +38,8 @@ good-next-requires c κs = (omega arith, omega arith)
 returns : tie.Need-returns Inv-loop μ-loop
 returns c =
     let a = c .before .before .before .before .before .args in
-    all-not (goodAt (bitsOf (now (a .bytes))) (a .count)) (2 * a .count) (c .before .before .before .loop .i) (omega arith)
+    all-not (goodAt (bitsOf (now (a .bytes))) (a .count)) (2 * a .count) (c .before .before .before .loop .i)
+    (omega arith)
     (sym (c .before .good-next .ensures) ∙ not-true (c .before .good-next .result) (c .if1 .taken))
 
 add-i : tie.Need-add-i Inv-loop μ-loop

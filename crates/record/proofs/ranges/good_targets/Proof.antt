@@ -1,9 +1,7 @@
 -- `good_targets` meets its contract. The loop's invariant: every edge passed leads to a state. The measure is what is
 -- left.
 -- Assumes nothing.
-use lib.ListN.{length}
-use mathlib.Core.Path.{ap}
-use mathlib.Core.Path.{_≡_, sym, _∙_}
+use mathlib.Core.Path.{ap, _≡_, sym, _∙_}
 use mathlib.Core.Bool.{true}
 use Prim.Native.Nat.{ℕ, _+_, _*_, _-_, _≤_, _<_}
 use native.Mathlib.Omega.{arith}
@@ -11,6 +9,7 @@ use borrow.Author.Count.{below-more}
 use borrow.Author.Needs.{needs}
 use borrow.Author.Tests.{lt-ltb, le-ltb}
 use denote.Ref.{now}
+use lib.ListN.{length}
 use lib.Dec.{ltb}
 use Rattle.bits.specs.Fields.{bitsOf, field}
 use Rattle.record.specs.Checks.{headIn}
@@ -21,7 +20,8 @@ use Rattle.record.proofs.ranges.good_targets.Statement.{statement}
 use Rattle.record.proofs.ranges.good_targets.Tie as tie
 
 abbrev Inv-loop : tie.InvT-loop
-Inv-loop bytes edges first step states e₀ e = (e ≤ edges) × ((k : ℕ) → k < e → ltb (field (bitsOf bytes) (first + k * step) 7) states ≡ true)
+Inv-loop bytes edges first step states e₀ e =
+    (e ≤ edges) × ((k : ℕ) → k < e → ltb (field (bitsOf bytes) (first + k * step) 7) states ≡ true)
 
 abbrev μ-loop : tie.MeasureT-loop
 μ-loop bytes edges first step states e₀ e = edges - e
@@ -44,12 +44,26 @@ loop-holds c = (omega arith, λ k h. absurd (omega arith))
 mul-get : tie.Need-mul-get Inv-loop μ-loop
 mul-get c =
     let a = c .before .before .before .before .before .before in
-    record { fits = omega (arith, product-le (c .before .loop .e) (a .args .f .q + 7) 2048 15 (omega arith) (omega (arith, a .pre .0 .q₂))) }
+    record {
+      fits = omega (
+        arith,
+        product-le (c .before .loop .e) (a .args .f .q + 7) 2048 15 (omega arith)
+            (omega (arith, a .pre .0 .q₂)),
+      );
+    }
 
 add-get : tie.Need-add-get Inv-loop μ-loop
 add-get c =
     let a = c .before .before .before .before .before .before in
-    record { fits = omega (arith, product-le (c .before .loop .e) (a .args .f .q + 7) 2048 15 (omega arith) (omega (arith, a .pre .0 .q₂)), a .pre .0 .q₂, a .pre .0 .k₂) }
+    record {
+      fits = omega (
+        arith,
+        product-le (c .before .loop .e) (a .args .f .q + 7) 2048 15 (omega arith)
+            (omega (arith, a .pre .0 .q₂)),
+        a .pre .0 .q₂,
+        a .pre .0 .k₂,
+      );
+    }
 
 get-requires : tie.Need-get-requires Inv-loop μ-loop
 get-requires c κs =
@@ -66,7 +80,8 @@ cast-if1 c = search needs
 returns : tie.Need-returns Inv-loop μ-loop
 returns c =
     let a = c .before .before .before .before .before .before .before .before .args in
-    all-not (goodTargetAt (bitsOf (now (a .bytes))) (headIn (a .f))) (a .edges) (c .before .before .before .loop .e) (omega arith)
+    all-not (goodTargetAt (bitsOf (now (a .bytes))) (headIn (a .f))) (a .edges) (c .before .before .before .loop .e)
+    (omega arith)
     (ap (λ x. ltb x (a .f .states)) (sym (c .before .get .ensures)) ∙ le-ltb _ _ (c .if1 .taken))
 
 add-e : tie.Need-add-e Inv-loop μ-loop

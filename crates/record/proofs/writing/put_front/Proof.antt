@@ -2,12 +2,12 @@
 -- Assumes nothing.
 use mathlib.Core.Path.{_∙_}
 use native.Mathlib.Omega.{arith}
+use borrow.Author.Needs.{needs}
 use denote.Ref.{now}
 use Rattle.bits.specs.Fields.{bitsOf}
 use Rattle.bits.proofs.Puts.{length-bitsOf}
 use Rattle.record.specs.Checks.{headIn}
 use Rattle.record.proofs.RecordParts.{front-spliced}
-use borrow.Author.Needs.{needs}
 use Rattle.record.proofs.writing.put_front.Statement.{statement}
 use Rattle.record.proofs.writing.put_front.Tie as tie
 
@@ -42,7 +42,7 @@ same-length : tie.Need-same-length
 same-length c = search needs
 
 returns : tie.Need-returns
-returns c = 
+returns c =
     let p7 = c .before .before in
     let p6 = p7 .before .before .before .before in
     let p5 = p6 .before .before .before .before .before in
@@ -50,13 +50,15 @@ returns c =
     let p3 = p4 .before .before .before .before in
     let p2 = p3 .before .before .before .before .before in
     let p1 = p2 .before .before .before .before in
-    let a = p1 .before .before .before in
-    (front-spliced (headIn (a .args .f)) _ _ (bitsOf (now (a .args .out))) _ _ _ _ _ _ _
-        (omega (arith, length-bitsOf (now (a .args .out)), a .pre)) (p3 .before .less-one .ensures) (p6 .before .less-one2 .ensures)
-        (p1 .put-low .ensures .0) (p2 .put-low2 .ensures .0) (p3 .put-low3 .ensures .0) (p4 .put-low4 .ensures .0)
-        (p5 .put-low5 .ensures .0) (p6 .put-low6 .ensures .0) (p7 .put-low7 .ensures .0),
-     p7 .put-low7 .ensures .1 ∙ p6 .put-low6 .ensures .1 ∙ p5 .put-low5 .ensures .1 ∙ p4 .put-low4 .ensures .1
-        ∙ p3 .put-low3 .ensures .1 ∙ p2 .put-low2 .ensures .1 ∙ p1 .put-low .ensures .1)
+    let a = p1 .before .before .before in (
+      front-spliced (headIn (a .args .f)) _ _ (bitsOf (now (a .args .out))) _ _ _ _ _ _ _
+          (omega (arith, length-bitsOf (now (a .args .out)), a .pre)) (p3 .before .less-one .ensures)
+          (p6 .before .less-one2 .ensures)
+          (p1 .put-low .ensures .0) (p2 .put-low2 .ensures .0) (p3 .put-low3 .ensures .0) (p4 .put-low4 .ensures .0)
+          (p5 .put-low5 .ensures .0) (p6 .put-low6 .ensures .0) (p7 .put-low7 .ensures .0),
+      p7 .put-low7 .ensures .1 ∙ p6 .put-low6 .ensures .1 ∙ p5 .put-low5 .ensures .1 ∙ p4 .put-low4 .ensures .1
+          ∙ p3 .put-low3 .ensures .1 ∙ p2 .put-low2 .ensures .1 ∙ p1 .put-low .ensures .1,
+    )
 
 pub put-front-spec : {M : Type 1} → statement M
 put-front-spec =

@@ -1,13 +1,10 @@
 -- `put_next` meets its contract: the five bits of an absent next state are 0, those of a present one begin with 1.
 -- Assumes nothing.
 use mathlib.Core.Path.{_∙_}
-use native.Mathlib.Nat.{mod-lt}
-use native.Mathlib.Omega.{arith}
+use borrow.Author.Needs.{needs}
 use denote.Ref.{now}
-use lib.Pow.{pow-pos}
 use Rattle.bits.specs.Fields.{bitsOf}
 use Rattle.record.proofs.RecordParts.{put-absent, put-present}
-use borrow.Author.Needs.{needs}
 use Rattle.record.proofs.writing.put_next.Statement.{statement}
 use Rattle.record.proofs.writing.put_next.Tie as tie
 
@@ -18,7 +15,7 @@ same-length : tie.Need-same-length
 same-length c = search needs
 
 returns : tie.Need-returns
-returns c = 
+returns c =
     let b = c .before .before in
     let t = b .before .before in
     let a = t .before .before .args in
@@ -37,11 +34,14 @@ same-length-2 : tie.Need-same-length-2
 same-length-2 c = search needs
 
 returns-2 : tie.Need-returns-2
-returns-2 c = 
+returns-2 c =
     let b = c .before .before in
     let t = b .before .before .before in
-    let a = t .before .before .args in
-    (b .put2 .ensures .0 ∙ put-present (bitsOf (now (a .out))) (a .at) (a .next) _ (t .if1 .left) (b .before .low-bits .ensures), b .put2 .ensures .1)
+    let a = t .before .before .args in (
+      b .put2 .ensures .0 ∙ put-present (bitsOf (now (a .out))) (a .at) (a .next) _ (t .if1 .left)
+          (b .before .low-bits .ensures),
+      b .put2 .ensures .1,
+    )
 
 pub put-next-spec : {M : Type 1} → statement M
 put-next-spec =
