@@ -7,10 +7,13 @@ ghost use Rattle.laws.specs.Sums.{Below};
 ghost use Rattle.answer.specs.Outcomes.{answerOf, outputOf};
 ghost use Rattle.table.specs.Paths.{ends, spells};
 ghost use Rattle.table.specs.Edges.{arrays, rowsOf, Fits};
+ghost use Rattle.codec.specs.Answers.{encodeUnder};
 ghost use Rattle.codec.specs.With.{encodedWith};
 use answer::Answer;
 use answer::Refusal;
 use crate::bytes::first_bad;
+use record::Verdict;
+use record::loading::load;
 use table::Table;
 use table::chains::ways;
 use table::ready::is_ready;
@@ -104,4 +107,23 @@ pub fn encode_with(t: Table, blocks: &[u8], out: &mut [u8]) -> Answer
     let s = write_blocks(t.states, n, &word, &next, blocks, out);
     write_closing(t.states, n, &word, &next, s, blocks.len(), end, out);
     Answer::Done(end)
+}
+
+// The recording of the blocks under the record in the bytes, in the output. Declines with the record's refusal, then 13,
+// then 11.
+pub fn encode(bytes: &[u8], blocks: &[u8], out: &mut [u8]) -> Answer
+    ensures answer { λ r. ⌜
+        r ≡ answerOf (encodeUnder (now (bytes .entry)) (length (now (out .entry))) (now (blocks .entry))) ⌝ }
+    ensures written { λ r. ⌜
+        now (out .exit)
+        ≡ outputOf (encodeUnder (now (bytes .entry)) (length (now (out .entry))) (now (blocks .entry)))
+        (now (out .entry)) ⌝ }
+{
+    let r = load(bytes);
+    let v = r.verdict;
+    let t = r.table;
+    match v {
+        Verdict::Bad(x) => Answer::Refused(x),
+        Verdict::Read => encode_with(t, blocks, out),
+    }
 }
