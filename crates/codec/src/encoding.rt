@@ -1,7 +1,8 @@
 // Encoding: "N blocks give N + a words: the blocks from state 0, then a blocks of data 0."
 ghost use mathlib.Core.Path.{_≡_};
 ghost use mathlib.Core.List.{_++_};
-ghost use Prim.Native.Nat.{_-_, _≤_, _<_};
+ghost use Prim.Native.Nat.{_+_, _-_, _≤_, _<_};
+ghost use lib.Dec.{ltb};
 ghost use lib.ListN.{length, take, drop, replicate};
 ghost use Rattle.laws.specs.Sums.{Below};
 ghost use Rattle.answer.specs.Outcomes.{answerOf, outputOf};
@@ -71,15 +72,25 @@ fn write_closing(
     let mut s = state;
     let mut i = at;
     while i < end {
-        let e = s * 16;
-        out[i] = word[e];
-        s = next[e] as usize;
+        let first = s * 16;
+        out[i] = word[first];
+        s = next[first] as usize;
         i += 1;
     }
 }
 
+// Whether `room` bytes are too few for `count` words and `closing` more.
+fn lacks_room(room: usize, count: usize, closing: usize) -> bool
+    ensures answer { λ r. ⌜ r ≡ ltb room (count + closing) ⌝ }
+{
+    if room < count {
+        return true;
+    }
+    room - count < closing
+}
+
 // The recording of the blocks under the table, in the output. Declines with 7 for a value of the struct that no record
-// gives, then 13, then 11.
+// gives, then 13, then 11: a bad block is answered only where there is room.
 pub fn encode_with(t: Table, blocks: &[u8], out: &mut [u8]) -> Answer
     ensures answer { λ r. ⌜
         r ≡ answerOf (encodedWith t (length (now (out .entry))) (now (blocks .entry))) ⌝ }
@@ -90,14 +101,11 @@ pub fn encode_with(t: Table, blocks: &[u8], out: &mut [u8]) -> Answer
     if !is_ready(t) {
         return Answer::Refused(Refusal::Field);
     }
-    if out.len() < blocks.len() {
-        return Answer::Refused(Refusal::ShortOutput);
-    }
-    if out.len() - blocks.len() < t.lookahead {
-        return Answer::Refused(Refusal::ShortOutput);
-    }
     let n = ways(t.p);
     let bad = first_bad(blocks, n);
+    if lacks_room(out.len(), blocks.len(), t.lookahead) {
+        return Answer::Refused(Refusal::ShortOutput);
+    }
     if bad < blocks.len() {
         return Answer::Refused(Refusal::BadByte(bad));
     }
