@@ -9,3 +9,4 @@ pub mod Tabled
 pub mod StateSteps
 pub mod FirstReading
 pub mod Windowed
+pub mod Loaded

@@ -8,11 +8,14 @@ ghost use Rattle.answer.specs.Outcomes.{answerOf, outputOf};
 ghost use Rattle.table.specs.Edges.{arrays, rowsOf, Linked};
 ghost use Rattle.codec.specs.Reading.{block};
 ghost use Rattle.codec.specs.StateSets.{under};
+ghost use Rattle.codec.specs.Answers.{decodeUnder};
 ghost use Rattle.codec.specs.With.{decodedWith};
 use answer::Answer;
 use answer::Refusal;
 use crate::blocks::read_block;
 use crate::bytes::first_bad;
+use record::Verdict;
+use record::loading::load;
 use table::Table;
 use table::chains::chain;
 use table::chains::ways;
@@ -79,4 +82,23 @@ pub fn decode_with(t: Table, words: &[u8], out: &mut [u8]) -> Answer
     let link = c.link;
     read_blocks(t.states, n, &word, &next, &head, &link, words, t.memory, a, count, out);
     Answer::Done(count)
+}
+
+// The blocks of the words under the record in the bytes, in the output. Declines with the record's refusal, then 12, 13,
+// 11.
+pub fn decode(bytes: &[u8], words: &[u8], out: &mut [u8]) -> Answer
+    ensures answer { λ r. ⌜
+        r ≡ answerOf (decodeUnder (now (bytes .entry)) (length (now (out .entry))) (now (words .entry))) ⌝ }
+    ensures written { λ r. ⌜
+        now (out .exit)
+        ≡ outputOf (decodeUnder (now (bytes .entry)) (length (now (out .entry))) (now (words .entry)))
+        (now (out .entry)) ⌝ }
+{
+    let r = load(bytes);
+    let v = r.verdict;
+    let t = r.table;
+    match v {
+        Verdict::Bad(x) => Answer::Refused(x),
+        Verdict::Read => decode_with(t, words, out),
+    }
 }

@@ -1,16 +1,20 @@
 // Encoding: "N blocks give N + a words: the blocks from state 0, then a blocks of data 0."
 ghost use mathlib.Core.Path.{_≡_};
 ghost use mathlib.Core.List.{_++_};
-ghost use Prim.Native.Nat.{_-_, _≤_, _<_};
+ghost use Prim.Native.Nat.{_+_, _-_, _≤_, _<_};
+ghost use lib.Dec.{ltb};
 ghost use lib.ListN.{length, take, drop, replicate};
 ghost use Rattle.laws.specs.Sums.{Below};
 ghost use Rattle.answer.specs.Outcomes.{answerOf, outputOf};
 ghost use Rattle.table.specs.Paths.{ends, spells};
 ghost use Rattle.table.specs.Edges.{arrays, rowsOf, Fits};
+ghost use Rattle.codec.specs.Answers.{encodeUnder};
 ghost use Rattle.codec.specs.With.{encodedWith};
 use answer::Answer;
 use answer::Refusal;
 use crate::bytes::first_bad;
+use record::Verdict;
+use record::loading::load;
 use table::Table;
 use table::chains::ways;
 use table::ready::is_ready;
@@ -68,15 +72,25 @@ fn write_closing(
     let mut s = state;
     let mut i = at;
     while i < end {
-        let e = s * 16;
-        out[i] = word[e];
-        s = next[e] as usize;
+        let first = s * 16;
+        out[i] = word[first];
+        s = next[first] as usize;
         i += 1;
     }
 }
 
+// Whether `room` bytes are too few for `count` words and `closing` more.
+fn lacks_room(room: usize, count: usize, closing: usize) -> bool
+    ensures answer { λ r. ⌜ r ≡ ltb room (count + closing) ⌝ }
+{
+    if room < count {
+        return true;
+    }
+    room - count < closing
+}
+
 // The recording of the blocks under the table, in the output. Declines with 7 for a value of the struct that no record
-// gives, then 13, then 11.
+// gives, then 13, then 11: a bad block is answered only where there is room.
 pub fn encode_with(t: Table, blocks: &[u8], out: &mut [u8]) -> Answer
     ensures answer { λ r. ⌜
         r ≡ answerOf (encodedWith t (length (now (out .entry))) (now (blocks .entry))) ⌝ }
@@ -87,14 +101,11 @@ pub fn encode_with(t: Table, blocks: &[u8], out: &mut [u8]) -> Answer
     if !is_ready(t) {
         return Answer::Refused(Refusal::Field);
     }
-    if out.len() < blocks.len() {
-        return Answer::Refused(Refusal::ShortOutput);
-    }
-    if out.len() - blocks.len() < t.lookahead {
-        return Answer::Refused(Refusal::ShortOutput);
-    }
     let n = ways(t.p);
     let bad = first_bad(blocks, n);
+    if lacks_room(out.len(), blocks.len(), t.lookahead) {
+        return Answer::Refused(Refusal::ShortOutput);
+    }
     if bad < blocks.len() {
         return Answer::Refused(Refusal::BadByte(bad));
     }
@@ -104,4 +115,23 @@ pub fn encode_with(t: Table, blocks: &[u8], out: &mut [u8]) -> Answer
     let s = write_blocks(t.states, n, &word, &next, blocks, out);
     write_closing(t.states, n, &word, &next, s, blocks.len(), end, out);
     Answer::Done(end)
+}
+
+// The recording of the blocks under the record in the bytes, in the output. Declines with the record's refusal, then 13,
+// then 11.
+pub fn encode(bytes: &[u8], blocks: &[u8], out: &mut [u8]) -> Answer
+    ensures answer { λ r. ⌜
+        r ≡ answerOf (encodeUnder (now (bytes .entry)) (length (now (out .entry))) (now (blocks .entry))) ⌝ }
+    ensures written { λ r. ⌜
+        now (out .exit)
+        ≡ outputOf (encodeUnder (now (bytes .entry)) (length (now (out .entry))) (now (blocks .entry)))
+        (now (out .entry)) ⌝ }
+{
+    let r = load(bytes);
+    let v = r.verdict;
+    let t = r.table;
+    match v {
+        Verdict::Bad(x) => Answer::Refused(x),
+        Verdict::Read => encode_with(t, blocks, out),
+    }
 }

@@ -1,14 +1,14 @@
 -- What the test of a table by value says, and how the code comes to it.
--- In order: ready→; wide-place, next-place, one entry; not-ready, ready-rows.
+-- In order: ready→; wide-place, next-place, one entry; not-ready, ready-rows, →ready.
 -- Assumes nothing.
 use mathlib.Core.Path.{_≡_, refl, sym, ap, ap₂, subst, _∙_}
 use mathlib.Core.Bool.{Bool, true, false, _&&_}
 use mathlib.Core.List.{List}
 use Prim.Native.Nat.{ℕ, _^_, _≤_, _<_}
 use borrow.Author.Tests.{lt-ltb, le-ltb, le-leb}
-use lib.Dec.{T, ltb, leb, ltb→lt, leb→le}
+use lib.Dec.{T, ltb, leb, ltb→lt, lt→ltb, leb→le}
 use Rattle.laws.specs.Lists.{range, all}
-use Rattle.laws.proofs.Tests.{and→, all-below→}
+use Rattle.laws.proofs.Tests.{and→, →and, T→true, all-below→, →all-below}
 use Rattle.table.specs.declared.Table.{Table}
 use Rattle.table.specs.Value.{wordAt, nextAt, Ready, goodEntry, goodEntries, ready}
 use Rattle.table.specs.Entries.{goodRow}
@@ -58,3 +58,11 @@ unfolding ready
 ready-rows t n words s₁ s₂ hp hq hc en ew =
     ap₂ (λ m v. all (goodRow (t .states) v (t .word) (t .next) m) (range (t .states))) en ew
     ∙ sym (simp (le-leb _ _ s₁, le-leb _ _ s₂, le-leb _ _ hp, le-leb _ _ hq, le-leb _ _ hc))
+
+pub →ready : (t : Table) → Ready t → ready t ≡ true
+→ready t r =
+    sym (ready-rows t (2 ^ t .p) (2 ^ t .q) (r .some) (r .few) (r .narrow) (r .short) (r .limits) refl refl)
+    ∙ T→true (all (goodEntries t) (range (t .states)))
+    (→all-below (goodEntries t) (t .states) (λ s hs. →all-below (goodEntry t s) (2 ^ t .p) (λ d hd.
+    →and (ltb (wordAt t s d) (2 ^ t .q)) (ltb (nextAt t s d) (t .states)) (lt→ltb (wordAt t s d) (2 ^ t .q) (r .reading s d hs hd))
+    (lt→ltb (nextAt t s d) (t .states) (r .inside s d hs hd)))))

@@ -44,8 +44,8 @@ loop-holds c =
           (length-take-le (a .at) (now (a .out)) (omega arith)) (c .pre .2) (split-front (a .at) (now (a .out)))),
     )
 
-mul-e : tie.Need-mul-e Inv-loop μ-loop
-mul-e c = omega (arith, c .before .loop .inv .3 .inside, c .before .before .pre .0 .few)
+mul-first : tie.Need-mul-first Inv-loop μ-loop
+mul-first c = omega (arith, c .before .loop .inv .3 .inside, c .before .before .pre .0 .few)
 
 element-copy-out-out : tie.Need-element-copy-out-out Inv-loop μ-loop
 element-copy-out-out c = omega (arith, c .before .loop .inv .3 .inside, c .before .before .pre .0 .few)
@@ -101,7 +101,7 @@ write-closing-spec =
     Inv-loop
     μ-loop
     loop-holds
-    mul-e
+    mul-first
     element-copy-out-out
     slice-write-out
     element-copy-out-s
