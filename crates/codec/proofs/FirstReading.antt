@@ -2,7 +2,7 @@
 -- In order: readsAt with read-in, read-out, read-only; FirstFrom with first-start, first-jump, first-take; last-place;
 -- first-reading.
 -- Assumes nothing.
-use mathlib.Core.Path.{_≡_, refl, sym, ap, ap₂, subst, _∙_}
+use mathlib.Core.Path.{_≡_, refl, sym, ap, ap₂, _∙_}
 use mathlib.Core.Logic.{_⊎_, inl, inr}
 use mathlib.Core.Bool.{Bool, true, false, _&&_, and-false}
 use mathlib.Core.List.{List, [], _∷_, _++_, map}
@@ -12,10 +12,10 @@ use native.Mathlib.Decide.{ℕ-discrete, decLt}
 use borrow.Author.Tests.{ltb-true}
 use lib.Dec.{eqb}
 use lib.ListN.{length, getD}
-use Rattle.laws.specs.Lists.{if_then_else_, from, range, filter, concat}
+use Rattle.laws.specs.Lists.{from, filter, concat}
 use Rattle.laws.specs.Sets.{member}
 use Rattle.table.specs.Rows.{edges, at}
-use Rattle.table.specs.Edges.{Arrays, rowsOf, places, isEdge, wordOf, nextOf, Fits, bears}
+use Rattle.table.specs.Edges.{Arrays, rowsOf, places, wordOf, nextOf, Fits, bears}
 use Rattle.table.proofs.Edges.{bears-edge}
 use Rattle.table.proofs.RowsOf.{length-rows, row-long, edge-at, place, place-state, place-lt, place-edge, place-next}
 use Rattle.codec.specs.Reading.{enters, readingsOf, readings, mark}
@@ -102,7 +102,9 @@ module _ (f : ℕ → List ℕ) where
     where
       go : Dec (i ≡ s) → (suc i ≤ s → (q : List ℕ) × (concat (map f (from (suc i) k)) ≡ d ∷ q))
           → (q : List ℕ) × (concat (map f (from i (suc k))) ≡ d ∷ q)
-      go (yes z) g = (r ++ concat (map f (from (suc i) k)), ap (λ x. x ++ concat (map f (from (suc i) k))) (ap f z ∙ e))
+      go (yes z) g =
+          let l = concat (map f (from (suc i) k)) in
+          (r ++ l, ap (λ x. x ++ l) (ap f z ∙ e))
       go (no z) g =
           let (q, y) = g (omega arith) in
           (q, ap₂ (λ u v. u ++ v) (h i (omega arith) (omega arith)) y)
@@ -145,7 +147,8 @@ module _ (t : Arrays) (g : Fits t) (P A : List Bool) (w : ℕ) where
       (omega (arith, row-long t s hs)) (read-at s d hs hd ∙ q)
       (λ j a b. read-at s j hs (omega arith) ∙ h j b)
 
-  pub first-reading : (v : ℕ) → FirstFrom (readsAt t P A w) (places t) 0 v → v ≡ getD (readings (rowsOf t) S w B) 0 mark
+  pub first-reading : (v : ℕ) → FirstFrom (readsAt t P A w) (places t) 0 v
+      → v ≡ getD (readings (rowsOf t) S w B) 0 mark
   first-reading v (inl (q, h)) =
       q ∙ sym (ap (λ l. getD l 0 mark) (concat-none (readingsOf (rowsOf t) S w B) 0 (length (rowsOf t))
       (λ s a b. let hs : s < t .states = omega (arith, length-rows t) in
@@ -155,10 +158,10 @@ module _ (t : Arrays) (g : Fits t) (P A : List Bool) (w : ℕ) where
       let hd : e % 16 < t .ways = ltb-true _ _ (bears-edge t w e (front (bears t w e) _ p)) in
       let k : e / 16 * 16 + e % 16 ≡ e = place e in
       let (r, z) = row-first (e / 16) (e % 16) hs hd (ap (readsAt t P A w) k ∙ p)
-          (λ j l. h (e / 16 * 16 + j) (omega arith) (omega arith)) in
+      (λ j l. h (e / 16 * 16 + j) (omega arith) (omega arith)) in
       let (y, x) = concat-first (readingsOf (rowsOf t) S w B) 0 (length (rowsOf t)) (e / 16) (e % 16) r (omega arith)
-          (omega (arith, length-rows t)) z
-          (λ s u l. row-none s (omega arith) (λ d m. h (s * 16 + d) (omega arith) (omega (arith, g .narrow)))) in
+      (omega (arith, length-rows t)) z
+      (λ s u l. row-none s (omega arith) (λ d m. h (s * 16 + d) (omega arith) (omega (arith, g .narrow)))) in
       q ∙ sym (ap (λ l. getD l 0 mark) x)
     where
       front : (x y : Bool) → (x && y) ≡ true → x ≡ true

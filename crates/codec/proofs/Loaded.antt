@@ -18,8 +18,8 @@ use Rattle.codec.specs.Answers.{encoded, decoded, encodeUnder, decodeUnd
 use Rattle.codec.specs.With.{encodedWith, decodedWith}
 
 -- an answer and the output that meet an outcome meet one that is equal to it
-pub handed : (o o′ : Outcome (List ℕ)) (a : Answer) (out out′ : List ℕ) → o ≡ o′ → a ≡ answerOf o → out′ ≡ outputOf o out
-    → (a ≡ answerOf o′) × (out′ ≡ outputOf o′ out)
+pub handed : (o o′ : Outcome (List ℕ)) (a : Answer) (out out′ : List ℕ) → o ≡ o′ → a ≡ answerOf o
+    → out′ ≡ outputOf o out → (a ≡ answerOf o′) × (out′ ≡ outputOf o′ out)
 handed o o′ a out out′ e p q = (p ∙ ap answerOf e, q ∙ ap (λ x. outputOf x out) e)
 
 module _ (xs : List ℕ) (r : Reading) (e : outcomeIn r ≡ parse xs) where

@@ -1,17 +1,17 @@
 -- Sets of states in an array, stepped along the chain of a word.
--- In order: member-states, states-same, states-every, states-one; test-place, place-test, a test over the edges of a state;
--- leadsAt with lead-in to lead-only, along-places; entersAt with enter-in to enter-only, back-places; left-blank,
--- edge-small.
+-- In order: member-states, states-same, states-every, states-one; test-place, place-test, a test over the edges of a
+-- state; leadsAt with lead-in to lead-only, along-places; entersAt with enter-in to enter-only, back-places;
+-- left-blank, edge-small.
 -- Assumes nothing.
-use mathlib.Core.Path.{_≡_, refl, sym, ap, ap₂, subst, _∙_}
+use mathlib.Core.Path.{_≡_, sym, ap, ap₂, subst, _∙_}
 use mathlib.Core.Bool.{Bool, true, false, _&&_, and-false}
-use mathlib.Core.List.{List, [], map}
+use mathlib.Core.List.{List, map}
 use Prim.Native.Nat.{ℕ, _+_, _*_, _/_, _%_, _≤_, _<_}
 use native.Mathlib.Omega.{arith}
 use native.Mathlib.Decide.{ℕ-discrete}
-use borrow.Author.Tests.{lt-ltb, ltb-true, eq-eqb, ne-eqb, eqb-true}
+use borrow.Author.Tests.{ltb-true, ne-eqb}
 use lib.Dec.{T, eqb, eqb→eq, eqb-refl}
-use lib.ListN.{length, getD, set, replicate, length-replicate, getD-replicate}
+use lib.ListN.{length, set, replicate, length-replicate, getD-replicate}
 use lib.Seq.{getD-set-same, getD-set-other}
 use Rattle.laws.specs.Lists.{range, any}
 use Rattle.laws.specs.Sets.{member}
@@ -177,7 +177,8 @@ pub back-places : (t : Arrays) → Fits t → (S R : List Bool) (w : ℕ)
     → statesIn (t .states) R ≡ back (rowsOf t) (statesIn (t .states) S) w
 back-places t g S R w h =
     states-same (t .states) R (λ s. any (enters (statesIn (t .states) S) w) (edges (rowsOf t) s))
-    (λ x l. h x ∙ bool-eq (some (entersAt t S w x) (places t)) (any (enters (statesIn (t .states) S) w) (edges (rowsOf t) x))
+    (λ x l. h x ∙ bool-eq (some (entersAt t S w x) (places t))
+    (any (enters (statesIn (t .states) S) w) (edges (rowsOf t) x))
     (enter→ t g S w x l) (→enter t g S w x l))
     ∙ ap (λ k. map (λ s. any (enters (statesIn (t .states) S) w) (edges (rowsOf t) s)) (range k)) (sym (length-rows t))
 

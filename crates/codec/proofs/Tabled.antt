@@ -2,13 +2,13 @@
 -- In order: declined, finished, an outcome as the code answers it; bad-le; encode-7 to encode-done; decode-7 to
 -- decode-done.
 -- Assumes nothing.
-use mathlib.Core.Path.{_≡_, refl, sym, ap, subst, _∙_}
+use mathlib.Core.Path.{_≡_, sym, ap, _∙_}
 use mathlib.Core.Bool.{Bool, true, false}
 use mathlib.Core.List.{List, [], _∷_, _++_}
 use Prim.Native.Nat.{ℕ, suc, _+_, _-_, _^_, _≤_, _<_}
 use native.Mathlib.Omega.{arith}
 use borrow.Author.Tests.{lt-leb, le-leb, eq-eqb, ne-eqb}
-use lib.Dec.{T, ltb, leb, eqb}
+use lib.Dec.{ltb, leb}
 use lib.ListN.{length, drop}
 use Rattle.laws.specs.Lists.{if_then_else_}
 use Rattle.answer.specs.declared.Refusal.{Refusal}
@@ -44,7 +44,8 @@ bad-le n (x ∷ xs) = go (ltb x n) (bad-le n xs)
 module _ (n : ℕ) (xs result : List ℕ) where
   below-bad : firstBad n xs < length xs → allBelow n xs result ≡ refused (BadByte (firstBad n xs))
   below-bad h =
-      ap (λ b. unless (BadByte (firstBad n xs)) b (done result)) (ne-eqb (firstBad n xs) (length xs) (λ e. omega arith))
+      ap (λ b. unless (BadByte (firstBad n xs)) b (done result))
+      (ne-eqb (firstBad n xs) (length xs) (λ e. omega arith))
 
   below-done : firstBad n xs ≡ length xs → allBelow n xs result ≡ done result
   below-done e = ap (λ b. unless (BadByte (firstBad n xs)) b (done result)) (eq-eqb (firstBad n xs) (length xs) e)

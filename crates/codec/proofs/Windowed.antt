@@ -18,28 +18,33 @@ use Rattle.table.specs.declared.Table.{Table}
 use Rattle.table.specs.Rows.{Rows, Code}
 use Rattle.table.specs.Value.{codeIn}
 use Rattle.table.specs.Edges.{arrays, rowsOf}
-use Rattle.codec.specs.Reading.{everyState, oneState, along, alongAll, back, able, readings, mark, past, block, decode}
+use Rattle.codec.specs.Reading.{everyState, oneState, along, alongAll, back, able, readings, mark}
+use Rattle.codec.specs.Reading.{past, block, decode}
 use Rattle.codec.specs.StateSets.{under}
 
 -- ---- words one by one
 module _ (t : Rows) (ws : List ℕ) where
+  slice-first : (j to : ℕ) → j < to → to ≤ length ws → slice j to ws ≡ getD ws j 0 ∷ slice (j + 1) to ws
+  slice-first j to h l = slice-cons j to ws 0 h l ∙ ap (λ k. getD ws j 0 ∷ slice k to ws) (sym (add-one j))
+
   pub along-first : (S : List Bool) (j to : ℕ) → j < to → to ≤ length ws
       → alongAll t S (slice j to ws) ≡ alongAll t (along t S (getD ws j 0)) (slice (j + 1) to ws)
-  along-first S j to h l = ap (alongAll t S) (slice-cons j to ws 0 h l ∙ ap (λ k. getD ws j 0 ∷ slice k to ws) (sym (add-one j)))
+  along-first S j to h l = ap (alongAll t S) (slice-first j to h l)
 
   pub along-end : (S : List Bool) (to : ℕ) → alongAll t S (slice to to ws) ≡ S
   along-end S to = ap (alongAll t S) (slice-empty to ws)
 
   pub able-first : (j to : ℕ) → j < to → to ≤ length ws
       → able t (slice j to ws) ≡ back t (able t (slice (j + 1) to ws)) (getD ws j 0)
-  able-first j to h l = ap (able t) (slice-cons j to ws 0 h l ∙ ap (λ k. getD ws j 0 ∷ slice k to ws) (sym (add-one j)))
+  able-first j to h l = ap (able t) (slice-first j to h l)
 
   pub able-end : (to : ℕ) → able t (slice to to ws) ≡ everyState t
   able-end to = ap (able t) (slice-empty to ws)
 
 -- ---- the window of block i
 module _ (t : Rows) (m a : ℕ) (ws : List ℕ) (i : ℕ) where
-  pub past-cut : alongAll t (if ltb i m then oneState t 0 else everyState t) (slice (i - m) i ws) ≡ past (under t m a) ws i
+  pub past-cut : alongAll t (if ltb i m then oneState t 0 else everyState t) (slice (i - m) i ws)
+      ≡ past (under t m a) ws i
   past-cut = go (ltb i m) refl
     where
       go : (b : Bool) → ltb i m ≡ b
@@ -54,8 +59,8 @@ module _ (t : Rows) (m a : ℕ) (ws : List ℕ) (i : ℕ) where
           let z : i ≡ i - m + m = omega arith in
           ap (alongAll t (everyState t)) (ap (λ k. drop (i - m) (take k ws)) z ∙ drop-take (i - m) m ws)
 
-  pub block-cut : (v : ℕ) (P A : List Bool) → v ≡ getD (readings t P (getD ws i 0) A) 0 mark → P ≡ past (under t m a) ws i
-      → A ≡ able t (slice (i + 1) (i + 1 + a) ws) → v ≡ block (under t m a) ws i
+  pub block-cut : (v : ℕ) (P A : List Bool) → v ≡ getD (readings t P (getD ws i 0) A) 0 mark
+      → P ≡ past (under t m a) ws i → A ≡ able t (slice (i + 1) (i + 1 + a) ws) → v ≡ block (under t m a) ws i
   block-cut v P A e p q =
       e ∙ ap₂ (λ S B. getD (readings t S (getD ws i 0) B) 0 mark) p (q ∙ ap (able t) (drop-take (i + 1) a ws))
 

@@ -1,18 +1,18 @@
--- Laws of lists that are written byte by byte: the check of their bytes, the words of a path, and what is read from them.
+-- Laws of lists that are read and written byte by byte.
 -- In order: bad-here, bad-later, bad-end; put-more, one byte more; Writes, the words of a path written so far, with
--- writes-start, writes-more, writes-end; split-front; recorded, recorded-in, blocks and closing words; map-more, bytes given
--- place by place.
+-- writes-start, writes-more, writes-end; split-front; recorded, recorded-in, blocks and closing words; map-more, bytes
+-- that a function gives, place by place.
 -- Assumes nothing.
-use mathlib.Core.Path.{_≡_, refl, sym, ap, ap₂, subst, _∙_}
+use mathlib.Core.Path.{_≡_, refl, sym, ap, ap₂, _∙_}
 use mathlib.Core.List.{List, [], _∷_, _++_, map, append-assoc}
 use Prim.Native.Nat.{ℕ, zero, suc, _+_, _-_, _*_, _^_, _≤_, _<_}
 use native.Mathlib.Nat.{zero-add, add-zero}
 use native.Mathlib.Numerals.{add-one}
 use native.Mathlib.Omega.{arith}
 use borrow.Author.Tests.{lt-ltb, le-ltb}
-use lib.Dec.{ltb}
-use lib.ListN.{length, take, drop, getD, set, length-set, replicate, length-replicate, length-append, length-map}
-use lib.Seq.{take-suc, take-all, take-at, drop-at, drop-cons, drop-drop, drop-length, set-at, append-snoc, length-take-le}
+use lib.ListN.{length, take, drop, getD, set, length-set, replicate, length-append, length-map}
+use lib.Seq.{take-suc, take-all, take-at, drop-at, drop-cons, drop-drop, drop-length, set-at, append-snoc}
+use lib.Seq.{length-take-le}
 use Rattle.laws.specs.Lists.{from, range}
 use Rattle.laws.proofs.Tests.{length-from}
 use Rattle.table.specs.declared.Table.{Table}
@@ -56,7 +56,8 @@ module _ (t : Rows) (first : ℕ) (ds : List ℕ) (k : ℕ) (h : k < length ds) 
       ∙ ends-append t (take k ds) (getD ds k 0 ∷ []) first
 
 -- behind the front, out holds the words of the first k data of the path; i is the next place and s the state there
-pub record Writes (t : Arrays) (front : List ℕ) (first : ℕ) (ds out₀ : List ℕ) (k i s : ℕ) (out : List ℕ) : Type 0 where
+pub record Writes (t : Arrays) (front : List ℕ) (first : ℕ) (ds out₀ : List ℕ) (k i s : ℕ) (out : List ℕ)
+    : Type 0 where
   pub place : length front + k ≡ i
   pub long : length out ≡ length out₀
   pub inside : s < t .states
@@ -98,18 +99,21 @@ module _ (t : Arrays) (front : List ℕ) (first : ℕ) (ds out₀ : List ℕ) wh
       here : at (rowsOf t) (ends (rowsOf t) first (take k ds)) (getD ds k 0) ≡ edgeOf t s (getD ds k 0)
       here =
           ap (λ x. at (rowsOf t) x (getD ds k 0)) (sym (m .state)) ∙ edge-at t s (getD ds k 0) (m .inside) d
+
       long-so-far : length (front ++ spells (rowsOf t) first (take k ds)) ≡ i
       long-so-far =
           length-append front (spells (rowsOf t) first (take k ds))
           ∙ ap (λ x. length front + x) (length-spells (rowsOf t) (take k ds) first ∙ length-take-le k ds (omega arith))
           ∙ m .place
 
-  pub writes-end : (k i s : ℕ) (out : List ℕ) → Writes t front first ds out₀ k i s out → (j : ℕ) → i ≡ j → length ds ≤ k
+  pub writes-end : (k i s : ℕ) (out : List ℕ) → Writes t front first ds out₀ k i s out → (j : ℕ) → i ≡ j
+      → length ds ≤ k
       → (s ≡ ends (rowsOf t) first ds) × (out ≡ (front ++ spells (rowsOf t) first ds) ++ drop j out₀)
   writes-end k i s out m j q h =
-      let e : take k ds ≡ ds = take-all k ds h in
-      (m .state ∙ ap (ends (rowsOf t) first) e,
-        m .bytes ∙ ap₂ (λ x y. (front ++ spells (rowsOf t) first x) ++ drop y out₀) e q)
+      let e : take k ds ≡ ds = take-all k ds h in (
+        m .state ∙ ap (ends (rowsOf t) first) e,
+        m .bytes ∙ ap₂ (λ x y. (front ++ spells (rowsOf t) first x) ++ drop y out₀) e q,
+      )
 
 pub split-front : (n : ℕ) (l : List ℕ) → l ≡ take n l ++ drop n l
 split-front zero l = refl
@@ -130,6 +134,7 @@ recorded t ds out₀ out₁ out₂ n s e h q l b₁ b₂ =
   where
     long : length (spells t 0 ds) ≡ n
     long = length-spells t ds 0 ∙ sym h
+
     past : drop e (spells t 0 ds ++ drop n out₀) ≡ drop e out₀
     past =
         let z : n + (e - n) ≡ e = omega arith in
@@ -148,8 +153,10 @@ pub recorded-in : (t : Table) (n : ℕ) (ds out₀ out₁ out₂ : List ℕ) (s 
 recorded-in t n ds out₀ out₁ out₂ s q h b₁ b₂ =
     let e = length ds + t .lookahead in
     let z : e - length ds ≡ t .lookahead = omega arith in
-    recorded (rowsOf (arrays (t .states) n (t .word) (t .next))) ds out₀ out₁ out₂ (length ds) s e refl h (omega arith) b₁ b₂
-    ∙ ap₂ (λ m k. spells (rowsOf (arrays (t .states) m (t .word) (t .next))) 0 (ds ++ replicate k 0) ++ drop e out₀) q z
+    recorded (rowsOf (arrays (t .states) n (t .word) (t .next))) ds out₀ out₁ out₂ (length ds) s e refl h (omega arith)
+    b₁ b₂
+    ∙ ap₂ (λ m k. spells (rowsOf (arrays (t .states) m (t .word) (t .next))) 0 (ds ++ replicate k 0)
+    ++ drop e out₀) q z
 
 -- ---- bytes that a function gives, place by place
 from-more : (i k : ℕ) → from i (suc k) ≡ from i k ++ (i + k) ∷ []

@@ -1,5 +1,5 @@
-// One block by the reading rule: the past set, the states that can read the words ahead, and the datum of an edge between
-// them.
+// One block by the reading rule: the past set, the states that can read the words ahead, and the datum of an edge
+// between them.
 ghost use mathlib.Core.Path.{_≡_};
 ghost use Prim.Native.Nat.{ℕ, _+_, _-_, _≤_, _<_};
 ghost use lib.Dec.{ltb};
@@ -24,8 +24,8 @@ fn joins(next: &[u8; 2048], past: &[bool; 128], ahead: &[bool; 128], e: usize) -
     false
 }
 
-// The datum of the first edge with the word w from the one set into the other, or the mark. Chains run from the last edge
-// to the first, so the last one found is the first.
+// The datum of the first edge with the word w from the one set into the other, or the mark. Chains run from the last
+// edge to the first, so the last one found is the first.
 fn datum_by(
     states: usize,
     n: usize,
@@ -82,7 +82,8 @@ fn step_all(
     to: usize,
 ) -> [bool; 128]
     requires { ⌜
-        Linked (arrays states n (now word) (now next)) (now head) (now link) × (from ≤ to) × (to ≤ length (now words)) ⌝ }
+        Linked (arrays states n (now word) (now next)) (now head) (now link) × (from ≤ to)
+        × (to ≤ length (now words)) ⌝ }
     ensures answer { λ r. ⌜
         statesIn states r
         ≡ alongAll (rowsOf (arrays states n (now (word .entry)) (now (next .entry)))) (statesIn states set)
@@ -111,10 +112,12 @@ fn readers(
     to: usize,
 ) -> [bool; 128]
     requires { ⌜
-        Linked (arrays states n (now word) (now next)) (now head) (now link) × (from ≤ to) × (to ≤ length (now words)) ⌝ }
+        Linked (arrays states n (now word) (now next)) (now head) (now link) × (from ≤ to)
+        × (to ≤ length (now words)) ⌝ }
     ensures answer { λ r. ⌜
         statesIn states r
-        ≡ able (rowsOf (arrays states n (now (word .entry)) (now (next .entry)))) (slice from to (now (words .entry))) ⌝ }
+        ≡ able (rowsOf (arrays states n (now (word .entry)) (now (next .entry))))
+        (slice from to (now (words .entry))) ⌝ }
 {
     let mut cur = [true; 128];
     let mut j = to;
@@ -152,10 +155,22 @@ pub fn read_block(
     requires { ⌜
         Linked (arrays states n (now word) (now next)) (now head) (now link) × (i + a < length (now words)) ⌝ }
     ensures answer { λ r. ⌜
-        r ≡ block (under (rowsOf (arrays states n (now (word .entry)) (now (next .entry)))) m a) (now (words .entry)) i ⌝ }
+        r ≡ block (under (rowsOf (arrays states n (now (word .entry)) (now (next .entry)))) m a)
+        (now (words .entry)) i ⌝ }
 {
     let first = first_set(states, i, m);
-    let past = step_all(states, n, word, next, head, link, first, words, less(i, m), i);
+    let past = step_all(
+        states,
+        n,
+        word,
+        next,
+        head,
+        link,
+        first,
+        words,
+        less(i, m),
+        i,
+    );
     let ahead = readers(states, n, word, next, head, link, words, i + 1, i + 1 + a);
     datum_by(states, n, word, next, head, link, &past, &ahead, words[i])
 }

@@ -10,10 +10,10 @@ ghost use Rattle.codec.specs.Reading.{block};
 ghost use Rattle.codec.specs.StateSets.{under};
 ghost use Rattle.codec.specs.Answers.{decodeUnder};
 ghost use Rattle.codec.specs.With.{decodedWith};
-use answer::Answer;
-use answer::Refusal;
 use crate::blocks::read_block;
 use crate::bytes::first_bad;
+use answer::Answer;
+use answer::Refusal;
 use record::Verdict;
 use record::loading::load;
 use table::Table;
@@ -40,8 +40,8 @@ fn read_blocks(
         × (count ≤ length (now out)) ⌝ }
     ensures written { λ r. ⌜
         now (out .exit)
-        ≡ map (block (under (rowsOf (arrays states n (now (word .entry)) (now (next .entry)))) m a) (now (words .entry)))
-        (range count) ++ drop count (now (out .entry)) ⌝ }
+        ≡ map (block (under (rowsOf (arrays states n (now (word .entry)) (now (next .entry)))) m a)
+        (now (words .entry))) (range count) ++ drop count (now (out .entry)) ⌝ }
 {
     let mut i = 0;
     while i < count {
@@ -50,8 +50,8 @@ fn read_blocks(
     }
 }
 
-// The blocks of the words under the table, in the output. Declines with 7 for a value of the struct that no record gives,
-// then 12, 13, 11.
+// The blocks of the words under the table, in the output. Declines with 7 for a value of the struct that no record
+// gives, then 12, 13, 11.
 pub fn decode_with(t: Table, words: &[u8], out: &mut [u8]) -> Answer
     ensures answer { λ r. ⌜
         r ≡ answerOf (decodedWith t (length (now (out .entry))) (now (words .entry))) ⌝ }
@@ -80,12 +80,24 @@ pub fn decode_with(t: Table, words: &[u8], out: &mut [u8]) -> Answer
     let c = chain(t.states, n, &word, &next);
     let head = c.head;
     let link = c.link;
-    read_blocks(t.states, n, &word, &next, &head, &link, words, t.memory, a, count, out);
+    read_blocks(
+        t.states,
+        n,
+        &word,
+        &next,
+        &head,
+        &link,
+        words,
+        t.memory,
+        a,
+        count,
+        out,
+    );
     Answer::Done(count)
 }
 
-// The blocks of the words under the record in the bytes, in the output. Declines with the record's refusal, then 12, 13,
-// 11.
+// The blocks of the words under the record in the bytes, in the output. Declines with the record's refusal, then 12,
+// 13, 11.
 pub fn decode(bytes: &[u8], words: &[u8], out: &mut [u8]) -> Answer
     ensures answer { λ r. ⌜
         r ≡ answerOf (decodeUnder (now (bytes .entry)) (length (now (out .entry))) (now (words .entry))) ⌝ }

@@ -10,9 +10,9 @@ ghost use Rattle.table.specs.Paths.{ends, spells};
 ghost use Rattle.table.specs.Edges.{arrays, rowsOf, Fits};
 ghost use Rattle.codec.specs.Answers.{encodeUnder};
 ghost use Rattle.codec.specs.With.{encodedWith};
+use crate::bytes::first_bad;
 use answer::Answer;
 use answer::Refusal;
-use crate::bytes::first_bad;
 use record::Verdict;
 use record::loading::load;
 use table::Table;
@@ -29,7 +29,8 @@ fn write_blocks(
     out: &mut [u8],
 ) -> usize
     requires { ⌜
-        Fits (arrays states n (now word) (now next)) × Below n (now blocks) × (length (now blocks) ≤ length (now out)) ⌝ }
+        Fits (arrays states n (now word) (now next)) × Below n (now blocks)
+        × (length (now blocks) ≤ length (now out)) ⌝ }
     ensures answer { λ r. ⌜
         (r ≡ ends (rowsOf (arrays states n (now (word .entry)) (now (next .entry)))) 0 (now (blocks .entry)))
         × (r < states) ⌝ }
@@ -117,8 +118,8 @@ pub fn encode_with(t: Table, blocks: &[u8], out: &mut [u8]) -> Answer
     Answer::Done(end)
 }
 
-// The recording of the blocks under the record in the bytes, in the output. Declines with the record's refusal, then 13,
-// then 11.
+// The recording of the blocks under the record in the bytes, in the output. Declines with the record's refusal, then
+// 13, then 11.
 pub fn encode(bytes: &[u8], blocks: &[u8], out: &mut [u8]) -> Answer
     ensures answer { λ r. ⌜
         r ≡ answerOf (encodeUnder (now (bytes .entry)) (length (now (out .entry))) (now (blocks .entry))) ⌝ }

@@ -18,7 +18,8 @@ pub fn step_by(
     requires { ⌜ Linked (arrays states n (now word) (now next)) (now head) (now link) ⌝ }
     ensures answer { λ r. ⌜
         statesIn states r
-        ≡ along (rowsOf (arrays states n (now (word .entry)) (now (next .entry)))) (statesIn states (now (set .entry))) w ⌝ }
+        ≡ along (rowsOf (arrays states n (now (word .entry)) (now (next .entry))))
+        (statesIn states (now (set .entry))) w ⌝ }
 {
     let mut out = [false; 128];
     let mut cur = head[w as usize] as usize;
@@ -47,7 +48,8 @@ pub fn back_by(
     requires { ⌜ Linked (arrays states n (now word) (now next)) (now head) (now link) ⌝ }
     ensures answer { λ r. ⌜
         statesIn states r
-        ≡ back (rowsOf (arrays states n (now (word .entry)) (now (next .entry)))) (statesIn states (now (set .entry))) w ⌝ }
+        ≡ back (rowsOf (arrays states n (now (word .entry)) (now (next .entry))))
+        (statesIn states (now (set .entry))) w ⌝ }
 {
     let mut out = [false; 128];
     let mut cur = head[w as usize] as usize;

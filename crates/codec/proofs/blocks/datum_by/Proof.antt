@@ -3,7 +3,7 @@
 use mathlib.Core.Path.{_≡_, sym, _∙_}
 use mathlib.Core.Bool.{true}
 use mathlib.Core.Logic.{⊎-elim}
-use Prim.Native.Nat.{_-_, _*_, _%_, _≤_, _<_}
+use Prim.Native.Nat.{_-_, _*_, _≤_, _<_}
 use native.Mathlib.Omega.{arith}
 use denote.Ref.{now}
 use lib.ListN.{getD}
@@ -27,24 +27,38 @@ abbrev μ-loop : tie.MeasureT-loop
 abbrev table : tie.Start Inv-loop μ-loop → Arrays
 table s = arrays (s .args .states) (s .args .n) (now (s .args .word)) (now (s .args .next))
 
+abbrev start : tie.In-loop Inv-loop μ-loop → tie.Start Inv-loop μ-loop
+start c = c .before .before .before
+
 -- where the chain of the word starts
 start-on : (s : tie.Start Inv-loop μ-loop)
     → getD (now (s .args .head)) (s .args .w) 0 ≡ lastBelow (table s) (s .args .w) (s .args .states * 16)
 start-on s = s .pre .chained .heads (s .args .w) (omega arith)
 
 -- the edge in hand
-edge-on : (c : tie.In-loop Inv-loop μ-loop) → bears (table (c .before .before .before)) (c .before .before .before .args .w) (c .before .loop .cur - 1) ≡ true
+edge-on : (c : tie.In-loop Inv-loop μ-loop)
+    → bears (table (start c)) (start c .args .w) (c .before .loop .cur - 1) ≡ true
 edge-on c = c .before .loop .inv .1 (c .loop-test .taken)
 
-next-small : (c : tie.In-loop Inv-loop μ-loop) → nextOf (table (c .before .before .before)) (c .before .loop .cur - 1) < 128
-next-small c = edge-small (table (c .before .before .before)) (c .before .before .before .pre .fits) (c .before .before .before .args .w) (c .before .loop .cur - 1) (omega arith) (edge-on c)
+next-small : (c : tie.In-loop Inv-loop μ-loop) → nextOf (table (start c)) (c .before .loop .cur - 1) < 128
+next-small c =
+    let s = start c in
+    edge-small (table s) (s .pre .fits) (s .args .w) (c .before .loop .cur - 1) (omega arith) (edge-on c)
 
 -- the edge before it
 link-on : (c : tie.In-loop Inv-loop μ-loop)
-    → getD (now (c .before .before .before .args .link)) (c .before .loop .cur - 1) 0 ≡ lastBelow (table (c .before .before .before)) (c .before .before .before .args .w) (c .before .loop .cur - 1)
+    → let s = start c in
+    getD (now (s .args .link)) (c .before .loop .cur - 1) 0 ≡ lastBelow (table s) (s .args .w)
+    (c .before .loop .cur - 1)
 link-on c =
-    link-below (table (c .before .before .before)) (c .before .before .before .args .w) (c .before .loop .cur - 1) (edge-on c) (c .before .before .before .args .states * 16)
-    (now (c .before .before .before .args .head)) (now (c .before .before .before .args .link)) (c .before .before .before .pre .chained) (omega arith)
+    let s = start c in
+    link-below (table s) (s .args .w) (c .before .loop .cur - 1) (edge-on c) (s .args .states * 16) (now
+    (s .args .head))
+    (now (s .args .link)) (s .pre .chained) (omega arith)
+
+link-le : (c : tie.In-loop Inv-loop μ-loop) → getD (now (start c .args .link))
+    (c .before .loop .cur - 1) 0 ≤ c .before .loop .cur - 1
+link-le c = on-le (table (start c)) (start c .args .w) (c .before .loop .cur - 1) _ (link-on c)
 
 mul-cur : tie.Need-mul-cur Inv-loop μ-loop
 mul-cur c = search needs
@@ -54,7 +68,8 @@ element-copy-out-cur c = search needs
 
 cast-cur : tie.Need-cast-cur Inv-loop μ-loop
 cast-cur c =
-    omega (arith, c .before .pre .fits .few, on-le (table (c .before)) (c .before .args .w) (c .before .args .states * 16) _ (start-on (c .before)))
+    let s = c .before in
+    omega (arith, s .pre .fits .few, on-le (table s) (s .args .w) (s .args .states * 16) _ (start-on s))
 
 loop-holds : tie.Need-loop-holds Inv-loop μ-loop
 loop-holds c =
@@ -74,7 +89,7 @@ sub-e : tie.Need-sub-e Inv-loop μ-loop
 sub-e c = search needs
 
 joins-requires : tie.Need-joins-requires Inv-loop μ-loop
-joins-requires c κs = (omega (arith, c .before .before .before .pre .fits .few), next-small c)
+joins-requires c κs = (omega (arith, start c .pre .fits .few), next-small c)
 
 cast-datum : tie.Need-cast-datum Inv-loop μ-loop
 cast-datum c = search needs
@@ -88,19 +103,19 @@ element-copy-out-cur-2 c = search needs
 cast-cur-2 : tie.Need-cast-cur-2 Inv-loop μ-loop
 cast-cur-2 c =
     let i = c .before .before .before in
-    omega (arith, i .before .before .before .pre .fits .few, on-le (table (i .before .before .before)) (i .before .before .before .args .w) (i .before .loop .cur - 1) _ (link-on i))
+    omega (arith, start i .pre .fits .few, link-le i)
 
 loop-less : tie.Need-loop-less Inv-loop μ-loop
 loop-less c =
     let i = c .before .before .before in
-    omega (arith, i .loop-test .taken, on-le (table (i .before .before .before)) (i .before .before .before .args .w) (i .before .loop .cur - 1) _ (link-on i))
+    omega (arith, i .loop-test .taken, link-le i)
 
 loop-again : tie.Need-loop-again Inv-loop μ-loop
 loop-again c =
     let i = c .before .before .before in
-    let a = i .before .before .before .args in
+    let a = start i .args in
     let l = i .before .loop in
-    let t = table (i .before .before .before) in
+    let t = table (start i) in
     let n = a .states * 16 in
     let P = now (a .past) in
     let A = now (a .ahead) in
@@ -110,14 +125,14 @@ loop-again c =
     let q : k ≡ lastBelow t (a .w) e = link-on i in
     let j = c .before .before .joins .ensures in
     let go : FirstFrom f n e (c .before .if1 .datum) =
-        ⊎-elim
-        (λ u. rw (u .1) (first-take f n e (omega arith) (read-in t P A (a .w) e (edge-on i) (sym j ∙ u .0 .taken))))
-        (λ u. rw (u .1) (first-jump f n (l .cur) (l .datum) (l .inv .2) e (omega arith)
-        (λ g h r. last-place f (l .cur) g h r (read-out t P A (a .w) e (sym j ∙ u .0 .left)))))
-        (c .before .if1 .came) in (
-      omega (arith, on-le t (a .w) e k q),
+    ⊎-elim
+    (λ u. rw (u .1) (first-take f n e (omega arith) (read-in t P A (a .w) e (edge-on i) (sym j ∙ u .0 .taken))))
+    (λ u. rw (u .1) (first-jump f n (l .cur) (l .datum) (l .inv .2) e (omega arith)
+    (λ g h r. last-place f (l .cur) g h r (read-out t P A (a .w) e (sym j ∙ u .0 .left)))))
+    (c .before .if1 .came) in (
+      omega (arith, link-le i),
       on-bears t (a .w) e k q,
-      first-jump f n e (c .before .if1 .datum) go k (on-le t (a .w) e k q)
+      first-jump f n e (c .before .if1 .datum) go k (link-le i)
           (λ g h r. read-only t P A (a .w) g (on-gap t (a .w) e k q g h r)),
     )
 

@@ -1,7 +1,6 @@
 -- The edge's state first, then its next state.
 use mathlib.Core.Path.{sym, ap}
 use mathlib.Core.Bool.{_&&_}
-use Prim.Native.Nat.{_/_}
 use native.Mathlib.Omega.{arith}
 use denote.Ref.{now}
 use lib.ListN.{getD}

@@ -1,6 +1,5 @@
 -- The past set, the states that can read the words ahead, and the datum between them.
-use mathlib.Core.Path.{_≡_, ap₂, _∙_}
-use native.Mathlib.Omega.{arith}
+use mathlib.Core.Path.{ap₂, _∙_}
 use denote.Ref.{now}
 use lib.Seq.{slice}
 use Rattle.table.specs.Edges.{arrays, rowsOf}
@@ -41,14 +40,15 @@ datum-by-requires c κs = search needs
 
 returns : tie.Need-returns
 returns c =
-    let s = c .before .before .before .before .before .before .before .before .before in
-    let a = s .args in
+    let p = c .before .before .before .before .before in
+    let a = p .before .before .before .before .args in
     let ws = now (a .words) in
     let u = arrays (a .states) (a .n) (now (a .word)) (now (a .next)) in
     let t = rowsOf u in
     block-cut t (a .m) (a .a) ws (a .i) (c .datum-by .result) _ _ (c .datum-by .ensures)
-    (c .before .before .before .before .before .step-all .ensures
-    ∙ ap₂ (λ S k. alongAll t S (slice k (a .i) ws)) (c .before .before .before .before .before .before .before .first-set .ensures t (length-rows u)) (c .before .before .before .before .before .before .less .ensures)
+    (p .step-all .ensures
+    ∙ ap₂ (λ S k. alongAll t S (slice k (a .i) ws)) (p .before .before .first-set .ensures t (length-rows u))
+    (p .before .less .ensures)
     ∙ past-cut t (a .m) (a .a) ws (a .i))
     (c .before .before .before .before .readers .ensures)
 

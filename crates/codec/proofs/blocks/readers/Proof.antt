@@ -59,7 +59,8 @@ loop-again c =
       omega arith,
       omega arith,
       c .back-by .ensures
-          ∙ ap (λ S. back (rows s) S w) (l .inv .2 ∙ ap (λ j. able (rows s) (slice j (a .to) (now (a .words)))) (sym k))
+          ∙ ap (λ S. back (rows s) S w)
+          (l .inv .2 ∙ ap (λ j. able (rows s) (slice j (a .to) (now (a .words)))) (sym k))
           ∙ sym (able-first (rows s) (now (a .words)) (l .j - 1) (a .to) (omega arith) (s .pre .2)),
     )
 

@@ -1,5 +1,5 @@
 -- Each turn steps the set by one word; the words from j on are left.
-use mathlib.Core.Path.{_≡_, refl, sym, ap, _∙_}
+use mathlib.Core.Path.{_≡_, sym, ap, _∙_}
 use Prim.Native.Nat.{_+_, _-_, _≤_}
 use native.Mathlib.Omega.{arith}
 use denote.Ref.{now}
@@ -47,18 +47,20 @@ loop-again c =
     let l = c .before .before .before .before .loop in (
       omega arith,
       l .inv .1
-          ∙ along-first (rows s) (now (a .words)) (statesIn (a .states) (l .cur)) (l .j) (a .to) (omega arith) (s .pre .2)
+          ∙ along-first (rows s) (now (a .words)) (statesIn (a .states) (l .cur)) (l .j) (a .to) (omega arith)
+          (s .pre .2)
           ∙ ap (λ S. alongAll (rows s) S (slice (l .j + 1) (a .to) (now (a .words)))) (sym (c .step-by .ensures)),
     )
 
 returns : tie.Need-returns Inv-loop μ-loop
 returns c =
-    let a = c .before .before .before .args in
+    let s = c .before .before .before in
+    let a = s .args in
     let l = c .before .loop in
     let e : l .j ≡ a .to = omega arith in
     sym (l .inv .1
-    ∙ ap (λ j. alongAll (rows (c .before .before .before)) (statesIn (a .states) (l .cur)) (slice j (a .to) (now (a .words)))) e
-    ∙ along-end (rows (c .before .before .before)) (now (a .words)) (statesIn (a .states) (l .cur)) (a .to))
+    ∙ ap (λ j. alongAll (rows s) (statesIn (a .states) (l .cur)) (slice j (a .to) (now (a .words)))) e
+    ∙ along-end (rows s) (now (a .words)) (statesIn (a .states) (l .cur)) (a .to))
 
 pub step-all-spec : {M : Type 1} → statement M
 step-all-spec =

@@ -1,6 +1,6 @@
 -- The bytes passed are below n; the first that is not ends the loop.
 use mathlib.Core.Path.{_≡_, sym, ap, _∙_}
-use Prim.Native.Nat.{_+_, _-_, _≤_, _<_}
+use Prim.Native.Nat.{_+_, _-_, _≤_}
 use native.Mathlib.Nat.{zero-add, add-zero}
 use native.Mathlib.Omega.{arith}
 use denote.Ref.{now}
@@ -31,7 +31,8 @@ returns : tie.Need-returns Inv-loop μ-loop
 returns c =
     let a = c .before .before .before .before .args in
     let l = c .before .before .before .loop in
-    sym (l .inv .1 ∙ ap (λ k. l .i + k) (bad-here (a .n) (now (a .bytes)) (l .i) (omega arith) (c .if1 .taken)) ∙ add-zero (l .i))
+    sym (l .inv .1 ∙ ap (λ k. l .i + k) (bad-here (a .n) (now (a .bytes)) (l .i) (omega arith) (c .if1 .taken))
+    ∙ add-zero (l .i))
 
 add-i : tie.Need-add-i Inv-loop μ-loop
 add-i c = search needs

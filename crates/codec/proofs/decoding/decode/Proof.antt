@@ -24,22 +24,27 @@ decode-with-requires c κs = search needs
 
 returns : tie.Need-returns
 returns c =
-    let a = c .before .before .before .before .before .before .before .before .args in
+    let r = c .before .before .before .before in
+    let a = r .before .before .before .before .args in
     let room = length (now (a .out)) in
     declined (decodeUnder (now (a .bytes)) room (now (a .words))) _ (now (a .out))
-    (decode-bad (now (a .bytes)) (c .before .before .before .before .load .result) (c .before .before .before .before .load .ensures .0) room (now (a .words)) _ (c .before .v .given .1))
+    (decode-bad (now (a .bytes)) (r .load .result) (r .load .ensures .0) room (now (a .words)) _
+    (c .before .v .given .1))
 
 same-length : tie.Need-same-length
 same-length c = search needs
 
 returns-2 : tie.Need-returns-2
 returns-2 c =
-    let a = c .before .before .before .before .before .before .before .before .before .before .before .args in
+    let v = c .before .before .before .before in
+    let r = v .before .before .before in
+    let a = r .before .before .before .before .args in
+    let x = r .load .result in
     let room = length (now (a .out)) in
-    let r = c .before .before .before .before .before .before .before .load .result in
-    handed (decodedWith (r .table) room (now (a .words))) (decodeUnder (now (a .bytes)) room (now (a .words))) _ (now (a .out)) _
-    (decode-read (now (a .bytes)) r (c .before .before .before .before .before .before .before .load .ensures .0) room (now (a .words)) (c .before .before .before .before .enum-told .given .1)
-    (c .before .before .before .before .before .before .before .load .ensures .1 (c .before .before .before .before .enum-told .given .1)))
+    handed (decodedWith (x .table) room (now (a .words))) (decodeUnder (now (a .bytes)) room (now (a .words))) _ (now
+    (a .out)) _
+    (decode-read (now (a .bytes)) x (r .load .ensures .0) room (now (a .words)) (v .enum-told .given .1)
+    (r .load .ensures .1 (v .enum-told .given .1)))
     (c .before .before .decode-with .ensures .0) (c .before .before .decode-with .ensures .1)
 
 pub decode-spec : {M : Type 1} → statement M

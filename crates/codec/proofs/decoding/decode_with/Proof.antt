@@ -28,8 +28,11 @@ ready-table : (c : tie.Else1) → Ready (c .before .before .before .before .args
 ready-table c = ready→ (c .before .before .before .before .args .t) (subst T (sym (is-ready c)) tt)
 
 fits : (c : tie.After-ways)
-    → Fits (arrays (c .before .before .before .before .before .before .before .before .before .before .args .t .states) (c .ways .result) (c .before .before .before .before .before .before .before .before .before .before .args .t .word) (c .before .before .before .before .before .before .before .before .before .before .args .t .next))
-fits c = fits-lent (c .before .before .before .before .before .before .before .before .before .before .args .t) (c .ways .result) (ready-table (c .before .before .before .before .before .before)) (c .ways .ensures .0)
+    → let t = c .before .before .before .before .before .before .before .before .before .before .args .t in
+    Fits (arrays (t .states) (c .ways .result) (t .word) (t .next))
+fits c =
+    let i = c .before .before .before .before .before .before in
+    fits-lent (i .before .before .before .before .args .t) (c .ways .result) (ready-table i) (c .ways .ensures .0)
 
 is-ready-requires : tie.Need-is-ready-requires
 is-ready-requires c κs = search needs
@@ -38,7 +41,8 @@ returns : tie.Need-returns
 returns c =
     let a = c .before .before .before .before .args in
     declined (decodedWith (a .t) (length (now (a .out))) (now (a .words))) Field (now (a .out))
-    (decode-7 (a .t) (length (now (a .out))) (now (a .words)) (sym (c .before .is-ready .ensures) ∙ not-true _ (c .if1 .taken)))
+    (decode-7 (a .t) (length (now (a .out))) (now (a .words))
+    (sym (c .before .is-ready .ensures) ∙ not-true _ (c .if1 .taken)))
 
 returns-2 : tie.Need-returns-2
 returns-2 c =
@@ -53,7 +57,8 @@ returns-3 : tie.Need-returns-3
 returns-3 c =
     let a = c .before .before .before .before .before .before .args in
     declined (decodedWith (a .t) (length (now (a .out))) (now (a .words))) ShortOutput (now (a .out))
-    (decode-13 (a .t) (length (now (a .out))) (now (a .words)) (is-ready (c .before .before)) (c .before .if2 .left) (c .if3 .taken))
+    (decode-13 (a .t) (length (now (a .out))) (now (a .words)) (is-ready (c .before .before)) (c .before .if2 .left)
+    (c .if3 .taken))
 
 power-requires : tie.Need-power-requires
 power-requires c κs = omega (arith, ready-table (c .before .before) .short)
@@ -63,10 +68,15 @@ first-bad-requires c κs = search needs
 
 returns-4 : tie.Need-returns-4
 returns-4 c =
-    let a = c .before .before .before .before .before .before .before .before .before .args in
-    declined (decodedWith (a .t) (length (now (a .out))) (now (a .words))) (BadByte (c .before .first-bad .result)) (now (a .out))
-    (decode-11 (a .t) (length (now (a .out))) (now (a .words)) (is-ready (c .before .before .before .before .before)) (c .before .before .before .before .if2 .left) (c .before .before .before .if3 .left)
-    (c .before .before .power .result) (c .before .first-bad .result) (c .before .before .power .ensures) (c .before .first-bad .ensures) (c .if4 .taken))
+    let b = c .before in
+    let i = b .before .before in
+    let a = i .before .before .before .before .before .before .args in
+    declined (decodedWith (a .t) (length (now (a .out))) (now (a .words))) (BadByte (b .first-bad .result)) (now
+    (a .out))
+    (decode-11 (a .t) (length (now (a .out))) (now (a .words)) (is-ready (i .before .before)) (i .before .if2 .left)
+    (i .if3 .left)
+    (b .before .power .result) (b .first-bad .result) (b .before .power .ensures) (b .first-bad .ensures)
+    (c .if4 .taken))
 
 ways-requires : tie.Need-ways-requires
 ways-requires c κs = ready-table (c .before .before .before .before .before) .narrow
@@ -76,23 +86,31 @@ chain-requires c κs = fits (c .before .before .before .before)
 
 read-blocks-requires : tie.Need-read-blocks-requires
 read-blocks-requires c κs =
-    (record { fits = fits (c .before .before .before .before .before .before .before .before .before .before .before .before); chained = c .before .before .before .before .before .before .before .chain .ensures }, omega (arith, c .before .before .before .before .before .before .before .before .before .before .before .before .before .before .before .before .before .if2 .left), c .before .before .before .before .before .before .before .before .before .before .before .before .before .before .before .before .if3 .left)
+    let h = c .before .before .before .before .before .before .before in
+    let w = h .before .before .before .before .before in
+    let i = w .before .before .before .before in
+    (record { fits = fits w; chained = h .chain .ensures }, omega (arith, i .before .if2 .left), i .if3 .left)
 
 same-length : tie.Need-same-length
 same-length c = search needs
 
 returns-5 : tie.Need-returns-5
 returns-5 c =
-    let a = c .before .before .before .before .before .before .before .before .before .before .before .before .before .before .before .before .before .before .before .before .before .before .before .before .before .args in
+    let w = c .before .before .before .before .before .before .before .before .before .before .before .before
+    .before .before .before in
+    let b = w .before .before in
+    let i = b .before .before in
+    let a = i .before .before .before .before .before .before .args in
     let ws = now (a .words) in
     let out = now (a .out) in
-    let n = c .before .before .before .before .before .before .before .before .before .before .before .before .before .before .before .ways .result in
     let k = length ws - a .t .lookahead in
     finished (decodedWith (a .t) (length out) ws) (decode (codeIn (a .t)) ws) out _ k
-    (decode-done (a .t) (length out) ws (is-ready (c .before .before .before .before .before .before .before .before .before .before .before .before .before .before .before .before .before .before .before .before .before)) (c .before .before .before .before .before .before .before .before .before .before .before .before .before .before .before .before .before .before .before .before .if2 .left) (c .before .before .before .before .before .before .before .before .before .before .before .before .before .before .before .before .before .before .before .if3 .left) (c .before .before .before .before .before .before .before .before .before .before .before .before .before .before .before .before .before .before .power .result)
-    (c .before .before .before .before .before .before .before .before .before .before .before .before .before .before .before .before .before .first-bad .result) (c .before .before .before .before .before .before .before .before .before .before .before .before .before .before .before .before .before .before .power .ensures) (c .before .before .before .before .before .before .before .before .before .before .before .before .before .before .before .before .before .first-bad .ensures) (c .before .before .before .before .before .before .before .before .before .before .before .before .before .before .before .before .if4 .left))
+    (decode-done (a .t) (length out) ws (is-ready (i .before .before)) (i .before .if2 .left) (i .if3 .left)
+    (b .before .power .result)
+    (b .first-bad .result) (b .before .power .ensures) (b .first-bad .ensures) (w .before .if4 .left))
     (length-decode (codeIn (a .t)) ws)
-    (c .before .before .read-blocks .ensures ∙ decoded-in (a .t) n ws (drop k out) (c .before .before .before .before .before .before .before .before .before .before .before .before .before .before .before .ways .ensures .0))
+    (c .before .before .read-blocks .ensures ∙ decoded-in (a .t) (w .ways .result) ws (drop k out)
+    (w .ways .ensures .0))
 
 pub decode-with-spec : {M : Type 1} → statement M
 decode-with-spec =

@@ -24,8 +24,8 @@ abbrev μ-loop : tie.MeasureT-loop
 
 abbrev blockAt : tie.Start Inv-loop μ-loop → ℕ → ℕ
 blockAt s =
-    block (under (rowsOf (arrays (s .args .states) (s .args .n) (now (s .args .word)) (now (s .args .next)))) (s .args .m)
-    (s .args .a)) (now (s .args .words))
+    let a = s .args in
+    block (under (rowsOf (arrays (a .states) (a .n) (now (a .word)) (now (a .next)))) (a .m) (a .a)) (now (a .words))
 
 loop-holds : tie.Need-loop-holds Inv-loop μ-loop
 loop-holds c = (omega arith, c .before .before .pre .2, refl, refl)
@@ -49,8 +49,8 @@ loop-again c =
       omega arith,
       l .inv .1,
       length-set (l .out) (l .i) (c .read-block .result) ∙ l .inv .2,
-      map-more (blockAt s) (now (s .args .out)) (l .out) (l .i) (c .read-block .result) (l .inv .3) (c .read-block .ensures)
-          (omega arith),
+      map-more (blockAt s) (now (s .args .out)) (l .out) (l .i) (c .read-block .result) (l .inv .3)
+          (c .read-block .ensures) (omega arith),
     )
 
 same-length : tie.Need-same-length Inv-loop μ-loop

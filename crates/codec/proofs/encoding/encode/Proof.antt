@@ -24,22 +24,27 @@ encode-with-requires c κs = search needs
 
 returns : tie.Need-returns
 returns c =
-    let a = c .before .before .before .before .before .before .before .before .args in
+    let r = c .before .before .before .before in
+    let a = r .before .before .before .before .args in
     let room = length (now (a .out)) in
     declined (encodeUnder (now (a .bytes)) room (now (a .blocks))) _ (now (a .out))
-    (encode-bad (now (a .bytes)) (c .before .before .before .before .load .result) (c .before .before .before .before .load .ensures .0) room (now (a .blocks)) _ (c .before .v .given .1))
+    (encode-bad (now (a .bytes)) (r .load .result) (r .load .ensures .0) room (now (a .blocks)) _
+    (c .before .v .given .1))
 
 same-length : tie.Need-same-length
 same-length c = search needs
 
 returns-2 : tie.Need-returns-2
 returns-2 c =
-    let a = c .before .before .before .before .before .before .before .before .before .before .before .args in
+    let v = c .before .before .before .before in
+    let r = v .before .before .before in
+    let a = r .before .before .before .before .args in
+    let x = r .load .result in
     let room = length (now (a .out)) in
-    let r = c .before .before .before .before .before .before .before .load .result in
-    handed (encodedWith (r .table) room (now (a .blocks))) (encodeUnder (now (a .bytes)) room (now (a .blocks))) _ (now (a .out)) _
-    (encode-read (now (a .bytes)) r (c .before .before .before .before .before .before .before .load .ensures .0) room (now (a .blocks)) (c .before .before .before .before .enum-told .given .1)
-    (c .before .before .before .before .before .before .before .load .ensures .1 (c .before .before .before .before .enum-told .given .1)))
+    handed (encodedWith (x .table) room (now (a .blocks))) (encodeUnder (now (a .bytes)) room (now (a .blocks))) _
+    (now (a .out)) _
+    (encode-read (now (a .bytes)) x (r .load .ensures .0) room (now (a .blocks)) (v .enum-told .given .1)
+    (r .load .ensures .1 (v .enum-told .given .1)))
     (c .before .before .encode-with .ensures .0) (c .before .before .encode-with .ensures .1)
 
 pub encode-spec : {M : Type 1} → statement M

@@ -1,5 +1,6 @@
 -- Each turn writes the word of datum 0 and steps to its next state.
-use mathlib.Core.Path.{_≡_, refl, sym, ap, _∙_}
+use mathlib.Core.Path.{_≡_}
+use mathlib.Core.List.{List}
 use Prim.Native.Nat.{ℕ, _+_, _-_, _*_, _≤_, _<_}
 use native.Mathlib.Omega.{arith}
 use denote.Ref.{now}
@@ -23,15 +24,27 @@ abbrev μ-loop : tie.MeasureT-loop
 abbrev table : tie.Start Inv-loop μ-loop → Arrays
 table s = arrays (s .args .states) (s .args .n) (now (s .args .word)) (now (s .args .next))
 
--- the datum in hand is 0, and where its edge leads
-closing-datum : (c : tie.In-loop Inv-loop μ-loop)
-    → _≡_ {A = ℕ} (getD (replicate (c .before .before .args .end - c .before .before .args .at) 0) (c .before .loop .i - c .before .before .args .at) 0) 0
-closing-datum c = getD-replicate {A = ℕ} (c .before .before .args .end - c .before .before .args .at) (c .before .loop .i - c .before .before .args .at) 0 0 (omega arith)
+-- the bytes in front, and the data
+abbrev front : tie.Start Inv-loop μ-loop → List ℕ
+front s = take (s .args .at) (now (s .args .out))
 
-next-small : (c : tie.In-loop Inv-loop μ-loop) → nextOf (table (c .before .before)) (c .before .loop .s * 16) < c .before .before .args .states
+abbrev zeros : tie.Start Inv-loop μ-loop → List ℕ
+zeros s = replicate (s .args .end - s .args .at) 0
+
+-- the datum in hand is 0, and where its edge leads
+datum-0 : (c : tie.In-loop Inv-loop μ-loop) → getD (zeros (c .before .before))
+    (c .before .loop .i - c .before .before .args .at) 0 ≡ 0
+datum-0 c =
+    let a = c .before .before .args in
+    getD-replicate {A = ℕ} (a .end - a .at) (c .before .loop .i - a .at) 0 0 (omega arith)
+
+next-small : (c : tie.In-loop Inv-loop μ-loop) → nextOf (table (c .before .before))
+    (c .before .loop .s * 16) < c .before .before .args .states
 next-small c =
-    let e : c .before .loop .s * 16 + 0 ≡ c .before .loop .s * 16 = omega arith in
-    rw e at (place-next (table (c .before .before)) (c .before .loop .s) 0 (c .before .before .pre .0) (c .before .loop .inv .3 .inside) (c .before .before .pre .1))
+    let s = c .before .before in
+    let l = c .before .loop in
+    let e : l .s * 16 + 0 ≡ l .s * 16 = omega arith in
+    rw e at (place-next (table s) (l .s) 0 (s .pre .0) (l .inv .3 .inside) (s .pre .1))
 
 loop-holds : tie.Need-loop-holds Inv-loop μ-loop
 loop-holds c =
@@ -40,7 +53,7 @@ loop-holds c =
       omega arith,
       c .pre .3,
       c .pre .4,
-      rw z (writes-start (table c) (take (a .at) (now (a .out))) (a .state) (replicate (a .end - a .at) 0) (now (a .out)) (a .at)
+      rw z (writes-start (table c) (front c) (a .state) (zeros c) (now (a .out)) (a .at)
           (length-take-le (a .at) (now (a .out)) (omega arith)) (c .pre .2) (split-front (a .at) (now (a .out)))),
     )
 
@@ -72,16 +85,17 @@ loop-again c =
     let s = c .before .before .before .before in
     let a = s .args in
     let l = c .before .before .before .loop in
-    let z = closing-datum (c .before .before) in
-    let d : getD (replicate (a .end - a .at) 0) (l .i - a .at) 0 < a .n = omega (arith, s .pre .1) in
-    let e : l .s * 16 ≡ l .s * 16 + getD (replicate (a .end - a .at) 0) (l .i - a .at) 0 = omega arith in
-    let k : l .i - a .at < length {A = ℕ} (replicate (a .end - a .at) 0) = rw (length-replicate {A = ℕ} (a .end - a .at) 0) (omega arith) in
+    let z = datum-0 (c .before .before) in
+    let d : getD (zeros s) (l .i - a .at) 0 < a .n = omega (arith, s .pre .1) in
+    let e : l .s * 16 ≡ l .s * 16 + getD (zeros s) (l .i - a .at) 0 = omega arith in
+    let k : l .i - a .at < length (zeros s) = rw (length-replicate {A = ℕ} (a .end - a .at) 0) (omega arith) in
     let q : l .i + 1 - a .at ≡ l .i - a .at + 1 = omega arith in (
       omega arith,
       omega arith,
       l .inv .2,
-      writes-more (table s) (take (a .at) (now (a .out))) (a .state) (replicate (a .end - a .at) 0) (now (a .out)) (l .i - a .at) (l .i)
-          (l .s) (l .out) (l .inv .3) (s .pre .0) (l .i + 1 - a .at) (l .s * 16) q e k d (omega arith),
+      writes-more (table s) (front s) (a .state) (zeros s) (now (a .out)) (l .i - a .at) (l .i) (l .s) (l .out)
+          (l .inv .3)
+          (s .pre .0) (l .i + 1 - a .at) (l .s * 16) q e k d (omega arith),
     )
 
 same-length : tie.Need-same-length Inv-loop μ-loop
@@ -89,10 +103,12 @@ same-length c = c .before .loop .inv .3 .long
 
 returns : tie.Need-returns Inv-loop μ-loop
 returns c =
-    let a = c .before .before .args in
+    let s = c .before .before in
+    let a = s .args in
     let l = c .before .loop in
-    writes-end (table (c .before .before)) (take (a .at) (now (a .out))) (a .state) (replicate (a .end - a .at) 0) (now (a .out)) (l .i - a .at)
-    (l .i) (l .s) (l .out) (l .inv .3) (a .end) (omega arith) (rw (length-replicate {A = ℕ} (a .end - a .at) 0) (omega arith)) .1
+    writes-end (table s) (front s) (a .state) (zeros s) (now (a .out)) (l .i - a .at) (l .i) (l .s) (l .out)
+    (l .inv .3)
+    (a .end) (omega arith) (rw (length-replicate {A = ℕ} (a .end - a .at) 0) (omega arith)) .1
 
 pub write-closing-spec : {M : Type 1} → statement M
 write-closing-spec =
