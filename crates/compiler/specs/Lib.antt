@@ -2,3 +2,4 @@ pub mod Jobs
 pub mod Compile
 pub mod Listing
 pub mod JobValues
+pub mod Texts
