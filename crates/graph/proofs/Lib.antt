@@ -34,3 +34,15 @@ pub mod CodePart
 pub mod CodeKept
 pub mod CodeState
 pub mod CodeSplit
+pub mod CodeLoop
+pub mod CodeTabled
+pub mod CodeWeights
+pub mod CodeReach
+pub mod CodeMembers
+pub mod CodeFails
+pub mod CodeRows
+pub mod CodeLinked
+pub mod CodeFound
+pub mod CodeClosure
+pub mod CodeRank
+pub mod CodeTable

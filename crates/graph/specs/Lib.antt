@@ -7,3 +7,7 @@ pub mod Invariant
 pub mod Value
 pub mod EdgeKeys
 pub mod SplitParts
+pub mod PowerTable
+pub mod ReachSets
+pub mod ComponentParts
+pub mod TableParts

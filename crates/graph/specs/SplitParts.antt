@@ -1,6 +1,6 @@
 -- What the parts of a split answer.
 -- In order: lowerSource; runIn, RunTo, FirstRun, what a search for a run finds; keptArcs; Moved, Doubled, Weighed, the steps
--- of a split; entering, PartedInto, SplitInto, the answer of a split.
+-- of a split; entering, PartedInto, SplitInto, the answer of a split; Splits, SplitAllInto, all splits.
 -- Assumes nothing.
 use mathlib.Core.Path.{_≡_}
 use mathlib.Core.Bool.{Bool, true, false, _&&_}
@@ -8,14 +8,17 @@ use mathlib.Core.List.{List, [], _∷_, _++_, map}
 use Prim.Native.Nat.{ℕ, _+_, _-_, _/_, _≤_, _<_, min}
 use lib.Dec.{ltb, eqb}
 use lib.ListN.{length, getD, take, drop, set}
-use Rattle.laws.specs.Lists.{if_then_else_, filter, any, first}
+use Rattle.laws.specs.Lists.{if_then_else_, sum, filter, any, first}
 use Rattle.graph.specs.declared.Graph.{Graph}
 use Rattle.graph.specs.declared.keys.Keys.{Keys}
 use Rattle.graph.specs.declared.find_run.Run.{Run}
 use Rattle.graph.specs.declared.split_graph.NextGraph.{NextGraph}
 use Rattle.graph.specs.Arcs.{Arc, enters}
 use Rattle.graph.specs.Weights.{weight, total}
-use Rattle.graph.specs.Splitting.{runsTo, divisible, firstRun, kept, moved, doubled, parted, split, crowded}
+use Rattle.graph.specs.Splitting.{
+  runsTo, divisible, firstRun, kept, moved, doubled, parted, split, splitAll, crowded
+}
+use Rattle.graph.specs.Invariant.{Inv}
 use Rattle.graph.specs.Value.{arcsIn, weightsIn, workIn}
 use Rattle.graph.specs.EdgeKeys.{keysIn, arcOf, Fits}
 
@@ -81,4 +84,18 @@ pub record PartedInto (n : ℕ) (g : Graph) (s : ℕ) (r : Graph) : Type 0 where
 pub record SplitInto (n : ℕ) (g : Graph) (r : NextGraph) : Type 0 where
   pub crowds : r .crowded ≡ crowded (split n (workIn g))
   pub work : r .crowded ≡ false → workIn (r .graph) ≡ split n (workIn g)
+  pub fits : r .crowded ≡ false → Fits (r .graph)
+
+-- a graph that all splits serve: it keeps to its arrays and to what every split keeps, and weighs at most 128
+pub record Splits (n : ℕ) (g : Graph) : Type 0 where
+  pub fits : Fits g
+  pub some : 0 < n
+  pub few : n ≤ 16
+  pub inv : Inv n (sum (weightsIn g)) (workIn g)
+  pub weighs : sum (weightsIn g) ≤ 128
+
+-- r is g after all splits, or says that there were "over 2,048 edges"
+pub record SplitAllInto (n : ℕ) (g : Graph) (r : NextGraph) : Type 0 where
+  pub crowds : r .crowded ≡ crowded (splitAll n (workIn g))
+  pub work : r .crowded ≡ false → workIn (r .graph) ≡ splitAll n (workIn g)
   pub fits : r .crowded ≡ false → Fits (r .graph)
