@@ -4,3 +4,8 @@ pub mod Local
 pub mod RoundTrip
 pub mod Answers
 pub mod Promises
+pub mod Writing
+pub mod Tabled
+pub mod StateSteps
+pub mod FirstReading
+pub mod Windowed

@@ -2,3 +2,4 @@ pub mod Reading
 pub mod Answers
 pub mod Damage
 pub mod With
+pub mod StateSets

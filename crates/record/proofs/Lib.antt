@@ -14,3 +14,9 @@ pub mod RecordTables
 pub mod RecordReady
 pub mod RecordReading
 pub mod RecordFollow
+pub mod Reasons
+pub mod RecordParts
+pub mod Runs
+pub mod RecordRuns
+pub mod RecordOut
+pub mod RecordWriting

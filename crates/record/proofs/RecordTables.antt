@@ -1,5 +1,5 @@
 -- A table's arrays filled from a record's bits stand for the code that the bits hold.
--- In order: length-over; states-are; spot-of, edge-lt, rows-are.
+-- In order: length-over; states-are; quotient-of, remainder-of, spot-of, edge-lt, rows-are; code-is.
 -- Assumes nothing.
 use mathlib.Core.Path.{_≡_, refl, sym, ap, ap₂, subst, _∙_}
 use mathlib.Core.List.{List, [], _∷_, _++_, map}
@@ -39,14 +39,18 @@ states-are h bs =
         ap₂ (λ x y. record { zero = opened (field bs (30 + k * 10) 1) (field bs (30 + k * 10 + 1) 4);
             one = opened (field bs x 1) (field bs y 4) }) e f
 
+-- the state and the datum of an edge by its number
+pub quotient-of : (n s d : ℕ) → d < n → (s * n + d) / n ≡ s
+quotient-of n s d h =
+    let z : d / n + s ≡ s = rw (div-eq-of-lt h) (omega arith) in
+    ap (λ m. m / n) (add-comm (s * n) d) ∙ add-mul-div-right d s {z = n} (omega arith) ∙ z
+
+pub remainder-of : (n s d : ℕ) → d < n → (s * n + d) % n ≡ d
+remainder-of n s d h = mul-add-mod-self-right s n d ∙ mod-eq-of-lt h
+
 -- the place of the edge of s that carries d
 pub spot-of : (n s d : ℕ) → d < n → spot n (s * n + d) ≡ s * 16 + d
-spot-of n s d h =
-    let z : d / n + s ≡ s = rw (div-eq-of-lt h) (omega arith) in
-    let q : (s * n + d) / n ≡ s =
-            ap (λ m. m / n) (add-comm (s * n) d) ∙ add-mul-div-right d s {z = n} (omega arith) ∙ z in
-    let r : (s * n + d) % n ≡ d = mul-add-mod-self-right s n d ∙ mod-eq-of-lt h in
-    ap₂ (λ x y. x * 16 + y) q r
+spot-of n s d h = ap₂ (λ x y. x * 16 + y) (quotient-of n s d h) (remainder-of n s d h)
 
 pub edge-lt : (S n s d : ℕ) → s < S → d < n → s * n + d < S * n
 edge-lt S n s d h g = omega (arith, mul-le-mul-right {m = s + 1} {n = S} n (omega arith))

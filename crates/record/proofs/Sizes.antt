@@ -12,21 +12,25 @@ use Rattle.bits.specs.Fields.{field, read}
 use Rattle.bits.proofs.Fields.{read-at}
 use Rattle.table.specs.Formed.{Head, Ranges}
 use Rattle.record.specs.Layout.{header, headOf, bitCount, size}
-use Rattle.record.specs.Places.{edgesPlace, Reach}
+use Rattle.record.specs.Places.{Small, edgesPlace, Reach}
 
-pub power-le : (h : Head) → Ranges h → 2 ^ h .p ≤ 16
+-- numbers in range are small
+pub small-of : (h : Head) → Ranges h → Small h
+small-of h r = record { p₂ = r .p₂; q₂ = r .q₂; s₂ = r .s₂; k₂ = r .k₂ }
+
+pub power-le : (h : Head) → Small h → 2 ^ h .p ≤ 16
 power-le h r = pow-mono {i = h .p} {j = 4} (r .p₂)
 
-pub row-le : (h : Head) → Ranges h → 2 ^ h .p * (h .q + 7) ≤ 240
+pub row-le : (h : Head) → Small h → 2 ^ h .p * (h .q + 7) ≤ 240
 row-le h r =
     let q : h .q + 7 ≤ 15 = omega (arith, r .q₂) in
     mul-le-mul {n₁ = 2 ^ h .p} {m₁ = h .q + 7} {n₂ = 16} {m₂ = 15} (power-le h r) q
 
-pub edges-le : (h : Head) → Ranges h → h .states * (2 ^ h .p * (h .q + 7)) ≤ 30720
+pub edges-le : (h : Head) → Small h → h .states * (2 ^ h .p * (h .q + 7)) ≤ 30720
 edges-le h r =
     mul-le-mul {n₁ = h .states} {m₁ = 2 ^ h .p * (h .q + 7)} {n₂ = 128} {m₂ = 240} (r .s₂) (row-le h r)
 
-pub bitCount-le : (h : Head) → Ranges h → bitCount h ≤ 30910
+pub bitCount-le : (h : Head) → Small h → bitCount h ≤ 30910
 bitCount-le h r = omega (arith, edges-le h r, r .k₂)
 
 -- THEOREM: the numbers in front, by bit places
@@ -53,7 +57,7 @@ pub product-le : (e d k m : ℕ) → e ≤ k → d ≤ m → e * d ≤ k * m
 product-le e d k m h g = mul-le-mul {n₁ = e} {m₁ = d} {n₂ = k} {m₂ = m} h g
 
 -- the edges of all states
-pub edge-count-le : (h : Head) (n : ℕ) → Ranges h → n ≡ 2 ^ h .p → h .states * n ≤ 2048
+pub edge-count-le : (h : Head) (n : ℕ) → Small h → n ≡ 2 ^ h .p → h .states * n ≤ 2048
 edge-count-le h n r e = rw e (product-le (h .states) (2 ^ h .p) 128 16 (r .s₂) (power-le h r))
 
 -- the record holds all its fields
@@ -70,7 +74,7 @@ edges-end h n l e f =
     omega arith
 
 -- the words and the next states of all edges lie within the record
-module _ (h : Head) (n l : ℕ) (r : Ranges h) (e : n ≡ 2 ^ h .p) (f : l ≡ size h) where
+module _ (h : Head) (n l : ℕ) (r : Small h) (e : n ≡ 2 ^ h .p) (f : l ≡ size h) where
   pub reach-words : Reach (8 * l) n (h .states * n) (edgesPlace h) (h .q + 7) (h .q)
   reach-words = record {
     some = rw e (pow-pos (h .p)); few = rw e (power-le h r); states = mul-le-mul-right n (r .s₂); width = r .q₂;

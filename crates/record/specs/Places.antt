@@ -1,6 +1,6 @@
 -- Where each field stands among the bits bs of a record, as the code finds it.
--- In order: numbersAt, the numbers in front; stateAt, a constraint state; goodAt, its fields; edgesAt, the first edge;
--- goodTargetAt; spot, an edge's place in a table's arrays; Column, an array of one field of every edge.
+-- In order: Small, numbers in front; nextIn, stateIn, the constraint; goodAt, its fields; edgesPlace, goodTargetAt, the
+-- edges; spot, an edge's place in a table's arrays; Column, an array of one field of every edge; Reach, its limits.
 -- Assumes nothing.
 use mathlib.Core.Bool.{Bool}
 use mathlib.Core.Path.{_≡_}
@@ -13,6 +13,13 @@ use Rattle.constraint.specs.Walking.{NextStates}
 use Rattle.table.specs.Formed.{Head}
 use Rattle.record.specs.Layout.{opened}
 use Rattle.record.specs.Parse.{goodField}
+
+-- numbers in front that fit a table's arrays
+pub record Small (h : Head) : Type 0 where
+  pub p₂ : h .p ≤ 4
+  pub q₂ : h .q ≤ 8
+  pub s₂ : h .states ≤ 128
+  pub k₂ : h .count ≤ 16
 
 -- the next state whose fields "present" and "next state" stand at the place o
 abbrev pub nextIn : List ℕ → ℕ → ℕ

@@ -6,11 +6,10 @@ ghost use lib.ListN.{length};
 ghost use Rattle.laws.specs.Lists.{range};
 ghost use Rattle.bits.specs.Fields.{bitsOf};
 ghost use Rattle.constraint.specs.Value.{constraintOf};
-ghost use Rattle.table.specs.Formed.{Ranges};
 ghost use Rattle.table.specs.Value.{codeIn};
 ghost use Rattle.record.specs.Layout.{size};
 ghost use Rattle.record.specs.Checks.{headIn, codeAt};
-ghost use Rattle.record.specs.Places.{nextIn, stateIn, Column, Reach};
+ghost use Rattle.record.specs.Places.{nextIn, stateIn, Column, Reach, Small};
 use constraint::Constraint;
 use table::Table;
 use crate::Front;
@@ -71,7 +70,7 @@ pub fn column(
 
 // The table of a record with the numbers f in front.
 pub fn table_of(bytes: &[u8], f: Front) -> Table
-    requires { ⌜ Ranges (headIn f) × (length (now bytes) ≡ size (headIn f)) ⌝ }
+    requires { ⌜ Small (headIn f) × (length (now bytes) ≡ size (headIn f)) ⌝ }
     ensures answer { λ r. ⌜ codeIn r ≡ codeAt (headIn f) (bitsOf (now (bytes .entry))) ⌝ }
 {
     let n = bits::power(f.p);

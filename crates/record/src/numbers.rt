@@ -5,10 +5,10 @@ ghost use Prim.Native.Nat.{_*_, _≤_};
 ghost use lib.Dec.{leb};
 ghost use lib.ListN.{length};
 ghost use Rattle.bits.specs.Fields.{read, bitsOf};
-ghost use Rattle.table.specs.Formed.{Ranges};
 ghost use Rattle.record.specs.Layout.{header, headOf, bitCount, size};
 ghost use Rattle.record.specs.Parse.{goodHead};
 ghost use Rattle.record.specs.Checks.{headIn};
+ghost use Rattle.record.specs.Places.{Small};
 use crate::Front;
 
 // The numbers, each less than its field's width lets it be.
@@ -59,7 +59,7 @@ pub fn good_front(f: Front) -> bool
 
 // How many bits the fields have.
 pub fn bit_count(f: Front) -> usize
-    requires { ⌜ Ranges (headIn f) ⌝ }
+    requires { ⌜ Small (headIn f) ⌝ }
     ensures answer { λ r. ⌜ r ≡ bitCount (headIn f) ⌝ }
 {
     let n = bits::power(f.p);
@@ -68,7 +68,7 @@ pub fn bit_count(f: Front) -> usize
 
 // The record's length in bytes.
 pub fn size_of(f: Front) -> usize
-    requires { ⌜ Ranges (headIn f) ⌝ }
+    requires { ⌜ Small (headIn f) ⌝ }
     ensures answer { λ r. ⌜ r ≡ size (headIn f) ⌝ }
 {
     (bit_count(f) + 7) / 8

@@ -5,11 +5,10 @@ ghost use lib.Dec.{eqb};
 ghost use lib.ListN.{length};
 ghost use Rattle.laws.specs.Lists.{all, range};
 ghost use Rattle.bits.specs.Fields.{bitsOf, field};
-ghost use Rattle.table.specs.Formed.{Ranges};
 ghost use Rattle.record.specs.Layout.{bitCount, size, fill};
 ghost use Rattle.record.specs.Parse.{goodField};
 ghost use Rattle.record.specs.Checks.{headIn, restGood};
-ghost use Rattle.record.specs.Places.{goodAt, goodTargetAt, edgesPlace};
+ghost use Rattle.record.specs.Places.{goodAt, goodTargetAt, edgesPlace, Small};
 use crate::Front;
 use crate::numbers;
 
@@ -43,7 +42,7 @@ fn good_states(bytes: &[u8], count: usize) -> bool
 
 // Whether every edge leads to a state.
 fn good_targets(bytes: &[u8], f: Front, edges: usize) -> bool
-    requires { ⌜ Ranges (headIn f) × (edges ≤ 2048)
+    requires { ⌜ Small (headIn f) × (edges ≤ 2048)
         × (edgesPlace (headIn f) + edges * (f .q + 7) ≤ 8 * length (now bytes)) ⌝ }
     ensures answer { λ r. ⌜ r ≡ all (goodTargetAt (bitsOf (now (bytes .entry))) (headIn f)) (range edges) ⌝ }
 {
@@ -62,7 +61,7 @@ fn good_targets(bytes: &[u8], f: Front, edges: usize) -> bool
 
 // Whether zero bits fill the last byte.
 fn good_fill(bytes: &[u8], f: Front) -> bool
-    requires { ⌜ Ranges (headIn f) × (length (now bytes) ≡ size (headIn f)) ⌝ }
+    requires { ⌜ Small (headIn f) × (length (now bytes) ≡ size (headIn f)) ⌝ }
     ensures answer { λ r. ⌜ r ≡ eqb (field (bitsOf (now (bytes .entry))) (bitCount (headIn f)) (fill (headIn f))) 0 ⌝ }
 {
     let at = numbers::bit_count(f);
@@ -71,7 +70,7 @@ fn good_fill(bytes: &[u8], f: Front) -> bool
 
 // Whether all fields behind the header are in range: otherwise refusal 7.
 pub fn good_rest(bytes: &[u8], f: Front) -> bool
-    requires { ⌜ Ranges (headIn f) × (length (now bytes) ≡ size (headIn f)) ⌝ }
+    requires { ⌜ Small (headIn f) × (length (now bytes) ≡ size (headIn f)) ⌝ }
     ensures answer { λ r. ⌜ r ≡ restGood (headIn f) (bitsOf (now (bytes .entry))) ⌝ }
 {
     if !good_states(bytes, f.count) {

@@ -1,17 +1,21 @@
 -- The search for the least window, memory by memory.
--- In order: later-trans; lead-start, lead-small, lead-take, lead-skip, lead-done; none-found.
+-- In order: later-trans; lead-start, lead-small, lead-take, lead-skip, lead-done, lead-rest; none-found.
 -- Assumes nothing.
 use mathlib.Core.Path.{_≡_, refl, sym, ap, subst, _∙_}
 use mathlib.Core.Logic.{_⊎_, inl, inr, ⊎-elim}
-use Prim.Native.Nat.{ℕ, _+_, _≤_, _<_}
+use Prim.Native.Nat.{ℕ, _+_, _-_, _≤_, _<_}
 use native.Mathlib.Omega.{arith}
 use native.Mathlib.Decide.{decLt}
 use lib.Dec.{T}
+use Rattle.laws.specs.Lists.{range, all}
+use Rattle.laws.proofs.Tests.{and→, →and, all-below→, →all-below}
+use Rattle.laws.proofs.Settle.{iterate-fixed}
 use Rattle.table.specs.Rows.{Rows, Size}
-use Rattle.table.specs.Works.{works}
+use Rattle.table.specs.Works.{into, reversed, allPairs, clear, ahead, past, started, works}
 use Rattle.table.specs.Window.{NoLater}
 use Rattle.table.specs.Search.{noSize, window}
 use Rattle.table.specs.Steps.{size, Leading, Room}
+use Rattle.table.proofs.Steps.{iterate-add, step-more}
 use Rattle.table.proofs.WindowLeast.{window-least}
 use Rattle.table.proofs.WindowOnly.{window-only, window-none}
 
@@ -96,26 +100,59 @@ not-before : (w : Size) → w .memory < 16 → w .lookahead < 16 → NoLater noS
 not-before w a b (inl k) = omega arith
 not-before w a b (inr k) = omega (arith, k .0)
 
-pub lead-done : (t : Rows) (m : ℕ) (z : Size) → Leading t m z → m ≤ 16
-    → (16 ≤ m) ⊎ (z .memory + z .lookahead < m) → window t ≡ z
-lead-done t m z h l e = go (h .known) e
+abbrev Known : Rows → ℕ → Size → Type 0
+Known t m z = (z ≡ noSize) ⊎ ((z .memory < m) × (z .lookahead < 16) × T (works t z))
+
+-- what is no later than all is the search's
+lead-all : (t : Rows) (z : Size) → Known t 16 z
+    → ((w : Size) → w .memory < 16 → w .lookahead < 16 → T (works t w) → NoLater z w) → window t ≡ z
+lead-all t z (inl q) f =
+    window-none t (λ w a b k. not-before w a b (subst (λ s. NoLater s w) q (f w a b k))) ∙ sym q
+lead-all t z (inr k) f = window-only t z (k .0) (k .1) (k .2) f
+
+known-up : (t : Rows) (m : ℕ) (z : Size) → m ≤ 16 → Known t m z → Known t 16 z
+known-up t m z l (inl q) = inl q
+known-up t m z l (inr k) = inr (omega (arith, k .0), k .1, k .2)
+
+module _ (t : Rows) (m : ℕ) (z : Size) (h : Leading t m z) (l : m ≤ 16) where
+  pub lead-done : (16 ≤ m) ⊎ (z .memory + z .lookahead < m) → window t ≡ z
+  lead-done e = lead-all t z (known-up t m z l (h .known)) (λ w a b k. over w a b k (decLt (w .memory) m) e)
+    where
+      over : (w : Size) → w .memory < 16 → w .lookahead < 16 → T (works t w) → Dec (w .memory < m)
+          → (16 ≤ m) ⊎ (z .memory + z .lookahead < m) → NoLater z w
+      over w a b k (yes d) x = h .better w d b k
+      over w a b k (no d) (inl x) = absurd (omega arith)
+      over w a b k (no d) (inr x) = inl (omega arith)
+
+-- ---- more memory that leads to the same pairs does not help
+past-rest : (t : Rows) (m : ℕ) → past t (m + 1) ≡ past t m → (k : ℕ) → past t (m + k) ≡ past t m
+past-rest t m e k =
+    iterate-add (into (reversed t)) m k (allPairs t)
+    ∙ iterate-fixed (into (reversed t)) k (past t m) (sym (step-more t m (allPairs t)) ∙ e)
+
+memory-rest : (t : Rows) (m j a : ℕ) → past t (m + 1) ≡ past t m → m ≤ j → T (works t (size j a))
+    → T (works t (size m a))
+unfolding works
+memory-rest t m j a e l k =
+    let (k₁, k₂) = and→ (clear t (ahead t a) (past t j)) (all (λ i. clear t (ahead t a) (started t i)) (range j)) k in
+    let d : m + (j - m) ≡ j = omega arith in
+    let q : past t j ≡ past t m = ap (past t) (sym d) ∙ past-rest t m e (j - m) in
+    →and (clear t (ahead t a) (past t m)) (all (λ i. clear t (ahead t a) (started t i)) (range m))
+    (subst (λ P. T (clear t (ahead t a) P)) q k₁)
+    (→all-below (λ i. clear t (ahead t a) (started t i)) m
+    (λ i h. all-below→ (λ i. clear t (ahead t a) (started t i)) j k₂ i (omega arith)))
+
+pub lead-rest : (t : Rows) (m : ℕ) (z : Size) → Leading t (m + 1) z → m < 16 → past t (m + 1) ≡ past t m
+    → window t ≡ z
+lead-rest t m z h l e =
+    lead-all t z (known-up t (m + 1) z (omega arith) (h .known)) (λ w a b k. over w a b k (decLt (w .memory) (m + 1)))
   where
-    go : (z ≡ noSize) ⊎ ((z .memory < m) × (z .lookahead < 16) × T (works t z))
-        → (16 ≤ m) ⊎ (z .memory + z .lookahead < m) → window t ≡ z
-    go (inl q) (inl y) =
-        window-none t (λ w a b k. not-before w a b
-        (subst (λ s. NoLater s w) q (h .better w (omega arith) b k))) ∙ sym q
-    go (inl q) (inr y) =
-        let p : z .memory ≡ 16 = ap (λ s. s .memory) q in
-        absurd (omega arith)
-    go (inr k) y =
-        window-only t z (omega (arith, k .0)) (k .1) (k .2) (λ w a b v. over w a b v (decLt (w .memory) m) y)
-      where
-        over : (w : Size) → w .memory < 16 → w .lookahead < 16 → T (works t w) → Dec (w .memory < m)
-            → (16 ≤ m) ⊎ (z .memory + z .lookahead < m) → NoLater z w
-        over w a b v (yes d) x = h .better w d b v
-        over w a b v (no d) (inl x) = absurd (omega arith)
-        over w a b v (no d) (inr x) = inl (omega arith)
+    over : (w : Size) → w .memory < 16 → w .lookahead < 16 → T (works t w) → Dec (w .memory < m + 1) → NoLater z w
+    over w a b k (yes d) = h .better w d b k
+    over w a b k (no d) =
+        later-trans z (size m (w .lookahead)) w
+        (h .better (size m (w .lookahead)) (omega arith) b
+        (memory-rest t m (w .memory) (w .lookahead) e (omega arith) k)) (inl (omega arith))
 
 -- memory 16 is the mark for none
 pub none-found : (t : Rows) (m a : ℕ) → window t ≡ size m a → m ≡ 16 → noSize ≡ window t

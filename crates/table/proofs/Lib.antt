@@ -26,4 +26,5 @@ pub mod SetLaws
 pub mod Steps
 pub mod Lookahead
 pub mod Leading
-pub mod Ready
+pub mod Turns
+pub mod ReadyTables

@@ -1,5 +1,5 @@
 -- Laws of tests over the numbers below n, and of loops that mark places of a set.
--- In order: some-suc, some-more, none-start, found, some-at, none-more, some-stop; put-member; mark-none,
+-- In order: some-suc, some-more, none-start, found, some-at, none-more, some-stop, none-at; put-member; mark-none,
 -- length-blank, blank-none, mark-blank, marked-member, mark-more, mark-row, mark-skip, mark-put; Left, the same from
 -- the last turn to the first, and left-start, left-done, left-jump, left-put, left-skip.
 -- Assumes nothing.
@@ -52,6 +52,13 @@ none-more f n a b = some-more f n ∙ ap₂ (λ x y. x || y) a b
 
 pub some-stop : (f : ℕ → Bool) (n i : ℕ) → i < n → f i ≡ true → some f n ≡ true
 some-stop f n i h e = T→true (some f n) (some-at f n i h (subst T (sym e) tt))
+
+pub none-at : (f : ℕ → Bool) (n i : ℕ) → some f n ≡ false → i < n → f i ≡ false
+none-at f n i e h = go (f i) refl
+  where
+    go : (b : Bool) → f i ≡ b → f i ≡ false
+    go true q = absurd (subst T (sym (some-stop f n i h q) ∙ e) tt)
+    go false q = q
 
 -- ---- a loop that marks places of a set: turn i marks every x with hit x i
 pub put-member : (R : List Bool) (y x : ℕ) → y < length R → member (set R y true) x ≡ (member R x || eqb y x)

@@ -1,51 +1,46 @@
 -- The places of pairs stand for the pairs of the definition `obeys`, so a closed set of places decides it.
--- In order: length-rows, edges-in, ways-in, at-in, a table's edges by its arrays; stateOf, pairOf and their laws, one
--- edge; reached-has; obeys-is.
+-- In order: formed-followable; stateOf, pairOf and their laws, one edge; reached-has; obeys-is.
 -- Assumes nothing.
 use mathlib.Core.Path.{_≡_, sym, ap, ap₂, subst, subst₂, _∙_}
 use mathlib.Core.Logic.{inl, inr}
 use mathlib.Core.Bool.{Bool}
-use mathlib.Core.List.{List, []}
+use mathlib.Core.List.{List}
 use Prim.Native.Nat.{ℕ, _+_, _*_, _/_, _%_, _^_, _≤_, _<_}
 use native.Mathlib.Omega.{arith}
 use native.Mathlib.Decide.{ℕ-discrete}
 use borrow.Author.Tests.{eq-eqb, ne-eqb}
 use lib.Dec.{T, eqb}
-use lib.ListN.{length, getD, length-map}
+use lib.ListN.{length, getD}
 use lib.Pow.{pow-mono}
 use Rattle.laws.specs.Lists.{if_then_else_, range}
 use Rattle.laws.specs.Sets.{member, has}
-use Rattle.laws.proofs.Tests.{length-from, map-range-at, bool-eq}
+use Rattle.laws.proofs.Tests.{bool-eq}
 use Rattle.constraint.specs.Walking.{none, walk}
 use Rattle.constraint.specs.Value.{constraintOf}
 use Rattle.constraint.specs.PowerTable.{powerCodes}
 use Rattle.constraint.proofs.Values.{length-constraintOf}
 use Rattle.constraint.proofs.PowerTable.{codes-at}
 use Rattle.table.specs.declared.Table.{Table}
-use Rattle.table.specs.Rows.{Edge, edge, edges, at}
-use Rattle.table.specs.Value.{wordAt, nextAt, edgeIn, rowIn, rowsIn, codeIn}
+use Rattle.table.specs.Rows.{Edge, at}
+use Rattle.table.specs.Value.{wordAt, nextAt, rowsIn, codeIn, Ready}
+use Rattle.table.specs.Formed.{Formed}
 use Rattle.table.specs.Obeys.{reachedPairs, obeys}
 use Rattle.table.specs.Obeying.{stateAfter, pairAfter, Reached, Closure, eachFinds, Followable}
 use Rattle.table.specs.Obeying.Reached.{origin, carried}
+use Rattle.table.specs.Edges.{lent}
 use Rattle.table.proofs.Shape.{inside}
+use Rattle.table.proofs.RowsOf.{length-rows, row-long, edge-at}
 use Rattle.table.proofs.Reached.{reached-lt, reached-start, reached-step}
 use Rattle.table.proofs.AnyClosure.{obeys-by, disobeys-by}
 use Rattle.table.proofs.PairTests.{each→, →each}
 
--- ---- a table's edges by its arrays
-module _ (t : Table) where
-  pub length-rows : length (rowsIn t) ≡ t .states
-  length-rows = length-map (range (t .states)) (rowIn t) ∙ length-from 0 (t .states)
-
-  pub edges-in : (s : ℕ) → s < t .states → edges (rowsIn t) s ≡ rowIn t s
-  edges-in s h = map-range-at (rowIn t) (t .states) s [] h
-
-  pub ways-in : (s : ℕ) → s < t .states → length (edges (rowsIn t) s) ≡ 2 ^ t .p
-  ways-in s h = ap length (edges-in s h) ∙ length-map (range (2 ^ t .p)) (edgeIn t s) ∙ length-from 0 (2 ^ t .p)
-
-  pub at-in : (s d : ℕ) → s < t .states → d < 2 ^ t .p → at (rowsIn t) s d ≡ edgeIn t s d
-  at-in s d h l =
-      ap (λ es. getD es d (edge 0 0)) (edges-in s h) ∙ map-range-at (edgeIn t s) (2 ^ t .p) d (edge 0 0) l
+-- a table whose fields are in range can be followed
+pub formed-followable : (t : Table) → Ready t → Formed (codeIn t) → Followable t
+formed-followable t r f = record {
+  ready = r;
+  nexts = f .nexts;
+  begin = rw (length-constraintOf (t .constraint)) at (f .range .start);
+}
 
 -- ---- one edge from the pair of s and k
 abbrev powerIn : Table → List ℕ
@@ -109,13 +104,13 @@ module _ (t : Table) (h : Followable t) where
       let z : 0 ≡ t .start / 16 = omega arith in
       let m : t .start ≡ t .start % 16 = omega arith in
       subst₂ (λ s k. T (has (reachedPairs (codeIn t)) s k)) z m
-      (reached-start (codeIn t) (rw (length-rows t) (h .ready .some)) (rw count b))
+      (reached-start (codeIn t) (rw (length-rows (lent t)) (h .ready .some)) (rw count b))
 
   has-step : (s k d : ℕ) → s < t .states → d < 2 ^ t .p → T (has (reachedPairs (codeIn t)) s k)
       → walkIn t s k d < t .constraint .states → T (has (reachedPairs (codeIn t)) (nextAt t s d) (walkIn t s k d))
   has-step s k d hs hd u l =
-      subst Steps (at-in t s d hs hd) (reached-step (codeIn t) s k d u (rw (ways-in t s hs) hd))
-      (rw (length-rows t) (h .ready .inside s d hs hd)) (rw count l)
+      subst Steps (edge-at (lent t) s d hs hd) (reached-step (codeIn t) s k d u (rw (row-long (lent t) s hs) hd))
+      (rw (length-rows (lent t)) (h .ready .inside s d hs hd)) (rw count l)
     where
       Steps : Edge → Type 0
       Steps e = e .next < length (rowsIn t)
@@ -133,7 +128,7 @@ module _ (t : Table) (h : Followable t) where
       k = x % 16
 
       hs : s < t .states
-      hs = rw (length-rows t) at (reached-lt (codeIn t) s k u .0)
+      hs = rw (length-rows (lent t)) at (reached-lt (codeIn t) s k u .0)
 
       hk : k < t .constraint .states
       hk = rw count at (reached-lt (codeIn t) s k u .1)
@@ -203,10 +198,10 @@ module _ (t : Table) (h : Followable t) where
     unfolding Held
     obeys-if g =
         obeys-by (codeIn t) Held held-start
-        (λ s k d q a l. let hd : d < 2 ^ t .p = rw (ways-in t s (q .0)) at a in
-        subst (Steps k) (sym (at-in t s d (q .0) hd)) (λ l. held-next s k d q hd (rw count at l)) l)
-        (λ s k d q a. let hd : d < 2 ^ t .p = rw (ways-in t s (q .0)) at a in
-        subst (Fails k) (sym (at-in t s d (q .0) hd)) (held-finds g s k d q hd))
+        (λ s k d q a l. let hd : d < 2 ^ t .p = rw (row-long (lent t) s (q .0)) at a in
+        subst (Steps k) (sym (edge-at (lent t) s d (q .0) hd)) (λ l. held-next s k d q hd (rw count at l)) l)
+        (λ s k d q a. let hd : d < 2 ^ t .p = rw (row-long (lent t) s (q .0)) at a in
+        subst (Fails k) (sym (edge-at (lent t) s d (q .0) hd)) (held-finds g s k d q hd))
       where
         Steps : ℕ → Edge → Type 0
         Steps k e = walk (constraintOf (t .constraint)) (t .q) (e .word) k < length (constraintOf (t .constraint))
@@ -222,10 +217,10 @@ module _ (t : Table) (h : Followable t) where
         refuted : (x d : ℕ) → d < 2 ^ t .p → stateAfter (t .word) (powerIn t) x d ≡ none
             → T (has (reachedPairs (codeIn t)) (x / 16) (x % 16)) → ⊥
         refuted x d hd e v =
-            let hs : x / 16 < t .states = rw (length-rows t) at (reached-lt (codeIn t) (x / 16) (x % 16) v .0) in
+            let hs : x / 16 < t .states = rw (length-rows (lent t)) at (reached-lt (codeIn t) (x / 16) (x % 16) v .0) in
             let hk : x % 16 < t .constraint .states = rw count at (reached-lt (codeIn t) (x / 16) (x % 16) v .1) in
-            disobeys-by (codeIn t) (x / 16) (x % 16) d v (rw (ways-in t (x / 16) hs) hd)
-            (ap (λ e. walk (constraintOf (t .constraint)) (t .q) (e .word) (x % 16)) (at-in t (x / 16) d hs hd)
+            disobeys-by (codeIn t) (x / 16) (x % 16) d v (rw (row-long (lent t) (x / 16) hs) hd)
+            (ap (λ e. walk (constraintOf (t .constraint)) (t .q) (e .word) (x % 16)) (edge-at (lent t) (x / 16) d hs hd)
             ∙ sym (state-walk (x / 16) (x % 16) d hs hk hd) ∙ e) g
 
     decides : eachFinds (t .word) (powerIn t) (2 ^ t .p) S ≡ obeys (codeIn t)

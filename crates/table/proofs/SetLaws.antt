@@ -1,5 +1,5 @@
 -- Laws of the sets of pairs that the code makes, joins and tests.
--- In order: all-of, none-of, start-of; union-of; empty-of.
+-- In order: all-of, none-of, start-of; union-pairs; empty-of; same-pairs.
 -- Assumes nothing.
 use mathlib.Core.Path.{_≡_, refl, sym, ap, ap₂, subst, _∙_}
 use mathlib.Core.Bool.{Bool, true, false, not, _&&_, _||_}
@@ -7,16 +7,17 @@ use mathlib.Core.List.{List, [], _∷_, map}
 use Prim.Native.Nat.{ℕ, suc, _+_, _*_, _/_, _%_, _≤_, _<_}
 use native.Mathlib.Omega.{arith}
 use lib.Dec.{T, T-not, not-T, eqb, eqb→eq, eqb-refl, ltb, ltb→lt, lt→ltb}
+use borrow.Author.Tests.{not-true}
 use lib.ListN.{length, set, replicate, getD-replicate}
-use Rattle.laws.specs.Lists.{from, range}
+use Rattle.laws.specs.Lists.{if_then_else_, from, range}
 use Rattle.laws.specs.Sets.{member, has, grid}
 use Rattle.laws.proofs.Tests.{and→, →and, bool-eq, all-below→, →all-below}
 use Rattle.table.specs.Rows.{Rows}
 use Rattle.table.specs.Works.{allPairs, startPair}
 use Rattle.table.specs.Search.{union, starts, empty}
 use Rattle.table.specs.Marks.{some, blank, Marked}
-use Rattle.table.specs.PairSets.{pairsIn, holdsAt, addsAt}
-use Rattle.table.proofs.Marks.{found, some-at, put-member, length-blank, blank-none}
+use Rattle.table.specs.PairSets.{pairsIn, holdsAt, addsAt, differsAt}
+use Rattle.table.proofs.Marks.{found, some-at, none-at, put-member, length-blank, blank-none}
 use Rattle.table.proofs.PairSets.{has-pairs, pairs-grid}
 
 -- ---- all, none, the start's
@@ -96,3 +97,21 @@ module _ (t : Rows) (n : ℕ) (P : List Bool) (e : length t ≡ n) (h : n ≤ 12
 
   pub empty-of : not (some (holdsAt n P) (n * 128)) ≡ empty t (pairsIn n P)
   empty-of = bool-eq (not (some (holdsAt n P) (n * 128))) (empty t (pairsIn n P)) empty→ →empty
+
+-- ---- the same pairs
+alike : (a b : Bool) → (if a then not b else b) ≡ false → a ≡ b
+alike true true e = refl
+alike true false e = let y : _≡_ {A = ℕ} 0 1 = cc in absurd (omega arith)
+alike false true e = let y : _≡_ {A = ℕ} 0 1 = cc in absurd (omega arith)
+alike false false e = refl
+
+pub same-pairs : (n : ℕ) (A B : List Bool) → n ≤ 128 → not (some (differsAt A B) (n * 128)) ≡ true
+    → pairsIn n A ≡ pairsIn n B
+same-pairs n A B h e =
+    pairs-grid n A (λ x y. member B (x * 128 + y)) (λ x y hx hy. at x y hx hy)
+    ∙ sym (pairs-grid n B (λ x y. member B (x * 128 + y)) (λ x y hx hy. refl))
+  where
+    at : (x y : ℕ) → x < n → y < n → member A (x * 128 + y) ≡ member B (x * 128 + y)
+    at x y hx hy =
+        alike (member A (x * 128 + y)) (member B (x * 128 + y))
+        (none-at (differsAt A B) (n * 128) (x * 128 + y) (not-true _ e) (omega arith))

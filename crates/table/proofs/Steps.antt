@@ -1,22 +1,28 @@
 -- Laws of the sets of pairs that the search for a window keeps.
--- In order: step-more, reached-more, reached-hits; Stepped, stepped-start to stepped-end.
+-- In order: iterate-add; step-more, reached-more, reached-hits; Stepped, stepped-start to stepped-rest.
 -- Assumes nothing.
 use mathlib.Core.Path.{_≡_, sym, ap, ap₂, _∙_}
 use mathlib.Core.Bool.{Bool, true, false}
 use mathlib.Core.List.{List}
-use Prim.Native.Nat.{ℕ, _+_, _≤_, _<_}
+use Prim.Native.Nat.{ℕ, zero, suc, _+_, _-_, _≤_, _<_}
 use native.Mathlib.Numerals.{add-one}
+use native.Mathlib.Nat.{zero-add, suc-add}
 use native.Mathlib.Omega.{arith}
+use native.Mathlib.Decide.{decLt}
 use borrow.Author.Count.{below-more}
 use Rattle.laws.specs.Lists.{iterate}
 use Rattle.laws.specs.Sets.{Pairs}
-use Rattle.laws.proofs.Settle.{iterate-suc}
+use Rattle.laws.proofs.Settle.{iterate-suc, iterate-fixed}
 use Rattle.table.specs.declared.windows.Pasts.{Pasts}
 use Rattle.table.specs.Rows.{Rows}
 use Rattle.table.specs.Works.{into, reversed, allPairs, startPair}
 use Rattle.table.specs.Search.{hits, union, starts, pasts, empty}
 use Rattle.table.specs.PairSets.{pairsIn}
 use Rattle.table.specs.Steps.{Reached, Emptied}
+
+pub iterate-add : {A : Type 0} (f : A → A) (k i : ℕ) (x : A) → iterate f (k + i) x ≡ iterate f i (iterate f k x)
+iterate-add f zero i x = ap (λ n. iterate f n x) (zero-add i)
+iterate-add f (suc k) i x = ap (λ n. iterate f n x) (suc-add k i) ∙ iterate-add f k i (f x)
 
 module _ (t : Rows) where
   -- one step more, in the code's way to count
@@ -76,3 +82,25 @@ module _ (t : Rows) (n : ℕ) (H : Pairs) (most : ℕ) (cur : List Bool) where
         (sym (ap (empty t) (h .set)) ∙ e);
     there = λ m. absurd (omega arith);
   }
+
+  -- a set that one word leads to itself stays
+  pub stepped-rest : (k : ℕ) (r : List Bool) → Stepped t n H most cur k → empty t (pairsIn n cur) ≡ false
+      → pairsIn n r ≡ into (reversed t) (pairsIn n cur) → pairsIn n r ≡ pairsIn n cur → Emptied t H most (most + 1)
+  stepped-rest k r h e s q = record {
+    within = omega arith;
+    sooner = λ j l. go j (decLt j k);
+    there = λ m. absurd (omega arith);
+  }
+    where
+      f : Pairs → Pairs
+      f = into (reversed t)
+
+      fixed : f (iterate f k H) ≡ iterate f k H
+      fixed = sym (ap f (h .set)) ∙ sym s ∙ q ∙ h .set
+
+      go : (j : ℕ) → Dec (j < k) → empty t (iterate f j H) ≡ false
+      go j (yes l) = h .sooner j l
+      go j (no l) =
+          let d : j ≡ k + (j - k) = omega arith in
+          ap (empty t) (ap (λ i. iterate f i H) d ∙ iterate-add f k (j - k) H
+          ∙ iterate-fixed f (j - k) (iterate f k H) fixed ∙ sym (h .set)) ∙ e

@@ -7,6 +7,7 @@ pub mod Obeys
 pub mod Formed
 pub mod Accepted
 pub mod Value
+pub mod Entries
 pub mod Obeying
 pub mod Marks
 pub mod Edges

@@ -1,5 +1,5 @@
 -- Sets of pairs of states in an array, the pair of x and y at x * 128 + y, and the tests by which the code marks them.
--- In order: pairsIn; counts, joins, leftOut, joinsAny, two edges with one word; holdsAt, addsAt.
+-- In order: pairsIn; counts, joins, leftOut, joinsAny, two edges with one word; holdsAt, addsAt, differsAt.
 -- Assumes nothing.
 use mathlib.Core.Bool.{Bool, false, not, _&&_}
 use mathlib.Core.List.{List}
@@ -39,3 +39,7 @@ holdsAt n P z = ltb (z % 128) n && member P z
 -- turn z adds the place x
 abbrev pub addsAt : List Bool → ℕ → ℕ → Bool
 addsAt Q x z = member Q z && eqb z x
+
+-- one of A and B holds the place z, and the other does not
+abbrev pub differsAt : List Bool → List Bool → ℕ → Bool
+differsAt A B z = if member A z then not (member B z) else member B z

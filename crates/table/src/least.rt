@@ -6,10 +6,12 @@ ghost use Prim.Native.Nat.{ℕ, _+_, _≤_, _<_};
 ghost use Rattle.table.specs.Value.{Ready, rowsIn};
 ghost use Rattle.table.specs.Search.{window};
 ghost use Rattle.table.specs.Edges.{arrays, rowsOf, Linked};
+ghost use Rattle.table.specs.PairSets.{pairsIn};
 ghost use Rattle.table.specs.Steps.{size, Reached, Leading, Room, foundSize};
 use crate::Table;
 use crate::chains::chain;
 use crate::chains::ways;
+use crate::pair_sets::same_pairs;
 use crate::windows::Pasts;
 use crate::windows::begin;
 use crate::windows::emptied;
@@ -109,7 +111,19 @@ fn more_if(
     g
 }
 
-// The least window, or 16 and 16.
+// 0 where two sets hold the same pairs, otherwise `stop`.
+fn stop_at(states: usize, a: &[bool; 16384], b: &[bool; 16384], stop: usize) -> usize
+    requires { ⌜ states ≤ 128 ⌝ }
+    ensures answer { λ r. ⌜
+        ((r ≡ stop) ⊎ ((r ≡ 0) × (pairsIn states (now (a .entry)) ≡ pairsIn states (now (b .entry))))) ⌝ }
+{
+    if same_pairs(states, a, b) {
+        return 0;
+    }
+    stop
+}
+
+// The least window, or 16 and 16. Where one word more leads any two states to the same pairs, no larger memory helps.
 fn least(
     states: usize,
     n: usize,
@@ -132,9 +146,10 @@ fn least(
     while m < stop {
         let b = better(states, n, word, next, head, link, g, best, m);
         best = b;
-        stop = stop_of(b);
         m += 1;
-        let r = more_if(states, n, word, next, head, link, g, m < stop);
+        let last = stop_of(b);
+        let r = more_if(states, n, word, next, head, link, g, m < last);
+        stop = stop_at(states, &r.all, &g.all, last);
         g = r;
     }
     best

@@ -1,37 +1,22 @@
 // The test that every recording obeys the constraint: the pairs of a table state and a constraint state that recordings
 // reach, to rest, each tested. The pair of table state s and constraint state k has the place s * 16 + k.
 ghost use mathlib.Core.Path.{_≡_};
-ghost use Prim.Native.Nat.{_+_, _*_, _^_, _≤_, _<_};
-ghost use lib.ListN.{length};
+ghost use Prim.Native.Nat.{_≤_, _<_};
 ghost use Rattle.laws.specs.Lists.{range, all};
 ghost use Rattle.table.specs.Value.{codeIn};
 ghost use Rattle.table.specs.Obeys.{obeys};
 ghost use Rattle.table.specs.Obeying.{stateAfter, pairAfter, Closure, Queue, Grown};
 ghost use Rattle.table.specs.Obeying.{findsAt, pairFinds, eachFinds, Followable};
 use crate::Table;
+use crate::chains;
 use constraint::power;
-
-// A byte as a number: its bound comes with it.
-fn wide(x: u8) -> usize
-    ensures answer { λ r. ⌜ (r ≡ x) × (r < 256) ⌝ }
-{
-    x as usize
-}
-
-// The number of data.
-fn ways_of(p: usize) -> usize
-    requires { ⌜ p ≤ 4 ⌝ }
-    ensures answer { λ r. ⌜ (r ≡ 2 ^ p) × (r ≤ 16) ⌝ }
-{
-    1usize << p
-}
 
 // The constraint state to which datum d leads from the pair at x, 255 for none.
 fn state_after(word: &[u8; 2048], power: &[u8; 4096], x: usize, d: usize) -> usize
     requires { ⌜ (x < 2048) × (d < 16) ⌝ }
     ensures answer { λ r. ⌜ (r ≡ stateAfter (now (word .entry)) (now (power .entry)) x d) × (r < 256) ⌝ }
 {
-    wide(power[x % 16 * 256 + wide(word[x / 16 * 16 + d])])
+    chains::wide(power[x % 16 * 256 + chains::wide(word[x / 16 * 16 + d])])
 }
 
 // The place to which datum d carries the pair at x, 2048 for none.
@@ -43,7 +28,7 @@ fn pair_after(word: &[u8; 2048], next: &[u8; 2048], power: &[u8; 4096], x: usize
     if k == 255 {
         return 2048;
     }
-    wide(next[x / 16 * 16 + d]) * 16 + k
+    chains::wide(next[x / 16 * 16 + d]) * 16 + k
 }
 
 // The place y put into the set and at the end of the list, unless it is there; the length of the list.
@@ -64,7 +49,7 @@ fn put(y: usize, m: usize, set: &mut [bool; 2048], list: &mut [usize; 2048]) -> 
 }
 
 // The places to which the n edges of the pair at x carry it, put into the set and the list.
-fn spread(
+fn put_targets(
     word: &[u8; 2048],
     next: &[u8; 2048],
     power: &[u8; 4096],
@@ -150,7 +135,7 @@ fn reach(
     let mut i = 0;
     while i < count {
         let x = list[i];
-        count = spread(word, next, power, n, x, count, &mut set, &mut list);
+        count = put_targets(word, next, power, n, x, count, &mut set, &mut list);
         i += 1;
     }
     set
@@ -161,7 +146,7 @@ pub fn obeys(t: Table) -> bool
     requires { ⌜ Followable t ⌝ }
     ensures answer { λ r. ⌜ r ≡ obeys (codeIn t) ⌝ }
 {
-    let n = ways_of(t.p);
+    let n = chains::ways(t.p);
     let word = t.word;
     let next = t.next;
     let power = power::power_codes(t.constraint, t.q);

@@ -1,11 +1,14 @@
 // Sets of pairs of states, the pair of x and y at x * 128 + y: all, none, the start's, unions, and the test for none.
 ghost use mathlib.Core.Path.{_≡_};
+ghost use mathlib.Core.Bool.{not};
 ghost use Prim.Native.Nat.{_+_, _*_, _≤_, _<_};
 ghost use lib.ListN.{length};
+ghost use Rattle.laws.specs.Lists.{if_then_else_};
+ghost use Rattle.table.specs.Marks.{some};
 ghost use Rattle.table.specs.Rows.{Rows};
 ghost use Rattle.table.specs.Works.{allPairs, startPair};
 ghost use Rattle.table.specs.Search.{union, starts, empty};
-ghost use Rattle.table.specs.PairSets.{pairsIn, holdsAt};
+ghost use Rattle.table.specs.PairSets.{pairsIn, holdsAt, differsAt};
 
 // All pairs.
 pub fn all_pairs() -> [bool; 16384]
@@ -67,6 +70,31 @@ pub fn is_empty(states: usize, pairs: &[bool; 16384]) -> bool
     let mut z = 0;
     while z < states * 128 {
         if holds(states, pairs, z) {
+            return false;
+        }
+        z += 1;
+    }
+    true
+}
+
+// One of two answers is yes, and the other no.
+fn differ(a: bool, b: bool) -> bool
+    ensures answer { λ r. ⌜ r ≡ (if a then not b else b) ⌝ }
+{
+    if a {
+        return !b;
+    }
+    b
+}
+
+// The sets hold the same places of states.
+pub fn same_pairs(states: usize, a: &[bool; 16384], b: &[bool; 16384]) -> bool
+    requires { ⌜ states ≤ 128 ⌝ }
+    ensures answer { λ r. ⌜ r ≡ not (some (differsAt (now (a .entry)) (now (b .entry))) (states * 128)) ⌝ }
+{
+    let mut z = 0;
+    while z < states * 128 {
+        if differ(a[z], b[z]) {
             return false;
         }
         z += 1;

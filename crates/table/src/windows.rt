@@ -15,6 +15,7 @@ use crate::chains::ways;
 use crate::pair_sets::all_pairs;
 use crate::pair_sets::is_empty;
 use crate::pair_sets::no_pairs;
+use crate::pair_sets::same_pairs;
 use crate::pair_sets::start_pair;
 use crate::pair_sets::union_of;
 use crate::pairs::clashes;
@@ -109,7 +110,8 @@ pub fn hits_of(
     clashes(states, n, word, next, head, link, &p)
 }
 
-// The number of words after which no pair of the set is left, or one more than `most`.
+// The number of words after which no pair of the set is left, or one more than `most`. A set that a word leads to
+// itself stays.
 pub fn emptied(
     states: usize,
     n: usize,
@@ -131,6 +133,9 @@ pub fn emptied(
             return k;
         }
         let r = forward(states, n, word, next, head, link, &cur);
+        if same_pairs(states, &r, &cur) {
+            return most + 1;
+        }
         cur = r;
         k += 1;
     }

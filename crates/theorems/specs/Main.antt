@@ -1,10 +1,10 @@
 -- The main theorems, each written out in full; its proof is one citation.
 -- In order: no-code, greatest, each-split, splits-end, shortest-idle, least-window, no-window, compiled-passes,
--- run-length-passes, checker-exact, records, returns, recognised, demand-3, local, different-data, grows, sets.
+-- run-length-passes, checker-exact, record-order, records, returns, recognised, demand-3, local, different-data, grows, sets.
 -- Assumes nothing.
 use mathlib.Core.Path.{_≡_}
 use mathlib.Core.Logic.{_↔_}
-use mathlib.Core.List.{List}
+use mathlib.Core.List.{List, []}
 use Prim.Native.Nat.{ℕ, suc, _+_, _-_, _/_, _^_, _≤_, _<_}
 use lib.Dec.{T}
 use lib.ListN.{length, getD, take, drop}
@@ -21,7 +21,10 @@ use Rattle.table.proofs.WindowGrows.{window-grows-memory, window-grows-lookahea
 use Rattle.record.specs.Layout.{pack}
 use Rattle.record.specs.Parse.{parse, judged}
 use Rattle.record.proofs.RecordWrite.{parse-pack}
-use Rattle.record.proofs.Accepted.{parse-exact, parse-canonical}
+use Rattle.record.specs.Checks.{checkedOnly}
+use Rattle.record.specs.Reasons.{Reason}
+use Rattle.record.proofs.Reasons.{reason}
+use Rattle.record.proofs.Accepted.{check-exact, parse-canonical}
 use Rattle.codec.specs.Reading.{mark, block}
 use Rattle.codec.specs.Answers.{encodeUnder, decodeUnder}
 use Rattle.codec.specs.Damage.{StandsClear, Recording}
@@ -94,11 +97,14 @@ pub run-length-passes : (xs : List ℕ) (room : ℕ) (r : List ℕ) → compileR
     → (j : Job) × (c : Code) × (readRunLength xs ≡ done j) × (compile j ≡ done c) × (pack c ≡ r) × (parse r ≡ done c)
 run-length-passes = compiler.run-length-passes
 
--- The checker accepts exactly the records of tables whose every recording obeys and whose every window settles its
--- block.
-pub checker-exact : (xs : List ℕ) → Below 256 xs → (c : Code)
-    → (parse xs ≡ done c) ↔ (T (formed c) × (pack c ≡ xs) × Accepted c)
-checker-exact = parse-exact
+-- The checker accepts exactly the records of tables whose every recording obeys and whose every window settles its block.
+pub checker-exact : (xs : List ℕ) → Below 256 xs
+    → (checkedOnly xs ≡ done []) ↔ ((c : Code) × T (formed c) × (pack c ≡ xs) × Accepted c)
+checker-exact = check-exact
+
+-- Each refusal of a record comes exactly where the order says: 8, 7, 8, 7, 9, 10.
+pub record-order : (xs : List ℕ) → Reason xs (parse xs)
+record-order = reason
 
 -- A record is read as it was written, up to refusals 9 and 10, and written as it was read.
 pub records : ((c : Code) → T (formed c) → parse (pack c) ≡ judged c)

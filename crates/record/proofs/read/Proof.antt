@@ -13,6 +13,8 @@ use Rattle.answer.specs.Outcomes.{done}
 use Rattle.bits.specs.Fields.{bitsOf}
 use Rattle.record.specs.Layout.{size}
 use Rattle.record.specs.Checks.{headIn}
+use Rattle.record.specs.Places.{Small}
+use Rattle.record.proofs.Sizes.{small-of}
 use Rattle.record.proofs.RecordReady.{ready-of}
 use Rattle.record.proofs.RecordReading.{below-bytes, ranges-in, checked-short, checked-front, checked-length, checked-rest, checked-good}
 use borrow.Author.Needs.{needs}
@@ -31,6 +33,10 @@ ranged c =
     let f = c .before .before in
     ranges-in (now (f .before .before .before .args .bytes)) (headIn (f .front-of .result)) (f .front-of .ensures)
     (fronted c)
+
+-- and small
+small : (c : tie.Else2) → Small (headIn (c .before .before .front-of .result))
+small c = small-of _ (ranged c)
 
 -- the length is what they say
 sized : (c : tie.Else3) → length (now (c .before .before .before .before .before .before .before .args .bytes))
@@ -63,7 +69,7 @@ returns-2 c =
         (sym (g .good-front .ensures) ∙ not-true (g .good-front .result) (c .before .if2 .taken))), λ e. absurd (c .bad2 .ensures .1 e))
 
 size-of-requires : tie.Need-size-of-requires
-size-of-requires c κs = ranged c
+size-of-requires c κs = small c
 
 bad-requires-3 : tie.Need-bad-requires-3
 bad-requires-3 c κs = search needs
@@ -79,7 +85,7 @@ returns-3 c =
      λ e. absurd (c .bad3 .ensures .1 e))
 
 good-rest-requires : tie.Need-good-rest-requires
-good-rest-requires c κs = (ranged (c .before .before), sized c)
+good-rest-requires c κs = (small (c .before .before), sized c)
 
 bad-requires-4 : tie.Need-bad-requires-4
 bad-requires-4 c κs = search needs
@@ -96,7 +102,7 @@ returns-4 c =
      λ e. absurd (c .bad4 .ensures .1 e))
 
 table-of-requires : tie.Need-table-of-requires
-table-of-requires c κs = (ranged (c .before .before .before .before), sized (c .before .before))
+table-of-requires c κs = (small (c .before .before .before .before), sized (c .before .before))
 
 returns-5 : tie.Need-returns-5
 returns-5 c = 

@@ -5,8 +5,8 @@ use borrow.Author.Needs.{needs}
 use Rattle.table.proofs.obeying.obeys.Statement.{statement}
 use Rattle.table.proofs.obeying.obeys.Tie as tie
 
-ways-of-requires : tie.Need-ways-of-requires
-ways-of-requires c κs = search needs
+ways-requires : tie.Need-ways-requires
+ways-requires c κs = search needs
 
 power-codes-requires : tie.Need-power-codes-requires
 power-codes-requires c κs = search needs
@@ -24,10 +24,10 @@ returns c =
     let n = p .before .before .before in
     let s = n .before in
     c .each-finds .ensures
-    ∙ obeys-is (s .args .t) (s .pre) (n .ways-of .result) (p .power-codes .result) (r .reach .result)
-    (n .ways-of .ensures .0) (p .power-codes .ensures) (r .reach .ensures)
+    ∙ obeys-is (s .args .t) (s .pre) (n .ways .result) (p .power-codes .result) (r .reach .result)
+    (n .ways .ensures .0) (p .power-codes .ensures) (r .reach .ensures)
 
 pub obeys-spec : {M : Type 1} → statement M
 obeys-spec =
     tie.close
-    (tie.spec ways-of-requires power-codes-requires reach-requires each-finds-requires returns)
+    (tie.spec ways-requires power-codes-requires reach-requires each-finds-requires returns)

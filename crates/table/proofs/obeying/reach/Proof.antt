@@ -42,8 +42,8 @@ mul-x c = search needs
 array-read-x : tie.Need-array-read-x Inv-loop μ-loop
 array-read-x c = omega (arith, count-on (c .before))
 
-spread-requires : tie.Need-spread-requires Inv-loop μ-loop
-spread-requires c κs =
+put-targets-requires : tie.Need-put-targets-requires Inv-loop μ-loop
+put-targets-requires c κs =
     let l = c .before .before .before .loop in
     (place-on (c .before .before), l .inv .0, l .inv .1 .queue)
 
@@ -59,7 +59,7 @@ loop-again c =
     let l = c .before .before .before .before .loop in (
       l .inv .0,
       reach-more (pairAfter (now (a .word)) (now (a .next)) (now (a .power))) (a .n) (a .start) (l .i) (l .set) (l .list)
-          (l .count) (l .inv .1) _ _ _ (omega arith) (c .spread .ensures),
+          (l .count) (l .inv .1) _ _ _ (omega arith) (c .put-targets .ensures),
     )
 
 returns : tie.Need-returns Inv-loop μ-loop
@@ -78,7 +78,7 @@ reach-spec =
     loop-holds
     mul-x
     array-read-x
-    spread-requires
+    put-targets-requires
     add-i
     loop-less
     loop-again

@@ -5,8 +5,8 @@ use native.Mathlib.Omega.{arith}
 use borrow.Author.Needs.{needs}
 use Rattle.table.specs.Obeying.{pairAfter, Grown}
 use Rattle.table.proofs.PairQueue.{grown-none, grown-more}
-use Rattle.table.proofs.obeying.spread.Statement.{statement}
-use Rattle.table.proofs.obeying.spread.Tie as tie
+use Rattle.table.proofs.obeying.put_targets.Statement.{statement}
+use Rattle.table.proofs.obeying.put_targets.Tie as tie
 
 abbrev Inv-loop : tie.InvT-loop
 Inv-loop word next power n x m set₀ list₀ count₀ d₀ set list count d =
@@ -44,8 +44,8 @@ returns c =
     let e : l .d ≡ c .before .before .args .n = omega arith in
     rw (← e) (l .inv .1)
 
-pub spread-spec : {M : Type 1} → statement M
-spread-spec =
+pub put-targets-spec : {M : Type 1} → statement M
+put-targets-spec =
     tie.close
     (tie.spec
     Inv-loop
