@@ -8,3 +8,6 @@ pub mod Texts
 pub mod Lines
 pub mod ListingIs
 pub mod RefusalText
+pub mod CompileSteps
+pub mod CompileTable
+pub mod Onward

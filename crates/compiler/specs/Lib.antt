@@ -3,3 +3,4 @@ pub mod Compile
 pub mod Listing
 pub mod JobValues
 pub mod Texts
+pub mod Stages
