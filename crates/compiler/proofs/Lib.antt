@@ -4,3 +4,10 @@ pub mod Compile
 pub mod Accepted
 pub mod Promises
 pub mod JobSteps
+pub mod Texts
+pub mod Lines
+pub mod ListingIs
+pub mod RefusalText
+pub mod CompileSteps
+pub mod CompileTable
+pub mod Onward

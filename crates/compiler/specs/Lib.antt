@@ -2,3 +2,5 @@ pub mod Jobs
 pub mod Compile
 pub mod Listing
 pub mod JobValues
+pub mod Texts
+pub mod Stages

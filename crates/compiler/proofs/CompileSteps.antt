@@ -1,0 +1,213 @@
+-- Compiling stage by stage: what each stage of the code needs, and what compiling comes to at each of its returns.
+-- In order: compile-none, compile-heavy, compile-crowded, compile-table; crowded-stays; has-states, held-powers, held-component;
+-- begun-splits, begun-crowded, begun-room, begun-short, begun-work, begun-finished.
+-- Assumes nothing.
+use mathlib.Core.Path.{_≡_, sym, ap, ap₂, subst, _∙_}
+use mathlib.Core.Bool.{Bool, true, false, not, _&&_}
+use mathlib.Core.List.{List, [], _∷_}
+use Prim.Native.Nat.{ℕ, zero, suc, _+_, _*_, _^_, _≤_, _<_}
+use native.Mathlib.Omega.{arith}
+use borrow.Author.Tests.{lt-ltb, le-leb, lt-leb, ltb-false}
+use lib.Dec.{ltb, leb}
+use lib.ListN.{length, getD, length-map}
+use lib.Pow.{pow-mono}
+use Rattle.laws.specs.Lists.{sum, range}
+use Rattle.laws.proofs.Tests.{length-from}
+use Rattle.answer.specs.declared.Refusal.{Refusal}
+use Rattle.answer.specs.declared.Refusal.the-variants.{NoCode, TooHeavy, TooManyEdges, NoWindow}
+use Rattle.answer.specs.Outcomes.{Outcome, done, refused, unless}
+use Rattle.answer.proofs.Outcomes.{unless-false}
+use Rattle.constraint.specs.Walking.{Target, walk}
+use Rattle.constraint.specs.Value.{constraintOf}
+use Rattle.constraint.specs.PowerTable.{powerCodes, codeOf, powerTable}
+use Rattle.constraint.proofs.Walking.{walk-target}
+use Rattle.constraint.proofs.Values.{length-constraintOf}
+use Rattle.constraint.proofs.PowerTable.{codes-at, length-power}
+use mathlib.Core.Logic.{inl}
+use Rattle.table.specs.Rows.{at}
+use Rattle.table.specs.Search.{window}
+use Rattle.graph.specs.declared.Graph.{Graph}
+use Rattle.graph.specs.declared.split_graph.NextGraph.{NextGraph}
+use Rattle.graph.specs.declared.component_graph.ComponentAnswer.{ComponentAnswer}
+use Rattle.graph.specs.Weights.{weights}
+use Rattle.graph.specs.ComponentParts.{FoundIn}
+use Rattle.graph.specs.Arcs.{Work, out}
+use Rattle.graph.specs.Splitting.{crowded, unfinished, splits, splitAll}
+use Rattle.graph.specs.Invariant.{Inv}
+use Rattle.graph.specs.Value.{arcsIn, workIn}
+use Rattle.graph.specs.PowerTable.{tabled, Powers}
+use Rattle.graph.specs.SplitParts.{Splits, SplitAllInto}
+use Rattle.graph.specs.TableParts.{Finished}
+use Rattle.graph.proofs.CodeTabled.{tabled-power}
+use Rattle.graph.proofs.Loop.{splits-off, splitted-end}
+use Rattle.compiler.specs.declared.JobValue.{JobValue}
+use Rattle.compiler.specs.Jobs.{Job, Allowed}
+use Rattle.compiler.specs.Compile.{ways, graphOf, weightsOf, componentOf, finishedOf, tableFor, code, compile}
+use Rattle.compiler.specs.JobValues.{jobIn, JobReady}
+use Rattle.compiler.specs.Stages.{Begun}
+use Rattle.compiler.proofs.Compiled.{live-some, first-inv}
+use Rattle.compiler.proofs.Compile.{ways-pos}
+use Rattle.compiler.proofs.Promises.{split-ends}
+
+-- ---- the outcome at each return
+go : {A : Type 0} (r : Refusal) (b : Bool) (x : Outcome A) → b ≡ true → unless r b x ≡ x
+go r b x e = ap (λ c. unless r c x) e
+
+module _ (j : Job) where
+  pub compile-none : sum (componentOf j .weights) ≡ 0 → compile j ≡ refused NoCode
+  unfolding compile
+  compile-none z = unless-false NoCode _ _ (ap (ltb 0) z)
+
+  module _ (h : 0 < sum (componentOf j .weights)) where
+    pub compile-heavy : 128 < sum (componentOf j .weights) → compile j ≡ refused TooHeavy
+    unfolding compile
+    compile-heavy g = go NoCode _ _ (lt-ltb _ _ h) ∙ unless-false TooHeavy _ _ (lt-leb _ _ g)
+
+    module _ (l : sum (componentOf j .weights) ≤ 128) where
+      pub compile-crowded : crowded (finishedOf j) ≡ true → compile j ≡ refused TooManyEdges
+      unfolding compile
+      compile-crowded e =
+          go NoCode _ _ (lt-ltb _ _ h) ∙ go TooHeavy _ _ (le-leb _ _ l)
+          ∙ unless-false TooManyEdges _ _ (ap not e)
+
+      pub compile-table : crowded (finishedOf j) ≡ false
+          → compile j ≡ unless NoWindow (leb (window (tableFor j) .memory) 15) (done (code j (tableFor j)))
+      unfolding compile
+      compile-table e =
+          go NoCode _ _ (lt-ltb _ _ h) ∙ go TooHeavy _ _ (le-leb _ _ l) ∙ go TooManyEdges _ _ (ap not e)
+
+-- a graph with too many edges is not split
+stays : (k n : ℕ) (x : Work) → crowded x ≡ true → crowded (splits k n x) ≡ true
+unfolding splits
+stays zero n x e = e
+stays (suc k) n x e = ap crowded (splits-off k n x (ap (λ b. not b && unfinished n x) e)) ∙ e
+
+pub crowded-stays : (n : ℕ) (x : Work) → crowded x ≡ true → crowded (splitAll n x) ≡ true
+unfolding splitAll
+crowded-stays n x e = stays (sum (x .weights)) n x e
+
+-- ---- the power table of a job
+module _ (j : JobValue) (r : JobReady j) where
+  pub has-states : 0 < j .constraint .states
+  has-states = let k = r .allowed .k₁ in let l = length-constraintOf (j .constraint) in omega arith
+
+  words-few : 2 ^ j .q ≤ 256
+  words-few = let h : 2 ^ j .q ≤ 2 ^ 8 = pow-mono (r .allowed .q₂) in omega arith
+
+  leads : (s w : ℕ) → s < j .constraint .states → w < 2 ^ j .q
+      → getD (powerCodes (constraintOf (j .constraint)) (j .q)) (s * 256 + w) 0
+      ≡ walk (constraintOf (j .constraint)) (j .q) w s
+  leads s w h l =
+      let k = r .limits in
+      codes-at (constraintOf (j .constraint)) (j .q) s w words-few (rw (length-constraintOf (j .constraint)) h)
+      (omega arith) l
+
+  job-powers : Powers (powerCodes (constraintOf (j .constraint)) (j .q)) (2 ^ j .q) (j .constraint .states)
+  job-powers = record {
+    long = length-map (powerTable (constraintOf (j .constraint)) (j .q)) codeOf
+        ∙ length-power (constraintOf (j .constraint)) (j .q);
+    states = r .limits;
+    few = words-few;
+    leads = λ s w h l.
+        let K = length-constraintOf (j .constraint) in
+        let h' : s < length (constraintOf (j .constraint)) = rw K h in
+        subst (λ k. Target k (getD (powerCodes (constraintOf (j .constraint)) (j .q)) (s * 256 + w) 0)) K
+        (subst (Target (length (constraintOf (j .constraint)))) (sym (leads s w h l))
+        (walk-target (constraintOf (j .constraint)) (r .allowed .well) (j .q) w s (inl h')));
+  }
+
+  job-tabled : tabled (powerCodes (constraintOf (j .constraint)) (j .q)) (2 ^ j .q) (j .constraint .states)
+      ≡ graphOf (jobIn j)
+  job-tabled =
+      let c = constraintOf (j .constraint) in
+      let K = length-constraintOf (j .constraint) in
+      ap (tabled (powerCodes c (j .q)) (2 ^ j .q)) (sym K)
+      ∙ tabled-power c (j .q) (powerCodes c (j .q)) (λ s w h l. leads s w (rw K at h) l)
+
+  -- the same of the table that the code holds
+  module _ (P : List ℕ) (words : ℕ) (e : P ≡ powerCodes (constraintOf (j .constraint)) (j .q)) (f : words ≡ 2 ^ j .q)
+      where
+    pub held-powers : Powers P words (j .constraint .states)
+    held-powers =
+        subst (λ X. Powers X words (j .constraint .states)) (sym e)
+        (subst (λ w. Powers (powerCodes (constraintOf (j .constraint)) (j .q)) w (j .constraint .states)) (sym f)
+            job-powers)
+
+    held-tabled : tabled P words (j .constraint .states) ≡ graphOf (jobIn j)
+    held-tabled = ap₂ (λ X w. tabled X w (j .constraint .states)) e f ∙ job-tabled
+
+    -- THEOREM: the component that the code finds is the job's
+    pub held-component : (n : ℕ) (v : List ℕ) (x : ComponentAnswer) → n ≡ ways (jobIn j)
+        → v ≡ weights n (j .cap) (j .constraint .states) (tabled P words (j .constraint .states))
+        → FoundIn v (tabled P words (j .constraint .states)) x → FoundIn (weightsOf (jobIn j)) (graphOf (jobIn j)) x
+    held-component n v x p q h =
+        let g = tabled P words (j .constraint .states) in
+        let K = length-constraintOf (j .constraint) in
+        let w : v ≡ weightsOf (jobIn j) =
+                q ∙ ap₂ (λ m k. weights m (j .cap) k g) p (sym K)
+                ∙ ap (weights (ways (jobIn j)) (j .cap) (length (jobIn j .constraint))) held-tabled in
+        subst (λ y. FoundIn y (graphOf (jobIn j)) x) w (subst (λ y. FoundIn v y x) held-tabled h)
+
+-- ---- the component, split to the end
+module _ (j : Job) (a : Allowed j) (n : ℕ) (g : Graph) (start : ℕ) (b : Begun j n g start) where
+  inv : Inv (ways j) (sum (componentOf j .weights)) (componentOf j)
+  inv =
+      let (z, ez) = live-some (j .constraint) (a .well) (ways j) (j .q) (j .cap) (ways-pos j) (b .some) in
+      first-inv (j .constraint) (a .well) (ways j) (j .q) (j .cap) (ways-pos j) z ez
+
+  few : n ≤ 16
+  few = let e = b .count in let h : 2 ^ j .p ≤ 2 ^ 4 = pow-mono (a .p₂) in omega arith
+
+  same : splitAll n (workIn g) ≡ finishedOf j
+  same = ap₂ splitAll (b .count) (b .work)
+
+  pub begun-splits : Splits n g
+  begun-splits = record {
+    fits = b .fits;
+    some = let e = b .count in let h = ways-pos j in omega arith;
+    few = few;
+    inv = subst (λ x. Inv n (sum (x .weights)) x) (sym (b .work))
+        (subst (λ m. Inv m (sum (componentOf j .weights)) (componentOf j)) (sym (b .count)) inv);
+    weighs = subst (λ x. sum (x .weights) ≤ 128) (sym (b .work)) (b .light);
+  }
+
+  module _ (r : NextGraph) (s : SplitAllInto n g r) where
+    pub begun-crowded : r .crowded ≡ true → crowded (finishedOf j) ≡ true
+    begun-crowded e = ap crowded (sym same) ∙ sym (s .crowds) ∙ e
+
+    module _ (e : r .crowded ≡ false) where
+      pub begun-room : crowded (finishedOf j) ≡ false
+      begun-room = ap crowded (sym same) ∙ sym (s .crowds) ∙ e
+
+      pub begun-short : length (finishedOf j .arcs) ≤ 2048
+      begun-short = ltb-false 2048 (length (finishedOf j .arcs)) begun-room
+
+      pub begun-work : workIn (r .graph) ≡ finishedOf j
+      begun-work = s .work e ∙ same
+
+      states : length (finishedOf j .weights) ≡ r .graph .states
+      states = ap (λ x. length (x .weights)) (sym begun-work) ∙ length-map (range (r .graph .states)) _
+          ∙ length-from 0 (r .graph .states)
+
+      pub begun-finished : Finished n (r .graph)
+      begun-finished = record {
+        fits = s .fits e;
+        some = rw (← states) (positive (finishedOf j .weights) (whole (finishedOf j)));
+        few = few;
+        full = λ t h. full t h;
+      }
+        where
+          whole : (x : Work) → 0 < sum (finishedOf j .weights)
+          whole x = let I = splitted-end (ways j) (sum (componentOf j .weights)) (ways-pos j) (componentOf j) inv .0 in
+              let w = I .whole in let h = b .some in omega arith
+
+          positive : (v : List ℕ) → 0 < sum v → 0 < length v
+          positive [] h = absurd (omega arith)
+          positive (x ∷ v) h = omega arith
+
+          full : (t : ℕ) → t < r .graph .states → n ≤ length (out (arcsIn (r .graph)) t)
+          full t h =
+              let l : t < length (finishedOf j .weights) = rw states h in
+              subst (λ x. n ≤ length (out (x .arcs) t)) (sym begun-work)
+              (subst (λ m. m ≤ length (out (finishedOf j .arcs) t)) (sym (b .count))
+              (split-ends j a (b .some) .1 begun-short t l))

@@ -1,0 +1,138 @@
+-- The table that compiling in code makes, and its window.
+-- In order: tableBy, table-rows, table-ready, table-code; windowed-none, windowed-found, listed-with.
+-- Assumes nothing.
+use mathlib.Core.Path.{_≡_, sym, ap, ap₂, subst, _∙_}
+use mathlib.Core.Bool.{Bool, true, false}
+use Prim.Native.Nat.{ℕ, _^_, _≤_, _<_}
+use native.Mathlib.Omega.{arith}
+use borrow.Author.Tests.{le-leb, lt-leb}
+use lib.Dec.{leb}
+use lib.ListN.{length}
+use Rattle.answer.specs.declared.Refusal.the-variants.{NoWindow}
+use Rattle.answer.specs.Outcomes.{Outcome, done, refused, unless}
+use Rattle.answer.proofs.Outcomes.{unless-false}
+use Rattle.table.specs.declared.Table.{Table}
+use Rattle.table.specs.declared.least.Found.{Found}
+use Rattle.table.specs.Rows.{Size, Code, edge, at}
+use Rattle.table.specs.Search.{window}
+use Rattle.table.specs.Edges.{lent}
+use Rattle.table.specs.Steps.{foundSize}
+use Rattle.table.specs.Value.{wordAt, nextAt, rowsIn, codeIn, Ready}
+use Rattle.table.proofs.RowsOf.{length-rows, edge-at}
+use Rattle.graph.specs.declared.Graph.{Graph}
+use Rattle.graph.specs.declared.split_graph.NextGraph.{NextGraph}
+use Rattle.graph.specs.declared.finish_table.TableRows.{TableRows}
+use Rattle.graph.specs.Splitting.{crowded}
+use Rattle.graph.specs.TableOf.{tableOf}
+use Rattle.graph.specs.SplitParts.{SplitAllInto}
+use Rattle.graph.specs.TableParts.{TableIn, rowsOfTable}
+use Rattle.compiler.specs.declared.JobValue.{JobValue}
+use Rattle.compiler.specs.Compile.{tableFor, compile}
+use Rattle.compiler.specs.JobValues.{jobIn, JobReady}
+use Rattle.compiler.specs.Texts.{Listed}
+use Rattle.compiler.specs.Stages.{windowed, Begun, withSize}
+use Rattle.compiler.proofs.Accepted.{Made, made, window-found}
+use Rattle.compiler.proofs.CompileSteps.{compile-table, begun-room, begun-work, begun-short}
+
+-- the table with these rows, and no window yet
+abbrev pub tableBy : JobValue → ℕ → TableRows → Table
+tableBy j start rows = record {
+  p = j .p;
+  q = j .q;
+  states = rows .states;
+  memory = 0;
+  lookahead = 0;
+  constraint = j .constraint;
+  start = start;
+  word = rows .word;
+  next = rows .next;
+}
+
+module _ (j : JobValue) (a : JobReady j) (n : ℕ) (g : Graph) (start : ℕ) (b : Begun (jobIn j) n g start)
+    (r : NextGraph) (s : SplitAllInto n g r) (e : r .crowded ≡ false) (rows : TableRows)
+        (i : TableIn n (r .graph) rows)
+    where
+  abbrev t : Table
+  t = tableBy j start rows
+
+  table-rows : rowsIn t ≡ tableFor (jobIn j)
+  table-rows =
+      ap (λ m. rowsOfTable m rows) (sym (b .count)) ∙ i .rows
+      ∙ ap₂ tableOf (b .count) (begun-work (jobIn j) (a .allowed) n g start b r s e)
+
+  made-so : Made (jobIn j)
+  made-so =
+      made (jobIn j) (a .allowed) (b .some) (b .light) (begun-short (jobIn j) (a .allowed) n g start b r s e)
+
+  long : length (tableFor (jobIn j)) ≡ rows .states
+  long = ap length (sym table-rows) ∙ length-rows (lent t)
+
+  at-is : (x d : ℕ) → x < rows .states → d < 2 ^ j .p → at (tableFor (jobIn j)) x d ≡ edge (wordAt t x d)
+      (nextAt t x d)
+  at-is x d h l = ap (λ T. at T x d) (sym table-rows) ∙ edge-at (lent t) x d h l
+
+  -- THEOREM: the table can be searched, written and listed
+  pub table-ready : Ready t
+  table-ready =
+      let m = made-so in
+      record {
+        some = subst (λ k. 1 ≤ k) long (m .table .some);
+        few = i .few;
+        narrow = a .allowed .p₂;
+        short = a .allowed .q₂;
+        reading = λ x d h l. subst (λ z. z .word < 2 ^ j .q) (at-is x d h l)
+            (m .table .over x d (subst (λ k. x < k) (sym long) h) l .1 .2);
+        inside = λ x d h l. subst (λ k. nextAt t x d < k) long (subst (λ z. z .next < length (tableFor (jobIn j)))
+            (at-is x d h l) (m .table .next x d (subst (λ k. x < k) (sym long) h) l));
+        limits = a .limits;
+      }
+
+  -- THEOREM: what compiling comes to is the table with its window
+  pub table-code : windowed (codeIn t) ≡ compile (jobIn j)
+  table-code =
+      ap₂ (λ z T. unless NoWindow (leb (window T .memory) 15) (done (record {
+        p = j .p; q = j .q; window = window T; constraint = jobIn j .constraint; start = z; table = T }))) (b .first)
+            table-rows
+      ∙ sym (compile-table (jobIn j) (b .some) (b .light) (begun-room (jobIn j) (a .allowed) n g start b r s e))
+
+-- ---- the window
+passed : (b : Bool) (x : Outcome Code) → b ≡ true → unless NoWindow b x ≡ x
+passed b x e = ap (λ c. unless NoWindow c x) e
+
+module _ (t : Table) (w : Found) (e : foundSize w ≡ window (rowsIn t)) where
+  pub windowed-none : (m : ℕ) → m ≡ foundSize w .memory → 15 < m → windowed (codeIn t) ≡ refused NoWindow
+  windowed-none m q h =
+      let z : m ≡ window (rowsIn t) .memory = q ∙ ap (λ x. x .memory) e in
+      unless-false NoWindow _ _ (lt-leb _ _ (subst (λ k. 15 < k) z h))
+
+  module _ (m a : ℕ) (q : m ≡ foundSize w .memory) (p : a ≡ foundSize w .lookahead) (h : m ≤ 15) where
+    size-is : window (rowsIn t) ≡ record { memory = m; lookahead = a }
+    size-is = sym e ∙ ap₂ {C = Size} (λ x y. record { memory = x; lookahead = y }) (sym q) (sym p)
+
+    small : window (rowsIn t) .memory ≤ 15
+    small = subst (λ k. k ≤ 15) (q ∙ ap (λ x. x .memory) e) h
+
+    -- THEOREM: the table with the window that was found
+    pub windowed-found : done (codeIn (withSize t m a)) ≡ windowed (codeIn t)
+    windowed-found =
+        ap (λ z. done (record { p = t .p; q = t .q; window = z; constraint = codeIn t .constraint; start = t .start;
+          table = rowsIn t })) (sym size-is)
+        ∙ sym (passed (leb (window (rowsIn t) .memory) 15) _ (le-leb _ _ small))
+
+    pub listed-with : Ready t → Listed (withSize t m a)
+    listed-with r = record {
+      ready = record {
+        some = r .some;
+        few = r .few;
+        narrow = r .narrow;
+        short = r .short;
+        reading = r .reading;
+        inside = r .inside;
+        limits = r .limits;
+      };
+      memory = h;
+      lookahead =
+          let k : a ≡ window (rowsIn t) .lookahead = p ∙ ap (λ x. x .lookahead) e in
+          let l = window-found (rowsIn t) small .0 in
+          omega arith;
+    }

@@ -1,0 +1,62 @@
+-- A reading that goes on: what the next stage comes to after a verdict.
+-- In order: read-bad, read-done; job-bad, job-done; ends-bad, goes-on; listed-so.
+-- Assumes nothing.
+use mathlib.Core.Path.{_≡_, refl, sym, ap, _∙_}
+use mathlib.Core.List.{List}
+use Prim.Native.Nat.{ℕ}
+use Rattle.answer.specs.declared.Refusal.{Refusal}
+use Rattle.answer.specs.declared.Answer.{Answer}
+use Rattle.answer.specs.declared.Answer.the-variants.{Refused}
+use Rattle.answer.specs.Outcomes.{Outcome, done, refused, onward, fitting, answerOf, outputOf}
+use Rattle.table.specs.Rows.{Code}
+use Rattle.table.specs.Value.{codeIn}
+use Rattle.record.specs.declared.Verdict.the-variants.{Read, Bad}
+use Rattle.record.specs.declared.Reading.{Reading}
+use Rattle.record.specs.Checks.{verdictOf, outcomeIn}
+use Rattle.compiler.specs.declared.JobReading.{JobReading}
+use Rattle.compiler.specs.Jobs.{Job, readRunLength}
+use Rattle.compiler.specs.Compile.{compile}
+use Rattle.compiler.specs.JobValues.{jobIn, verdictOn, jobOutcome}
+use Rattle.compiler.specs.Listing.{listing, listInto}
+use Rattle.compiler.specs.Stages.{listedInto}
+
+-- ---- what a verdict says
+pub read-bad : (r : Reading) (o : Outcome Code) (x : Refusal) → outcomeIn r ≡ o → r .verdict ≡ Bad x → o ≡ refused x
+read-bad r o x e q = sym e ∙ ap (λ v. verdictOf v (codeIn (r .table))) q
+
+pub read-done : (r : Reading) (o : Outcome Code) → outcomeIn r ≡ o → r .verdict ≡ Read → o ≡ done (codeIn (r .table))
+read-done r o e q = sym e ∙ ap (λ v. verdictOf v (codeIn (r .table))) q
+
+pub job-bad : (r : JobReading) (o : Outcome Job) (x : Refusal) → jobOutcome r ≡ o → r .verdict ≡ Bad x → o ≡ refused x
+job-bad r o x e q = sym e ∙ ap (λ v. verdictOn v (jobIn (r .job))) q
+
+pub job-done : (r : JobReading) (o : Outcome Job) → jobOutcome r ≡ o → r .verdict ≡ Read → o ≡ done (jobIn (r .job))
+job-done r o e q = sym e ∙ ap (λ v. verdictOn v (jobIn (r .job))) q
+
+-- ---- what the next stage comes to
+module _ {A : Type 0} (o : Outcome A) (f : A → Outcome (List ℕ)) (B : List ℕ) where
+  pub ends-bad : (x : Refusal) → o ≡ refused x
+      → (Refused x ≡ answerOf (onward o f)) × (B ≡ outputOf (onward o f) B)
+  ends-bad x e = (ap (λ p. answerOf (onward p f)) (sym e), ap (λ p. outputOf (onward p f) B) (sym e))
+
+  pub goes-on : (a : A) (r : Answer) (C : List ℕ) → o ≡ done a → r ≡ answerOf (f a) → C ≡ outputOf (f a) B
+      → (r ≡ answerOf (onward o f)) × (C ≡ outputOf (onward o f) B)
+  goes-on a r C e p q =
+      (p ∙ ap (λ z. answerOf (onward z f)) (sym e), q ∙ ap (λ z. outputOf (onward z f) B) (sym e))
+
+-- a listing is the reading of the job, and then the listing of its code
+list-onward : (xs : List ℕ) (room : ℕ) → onward (readRunLength xs) (listedInto room) ≡ listInto xs room
+unfolding listInto
+list-onward xs room = go (readRunLength xs)
+  where
+    go : (o : Outcome Job) → onward o (listedInto room) ≡ onward (onward o compile) (λ c. fitting room (listing c))
+    go (done j) = refl
+    go (refused r) = refl
+
+pub listed-so : (xs : List ℕ) (room : ℕ) (B C : List ℕ) (r : Answer)
+    → (r ≡ answerOf (onward (readRunLength xs) (listedInto room)))
+    × (C ≡ outputOf (onward (readRunLength xs) (listedInto room)) B)
+    → (r ≡ answerOf (listInto xs room)) × (C ≡ outputOf (listInto xs room) B)
+listed-so xs room B C r (p, q) =
+    let e = list-onward xs room in
+    (p ∙ ap answerOf e, q ∙ ap (λ o. outputOf o B) e)

@@ -1,0 +1,58 @@
+-- `compile_job` meets its contract: a refusal of the bytes ends the call, and a job that was read goes on.
+-- Assumes nothing.
+use denote.Ref.{now}
+use lib.ListN.{length}
+use Rattle.compiler.specs.Jobs.{readJob}
+use Rattle.compiler.specs.Compile.{compileInto, compileJob}
+use Rattle.compiler.proofs.Onward.{job-bad, job-done, ends-bad, goes-on}
+use borrow.Author.Needs.{needs}
+use borrow.Author.Needs.{needs}
+use Rattle.compiler.proofs.bytes.compile_job.Statement.{statement}
+use Rattle.compiler.proofs.bytes.compile_job.Tie as tie
+
+read-job-requires : tie.Need-read-job-requires
+read-job-requires c κs = search needs
+
+enum-known-v : tie.Need-enum-known-v
+enum-known-v c = search needs
+
+enum-told : tie.Need-enum-told
+enum-told c = search needs
+
+compile-into-requires : tie.Need-compile-into-requires
+compile-into-requires c κs = c .before .before .before .before .read-job .ensures .1 (c .before .enum-told .given .1)
+
+returns : tie.Need-returns
+unfolding compileJob
+returns c =
+    let k = c .before .before .before .before .read-job in
+    let a = c .before .before .before .before .before .before .before .args in
+    let o = now (a .out) in
+    ends-bad (readJob (now (a .job))) (compileInto (length o)) o _
+        (job-bad (k .result) _ _ (k .ensures .0) (c .before .v .given .1))
+
+same-length : tie.Need-same-length
+same-length c = search needs
+
+returns-2 : tie.Need-returns-2
+unfolding compileJob
+returns-2 c =
+    let w = c .before .before .compile-into in
+    let k = c .before .before .before .before .before .before .before .read-job in
+    let a = c .before .before .before .before .before .before .before .before .before .before .args in
+    let o = now (a .out) in
+    goes-on (readJob (now (a .job))) (compileInto (length o)) o _ (w .result) _
+    (job-done (k .result) _ (k .ensures .0) (c .before .before .before .before .enum-told .given .1)) (w .ensures .0)
+        (w .ensures .1)
+
+pub compile-job-spec : {M : Type 1} → statement M
+compile-job-spec =
+    tie.close
+    (tie.spec
+    read-job-requires
+    enum-known-v
+    enum-told
+    compile-into-requires
+    returns
+    same-length
+    returns-2)

@@ -1,0 +1,59 @@
+-- `compile_run_length` meets its contract: a refusal of the bytes ends the call, and a job that was read goes on.
+-- Assumes nothing.
+use denote.Ref.{now}
+use lib.ListN.{length}
+use Rattle.compiler.specs.Jobs.{readRunLength}
+use Rattle.compiler.specs.Compile.{compileInto, compileRunLength}
+use Rattle.compiler.proofs.Onward.{job-bad, job-done, ends-bad, goes-on}
+use borrow.Author.Needs.{needs}
+use borrow.Author.Needs.{needs}
+use Rattle.compiler.proofs.bytes.compile_run_length.Statement.{statement}
+use Rattle.compiler.proofs.bytes.compile_run_length.Tie as tie
+
+read-run-length-requires : tie.Need-read-run-length-requires
+read-run-length-requires c κs = search needs
+
+enum-known-v : tie.Need-enum-known-v
+enum-known-v c = search needs
+
+enum-told : tie.Need-enum-told
+enum-told c = search needs
+
+compile-into-requires : tie.Need-compile-into-requires
+compile-into-requires c κs =
+    c .before .before .before .before .read-run-length .ensures .1 (c .before .enum-told .given .1)
+
+returns : tie.Need-returns
+unfolding compileRunLength
+returns c =
+    let k = c .before .before .before .before .read-run-length in
+    let a = c .before .before .before .before .before .before .before .args in
+    let o = now (a .out) in
+    ends-bad (readRunLength (now (a .job))) (compileInto (length o)) o _
+        (job-bad (k .result) _ _ (k .ensures .0) (c .before .v .given .1))
+
+same-length : tie.Need-same-length
+same-length c = search needs
+
+returns-2 : tie.Need-returns-2
+unfolding compileRunLength
+returns-2 c =
+    let w = c .before .before .compile-into in
+    let k = c .before .before .before .before .before .before .before .read-run-length in
+    let a = c .before .before .before .before .before .before .before .before .before .before .args in
+    let o = now (a .out) in
+    goes-on (readRunLength (now (a .job))) (compileInto (length o)) o _ (w .result) _
+    (job-done (k .result) _ (k .ensures .0) (c .before .before .before .before .enum-told .given .1)) (w .ensures .0)
+        (w .ensures .1)
+
+pub compile-run-length-spec : {M : Type 1} → statement M
+compile-run-length-spec =
+    tie.close
+    (tie.spec
+    read-run-length-requires
+    enum-known-v
+    enum-told
+    compile-into-requires
+    returns
+    same-length
+    returns-2)

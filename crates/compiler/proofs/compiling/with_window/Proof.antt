@@ -1,0 +1,59 @@
+-- `with_window` meets its contract: the search finds the least window, and memory 16 stands for none.
+-- Assumes nothing.
+use mathlib.Core.Path.{sym, ap, subst, _∙_}
+use Rattle.answer.specs.Outcomes.{done}
+use Rattle.table.specs.Value.{codeIn}
+use Rattle.compiler.specs.Texts.{Listed}
+use Rattle.compiler.proofs.CompileTable.{windowed-none, windowed-found, listed-with}
+use borrow.Author.Needs.{needs}
+use borrow.Author.Needs.{needs}
+use Rattle.compiler.proofs.compiling.with_window.Statement.{statement}
+use Rattle.compiler.proofs.compiling.with_window.Tie as tie
+
+least-window-requires : tie.Need-least-window-requires
+least-window-requires c κs = c .pre
+
+memory-of-requires : tie.Need-memory-of-requires
+memory-of-requires c κs = search needs
+
+bad-requires : tie.Need-bad-requires
+bad-requires c κs = search needs
+
+returns : tie.Need-returns
+returns c =
+    let l = c .before .before .before in
+    (c .bad .ensures .0
+    ∙ sym (windowed-none (l .before .args .t) (l .least-window .result) (l .least-window .ensures) _
+        (c .before .before .memory-of .ensures) (c .before .if1 .taken)),
+    λ e. absurd (c .bad .ensures .1 e))
+
+lookahead-of-requires : tie.Need-lookahead-of-requires
+lookahead-of-requires c κs = search needs
+
+with-size-requires : tie.Need-with-size-requires
+with-size-requires c κs = search needs
+
+returns-2 : tie.Need-returns-2
+returns-2 c =
+    let l = c .before .before .before .before in
+    let t = l .before .args .t in
+    let m = c .before .before .before .memory-of in
+    let a = c .before .lookahead-of in
+    (ap (λ x. done (codeIn x)) (c .with-size .ensures)
+    ∙ windowed-found t (l .least-window .result) (l .least-window .ensures) _ _ (m .ensures) (a .ensures)
+        (c .before .before .if1 .left),
+    λ e. subst Listed (sym (c .with-size .ensures))
+    (listed-with t (l .least-window .result) (l .least-window .ensures) _ _ (m .ensures) (a .ensures)
+        (c .before .before .if1 .left) (l .before .pre)))
+
+pub with-window-spec : {M : Type 1} → statement M
+with-window-spec =
+    tie.close
+    (tie.spec
+    least-window-requires
+    memory-of-requires
+    bad-requires
+    returns
+    lookahead-of-requires
+    with-size-requires
+    returns-2)
