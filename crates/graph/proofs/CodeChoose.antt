@@ -1,24 +1,23 @@
 -- The greatest weight and the state to split, each by one loop.
 -- In order: greatest-more; Lowest, the lowest source of an edge that passes; lowest-none, lowest-more; choose-is.
 -- Assumes nothing.
-use mathlib.Core.Path.{_≡_, refl, sym, ap, ap₂, subst, _∙_}
+use mathlib.Core.Path.{_≡_, refl, sym, ap, subst, _∙_}
 use mathlib.Core.Logic.{_⊎_, inl, inr}
 use mathlib.Core.Bool.{Bool, true, false, _&&_}
 use mathlib.Core.List.{List, [], _∷_, _++_, map}
-use Prim.Native.Nat.{ℕ, zero, suc, _+_, _≤_, _<_, max, min}
+use Prim.Native.Nat.{ℕ, _+_, _≤_, _<_, max, min}
 use native.Mathlib.Omega.{arith}
 use native.Mathlib.Decide.{ℕ-discrete}
 use lib.Dec.{T, ltb, eqb, eqb→eq, eqb-refl}
 use lib.ListN.{length, getD}
-use Rattle.laws.specs.Lists.{if_then_else_, range, any, first}
+use Rattle.laws.specs.Lists.{if_then_else_, range, any}
 use Rattle.laws.proofs.Tests.{and→, →and, any→, →any, any-below→, T→true, map-range-at}
 use Rattle.laws.proofs.Anys.{any-filter}
 use Rattle.graph.specs.declared.Graph.{Graph}
-use Rattle.graph.specs.Arcs.{Arc, arc, leaves, out}
+use Rattle.graph.specs.Arcs.{arc, leaves, out}
 use Rattle.graph.specs.Splitting.{greatest, lighter, splittable, chosen}
 use Rattle.graph.specs.Value.{arcAt, arcsIn, weightAt, weightsIn}
 use Rattle.graph.specs.EdgeKeys.{Fits}
-use Rattle.graph.specs.SplitParts.{lowerSource}
 use Rattle.graph.proofs.CodeLists.{length-map-range, map-range-more}
 use Rattle.graph.proofs.CodeFind.{first-least}
 
@@ -63,6 +62,7 @@ module _ (hit : ℕ → Bool) (source : ℕ → ℕ) (i best : ℕ) (w : Lowest 
           pick (yes l) = inr (i, omega arith, rw q tt, omega arith)
           pick (no l) = let u : best ≡ b = omega arith in
               subst (λ x. (x ≡ 128) ⊎ ((k : ℕ) × (k < i + 1) × T (hit k) × (source k ≡ x))) u (keep (w .found))
+
       go : (b : Bool) → hit i ≡ b → Lowest hit source (i + 1) (if b then min best (source i) else best)
       go true q = less (min best (source i)) q refl
       go false q = record { low = low-more best (omega arith) (λ t. absurd (subst T q t)); found = keep (w .found) }
@@ -89,14 +89,14 @@ module _ (g : Graph) (M : ℕ) where
         let (a, b) = and→ (eqb (weightAt g (sourceAt k)) M) (ltb (weightAt g (getD (g .target) k 0)) M) t in
         let at : getD (arcsIn g) k (arc 0 0 0) ≡ arcAt g k = map-range-at (arcAt g) (g .edges) k (arc 0 0 0) h in
         let light : T (lighter v (greatest v) (arcAt g k)) =
-            rw (weigh (getD (g .target) k 0) (f .target k h), ← e) b in
+        rw (weigh (getD (g .target) k 0) (f .target k h), ← e) b in
         →and (eqb (getD v (sourceAt k) 0) (greatest v)) (any (lighter v (greatest v)) (out (arcsIn g) (sourceAt k)))
         (rw (weigh (sourceAt k) (f .source k h), ← e) a)
         (rw (any-filter (lighter v (greatest v)) (leaves (sourceAt k)) (arcsIn g))
-            (→any (λ x. leaves (sourceAt k) x && lighter v (greatest v) x) (arc 0 0 0) (arcsIn g) k
-            (rw (length-map-range (arcAt g) (g .edges)) h)
-            (subst (λ x. T (leaves (sourceAt k) x && lighter v (greatest v) x)) (sym at)
-            (→and (eqb (sourceAt k) (sourceAt k)) (lighter v (greatest v) (arcAt g k)) (eqb-refl (sourceAt k)) light))))
+        (→any (λ x. leaves (sourceAt k) x && lighter v (greatest v) x) (arc 0 0 0) (arcsIn g) k
+        (rw (length-map-range (arcAt g) (g .edges)) h)
+        (subst (λ x. T (leaves (sourceAt k) x && lighter v (greatest v) x)) (sym at)
+        (→and (eqb (sourceAt k) (sourceAt k)) (lighter v (greatest v) (arcAt g k)) (eqb-refl (sourceAt k)) light))))
 
     -- a splittable state has such an edge
     splits→ : (s : ℕ) → s < g .states → T (splittable v (arcsIn g) s)
@@ -104,15 +104,19 @@ module _ (g : Graph) (M : ℕ) where
     splits→ s h t =
         let (a, b) = and→ (eqb (getD v s 0) (greatest v)) (any (lighter v (greatest v)) (out (arcsIn g) s)) t in
         let u : T (any (λ x. leaves s x && lighter v (greatest v) x) (arcsIn g)) =
-            rw (← any-filter (lighter v (greatest v)) (leaves s) (arcsIn g)) b in
+        rw (← any-filter (lighter v (greatest v)) (leaves s) (arcsIn g)) b in
         let (k, l, w) = any→ (λ x. leaves s x && lighter v (greatest v) x) (arc 0 0 0) (arcsIn g) u in
         let hk : k < g .edges = rw (length-map-range (arcAt g) (g .edges)) at l in
         let at : getD (arcsIn g) k (arc 0 0 0) ≡ arcAt g k = map-range-at (arcAt g) (g .edges) k (arc 0 0 0) hk in
         let (c, d) = and→ (leaves s (arcAt g k)) (lighter v (greatest v) (arcAt g k))
-            (subst (λ x. T (leaves s x && lighter v (greatest v) x)) at w) in
-        let q : sourceAt k ≡ s = eqb→eq (sourceAt k) s c in
-        (k, hk, →and (eqb (weightAt g (sourceAt k)) M) (ltb (weightAt g (getD (g .target) k 0)) M)
-            (rw (q, ← weigh s h, e) a) (rw (← weigh (getD (g .target) k 0) (f .target k hk), e) d), q)
+        (subst (λ x. T (leaves s x && lighter v (greatest v) x)) at w) in
+        let q : sourceAt k ≡ s = eqb→eq (sourceAt k) s c in (
+          k,
+          hk,
+          →and (eqb (weightAt g (sourceAt k)) M) (ltb (weightAt g (getD (g .target) k 0)) M)
+              (rw (q, ← weigh s h, e) a) (rw (← weigh (getD (g .target) k 0) (f .target k hk), e) d),
+          q,
+        )
 
     pub choose-is : T (any (splittable v (arcsIn g)) (range (length v))) → (best : ℕ)
         → Lowest lightens sourceAt (g .edges) best → (best ≡ chosen v (arcsIn g)) × (best < g .states)
@@ -121,10 +125,12 @@ module _ (g : Graph) (M : ℕ) where
       where
         K : length v ≡ g .states
         K = length-map-range (weightAt g) (g .states)
+
         none : (s : ℕ) → s < best → best < g .states → (b : Bool) → splittable v (arcsIn g) s ≡ b → b ≡ false
         none s h l false q = refl
         none s h l true q =
             let (k, hk, u, r) = splits→ s (omega arith) (rw q tt) in absurd (omega (arith, w .low k hk u))
+
         go : (i : ℕ) × (i < length v) × T (splittable v (arcsIn g) i)
             → (best ≡ 128) ⊎ ((k : ℕ) × (k < g .edges) × T (lightens k) × (sourceAt k ≡ best))
             → (best ≡ chosen v (arcsIn g)) × (best < g .states)
@@ -133,6 +139,10 @@ module _ (g : Graph) (M : ℕ) where
             absurd (omega (arith, w .low k hk u, f .few, f .source k hk))
         go (i, h, u) (inr (k, hk, y, q)) =
             let l : best < g .states = subst (λ x. x < g .states) q (f .source k hk) in
-            let z : T (splittable v (arcsIn g) best) = subst (λ x. T (splittable v (arcsIn g) x)) q (→splits k hk y) in
-            (sym (first-least (splittable v (arcsIn g)) 0 (length v) best (λ s b. none s b l (splittable v (arcsIn g) s) refl)
-                (rw K l) (T→true (splittable v (arcsIn g) best) z)), l)
+            let z : T (splittable v (arcsIn g) best) = subst (λ x. T (splittable v (arcsIn g) x)) q
+            (→splits k hk y) in (
+              sym (first-least (splittable v (arcsIn g)) 0 (length v) best
+                  (λ s b. none s b l (splittable v (arcsIn g) s) refl)
+                  (rw K l) (T→true (splittable v (arcsIn g) best) z)),
+              l,
+            )

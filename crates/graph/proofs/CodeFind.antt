@@ -1,13 +1,13 @@
 -- The first that passes, of a list made of the numbers below a bound.
 -- In order: first-least, first-at; first-front, first-back, first-part, first-none.
 -- Assumes nothing.
-use mathlib.Core.Path.{_≡_, refl, sym, ap, ap₂, subst, _∙_}
-use mathlib.Core.Bool.{Bool, true, false, _||_}
+use mathlib.Core.Path.{_≡_, refl, sym, ap, subst, _∙_}
+use mathlib.Core.Bool.{Bool, true, false}
 use mathlib.Core.List.{List, [], _∷_, _++_, map}
-use Prim.Native.Nat.{ℕ, zero, suc, _+_, _≤_, _<_}
+use Prim.Native.Nat.{ℕ, zero, suc, _+_, _<_}
 use native.Mathlib.Nat.{add-zero, zero-add, not-suc-le-zero}
 use native.Mathlib.Omega.{arith}
-use Rattle.laws.specs.Lists.{if_then_else_, from, range, any, first, concat}
+use Rattle.laws.specs.Lists.{from, range, any, first, concat}
 
 module _ {A : Type 0} (p : A → Bool) (d : A) where
   pub first-yes : (x : A) (l : List A) → p x ≡ true → first p d (x ∷ l) ≡ x
@@ -37,7 +37,8 @@ module _ {A : Type 0} (p : A → Bool) (d : A) where
     where
       go : (b : Bool) → p x ≡ b → (any p k ≡ false → first p d (k ++ l) ≡ first p d l)
           → first p d (x ∷ k ++ l) ≡ first p d l
-      go true q r = absurd (let y : true ≡ false = sym (any-yes x k q) ∙ e in let z : _≡_ {A = ℕ} 0 1 = cc in omega arith)
+      go true q r = absurd (let y : true ≡ false = sym (any-yes x k q) ∙ e in let z : _≡_ {A = ℕ} 0 1 = cc in
+          omega arith)
       go false q r = first-no x (k ++ l) q ∙ r (sym (any-no x k q) ∙ e)
 
   -- ---- f i is the first of f 0, f 1, .. that passes
@@ -52,15 +53,15 @@ module _ {A : Type 0} (p : A → Bool) (d : A) where
         let q : p (f i) ≡ false = subst (λ k. p (f k) ≡ false) (add-zero i) (h 0 (omega arith)) in
         let up : (k : ℕ) → suc i + k ≡ i + suc k = λ k. omega arith in
         let (a, b) = at-from (suc i) m j
-            (λ k b. subst (λ x. p (f x) ≡ false) (sym (up k)) (h (suc k) (omega arith))) (omega arith)
-            (subst (λ x. p (f x) ≡ true) (sym (up j)) e) in
+        (λ k b. subst (λ x. p (f x) ≡ false) (sym (up k)) (h (suc k) (omega arith))) (omega arith)
+        (subst (λ x. p (f x) ≡ true) (sym (up j)) e) in
         (first-no (f i) (map f (from (suc i) m)) q ∙ a ∙ ap f (up j), any-no (f i) (map f (from (suc i) m)) q ∙ b)
 
     pub first-at : (m j : ℕ) → ((k : ℕ) → k < j → p (f k) ≡ false) → j < m → p (f j) ≡ true
         → (first p d (map f (range m)) ≡ f j) × (any p (map f (range m)) ≡ true)
     first-at m j h l e =
         let (a, b) = at-from 0 m j (λ k b. subst (λ x. p (f x) ≡ false) (sym (zero-add k)) (h k b)) l
-            (subst (λ x. p (f x) ≡ true) (sym (zero-add j)) e) in
+        (subst (λ x. p (f x) ≡ true) (sym (zero-add j)) e) in
         (a ∙ ap f (zero-add j), b)
 
   -- ---- of the lists f 0, f 1, .. the first that has one that passes
@@ -76,7 +77,7 @@ module _ {A : Type 0} (p : A → Bool) (d : A) where
         let up : (k : ℕ) → suc i + k ≡ i + suc k = λ k. omega arith in
         first-back (f i) (concat (map f (from (suc i) m))) q
         ∙ part-from (suc i) m j (λ k b. subst (λ x. any p (f x) ≡ false) (sym (up k)) (h (suc k) (omega arith)))
-            (omega arith) (subst (λ x. any p (f x) ≡ true) (sym (up j)) e)
+        (omega arith) (subst (λ x. any p (f x) ≡ true) (sym (up j)) e)
         ∙ ap (λ k. first p d (f k)) (up j)
 
     pub first-part : (m j : ℕ) → ((k : ℕ) → k < j → any p (f k) ≡ false) → j < m → any p (f j) ≡ true

@@ -3,7 +3,6 @@ use crate::Graph;
 use crate::keys::Keys;
 use crate::keys::first_edges;
 use crate::keys::in_front;
-
 ghost use mathlib.Core.Path.{_≡_};
 ghost use mathlib.Core.List.{map};
 ghost use Prim.Native.Nat.{ℕ, _+_, _≤_, _<_};
@@ -49,9 +48,8 @@ fn lower_source(best: usize, s: usize, source: u8, target: u8, m: u8) -> usize
 
 // The state to split, where there is one.
 pub fn choose(g: Graph, m: u8) -> usize
-    requires {
-        ⌜ Fits g × (m ≡ greatest (weightsIn g)) × T (any (splittable (weightsIn g) (arcsIn g)) (range (length (weightsIn g)))) ⌝
-    }
+    requires { ⌜ Fits g × (m ≡ greatest (weightsIn g))
+        × T (any (splittable (weightsIn g) (arcsIn g)) (range (length (weightsIn g)))) ⌝ }
     ensures answer { λ r. ⌜ (r ≡ chosen (weightsIn g) (arcsIn g)) × (r < g .states) ⌝ }
 {
     let mut best = 128;
@@ -69,12 +67,9 @@ pub fn choose(g: Graph, m: u8) -> usize
 
 // "its first edge to a lighter state, then its first n − 1 other edges".
 pub fn candidate_keys(g: Graph, s: usize, m: u8, n: usize) -> Keys
-    requires {
-        ⌜ Fits g × (0 < n) × (n ≤ 16) × T (any (lighter (weightsIn g) m) (out (arcsIn g) s)) ⌝
-    }
-    ensures answer {
-        λ r. ⌜ (map (arcOf s) (keysIn r) ≡ candidates n (weightsIn g) m (sort (out (arcsIn g) s))) × (r .count ≤ n) ⌝
-    }
+    requires { ⌜ Fits g × (0 < n) × (n ≤ 16) × T (any (lighter (weightsIn g) m) (out (arcsIn g) s)) ⌝ }
+    ensures answer { λ r. ⌜ (map (arcOf s) (keysIn r) ≡ candidates n (weightsIn g) m (sort (out (arcsIn g) s)))
+        × (r .count ≤ n) ⌝ }
 {
     let light = first_edges(g, s, m as usize, 65535, 1);
     let l = light.key[0];

@@ -1,8 +1,8 @@
 -- The greatest of the weights passed so far.
-use mathlib.Core.Path.{_≡_, refl, sym, ap, _∙_}
+use mathlib.Core.Path.{_≡_, refl, ap, _∙_}
 use mathlib.Core.Logic.{⊎-elim}
 use mathlib.Core.List.{map}
-use Prim.Native.Nat.{ℕ, _+_, _-_, _≤_, _<_, max}
+use Prim.Native.Nat.{_-_, _≤_}
 use native.Mathlib.Omega.{arith}
 use Rattle.laws.specs.Lists.{range}
 use Rattle.graph.specs.Splitting.{greatest}
@@ -40,7 +40,7 @@ loop-again c =
     let g = c .before .before .before .before .args .t1 in
     let e = greatest-more (weightAt g) (l .i) in
     ⊎-elim (λ w. (omega arith, refl, omega arith, omega (arith, w .2, w .0 .taken)))
-        (λ w. (omega arith, refl, omega arith, omega (arith, w .1, w .0 .left)))
+    (λ w. (omega arith, refl, omega arith, omega (arith, w .1, w .0 .left)))
     (c .if1 .came)
 
 returns : tie.Need-returns Inv-loop μ-loop
