@@ -1,7 +1,7 @@
--- What a call comes to, as the definitions say it: a finished result of any kind, or one refusal chosen by a fixed order
--- of checks. A call that fills bytes lent for output has a list of bytes as its result.
--- In order: Outcome; unless, one check; onward, what is done with a result; fitting, the check of the room; answerOf, the
--- code's answer; outputOf, the lent bytes after the call.
+-- What a call comes to, as the definitions say it: a finished result of any kind, or one refusal chosen by a fixed
+-- order of checks. A call that fills bytes lent for output has a list of bytes as its result.
+-- In order: Outcome; unless, one check; onward, what is done with a result; fitting, the check of the room; answerOf,
+-- the code's answer; outputOf, the lent bytes after the call.
 -- Assumes nothing.
 use mathlib.Core.Bool.{Bool, true, false}
 use mathlib.Core.List.{List, _++_}
@@ -37,7 +37,8 @@ abbrev pub answerOf : Outcome (List ℕ) → Answer
 answerOf (done xs) = Done (length xs)
 answerOf (refused r) = Refused r
 
--- "A result fills the output from its first byte; bytes past its end stay as lent"; refused: "Output bytes stay as lent"
+-- "A result fills the output from its first byte; bytes past its end stay as lent"; refused: "Output bytes stay as
+-- lent"
 abbrev pub outputOf : Outcome (List ℕ) → List ℕ → List ℕ
 outputOf (done xs) out = xs ++ drop (length xs) out
 outputOf (refused r) out = out

@@ -3,10 +3,9 @@
 -- Assumes nothing.
 use Prim.Native.Nat.{ℕ}
 use Rattle.answer.specs.declared.Refusal.{Refusal}
-use Rattle.answer.specs.declared.Refusal.the-variants.{
-  Parameters, States, NoCode, TooHeavy, TooManyEdges, NoWindow, Field, Length, Disobeys, WindowFails, BadByte, TooFewWords,
-  ShortOutput
-}
+use Rattle.answer.specs.declared.Refusal.the-variants.{Parameters, States, NoCode, TooHeavy, TooManyEdges}
+use Rattle.answer.specs.declared.Refusal.the-variants.{NoWindow, Field, Length, Disobeys, WindowFails}
+use Rattle.answer.specs.declared.Refusal.the-variants.{BadByte, TooFewWords, ShortOutput}
 
 -- the number of a refusal in document 01's table
 abbrev pub numberOf : Refusal → ℕ

@@ -1,6 +1,6 @@
 -- Demand 2, second half, of the outcomes of encoding and decoding under a code: round trip, and recordings recognised.
--- In order: firstBad-below, below-firstBad; allBelow-true, allBelow→; words-below; →encoded, encoded→, →decoded, decoded→;
--- returns; recognised-answers.
+-- In order: firstBad-below, below-firstBad; allBelow-true, allBelow→; words-below; →encoded, encoded→, →decoded,
+-- decoded→; returns; recognised-answers.
 -- Assumes nothing.
 use mathlib.Core.Path.{_≡_, refl, sym, ap, subst, _∙_}
 use mathlib.Core.Logic.{_↔_}
@@ -70,7 +70,7 @@ module _ (c : Code) where
   unfolding encoded
   encoded→ room ds xs e =
       let (t, q) = unless→ ShortOutput (leb (length ds + c .window .lookahead) room)
-              (allBelow (2 ^ c .p) ds (recording c ds)) xs e in
+      (allBelow (2 ^ c .p) ds (recording c ds)) xs e in
       let (b, r) = allBelow→ (2 ^ c .p) ds (recording c ds) xs q in
       (leb→le (length ds + c .window .lookahead) room t, b, r)
 
@@ -92,7 +92,7 @@ module _ (c : Code) where
   decoded→ room ws xs e =
       let last = allBelow (2 ^ c .q) ws (decode c ws) in
       let (t, q) = unless→ TooFewWords (leb (c .window .lookahead) (length ws))
-              (unless ShortOutput (leb (length ws - c .window .lookahead) room) last) xs e in
+      (unless ShortOutput (leb (length ws - c .window .lookahead) room) last) xs e in
       let (t′, q′) = unless→ ShortOutput (leb (length ws - c .window .lookahead) room) last xs q in
       let (b, r) = allBelow→ (2 ^ c .q) ws (decode c ws) xs q′ in
       (leb→le (c .window .lookahead) (length ws) t, b, r)

@@ -1,5 +1,12 @@
 pub mod Reading
 pub mod Damage
+pub mod Local
 pub mod RoundTrip
 pub mod Answers
 pub mod Promises
+pub mod Writing
+pub mod Tabled
+pub mod StateSteps
+pub mod FirstReading
+pub mod Windowed
+pub mod Loaded

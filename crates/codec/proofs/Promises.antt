@@ -47,9 +47,10 @@ module _ (xs : List ℕ) (bytes : Below 256 xs) where
       let r = recognised-answers c f w room L h in
       let dec = ap (λ a. onward a (λ c. decoded c room L)) p in
       let enc : (ds : List ℕ) → onward (parse xs) (λ c. encoded c room ds) ≡ encoded c room ds =
-              λ ds. ap (λ a. onward a (λ c. encoded c room ds)) p in
-      ((λ k. let (ds, d, e) = r .0 k in (ds, dec ∙ d, enc ds ∙ e)),
-      (λ (ds, d, e). r .1 (ds, sym dec ∙ d, sym (enc ds) ∙ e)))
+      λ ds. ap (λ a. onward a (λ c. encoded c room ds)) p in (
+        (λ k. let (ds, d, e) = r .0 k in (ds, dec ∙ d, enc ds ∙ e)),
+        (λ (ds, d, e). r .1 (ds, sym dec ∙ d, sym (enc ds) ∙ e)),
+      )
 
   -- demand 3, one claim over whole lists
   pub demand-3 : (c : Code) → parse xs ≡ done c → (ds L : List ℕ) (room : ℕ) → Blocks c ds → Below (2 ^ c .q) L
@@ -58,9 +59,11 @@ module _ (xs : List ℕ) (bytes : Below 256 xs) where
       × ((i j : ℕ) → i < length ds → StandsClear c (recording c ds) L i j → getD out j mark ≡ getD ds i 0)
   unfolding decodeUnder
   demand-3 c p ds L room b w l h =
-      let (f, k) = facts c p in
-      (decode c L, ap (λ a. onward a (λ c. decoded c room L)) p ∙ →decoded c room L l h w,
-      (λ i j hi cl. recovered c (sound c f k) ds L b i j hi cl))
+      let (f, k) = facts c p in (
+        decode c L,
+        ap (λ a. onward a (λ c. decoded c room L)) p ∙ →decoded c room L l h w,
+        (λ i j hi cl. recovered c (sound c f k) ds L b i j hi cl),
+      )
 
   -- recordings of different data differ
   pub different-data : (room room′ : ℕ) (ds es R : List ℕ) → encodeUnder xs room ds ≡ done R

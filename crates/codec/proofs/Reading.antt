@@ -1,4 +1,6 @@
 -- Reading a stretch of a recording: the block that the reading rule gives is the block that was recorded.
+-- In order: Reads, reads-length, reads-same, reads-append, reads-take, reads-drop, alongAll→, →alongAll, reads-end,
+-- able→, →able, one→, →one, stretch, at-place.
 -- Assumes nothing.
 use mathlib.Core.Path.{_≡_, refl, sym, ap, subst, subst₂, _∙_}
 use mathlib.Core.Bool.{Bool, true, _&&_}
@@ -86,7 +88,7 @@ alongAll→ g [] S t h = (t, [], h, tt, refl)
 alongAll→ g (w ∷ ws) S t h =
     let (s', xs, h', r, e) = alongAll→ g ws (along g S w) t h in
     let (s, i, l) = any-below→ _ (length g)
-        (tab→ (λ t. any (λ s. member S s && leads g s w t) (range (length g))) (length g) s' h' .1) in
+    (tab→ (λ t. any (λ s. member S s && leads g s w t) (range (length g))) (length g) s' h' .1) in
     let (m, l') = and→ (member S s) (leads g s w s') l in
     let (x, a, b, c) = leads→ g s w s' l' in
     (s, x ∷ xs, m, (a, b, subst (λ k. Reads g k xs ws) (sym c) r), rw c e)
@@ -99,8 +101,8 @@ pub →alongAll : (g : Rows) → Closed g → (ws : List ℕ) (S : List Bool) (s
 →alongAll g c (w ∷ ws) S s (x ∷ xs) i h (a, b, r) =
     →alongAll g c ws (along g S w) (at g s x .next) xs (c s x a)
     (→tab _ (length g) (at g s x .next) (c s x a) (→any-below _ (length g) s i
-        (→and (member S s) (leads g s w (at g s x .next)) h
-            (subst (λ v. T (leads g s v (at g s x .next))) b (→leads g s x a))))) r
+    (→and (member S s) (leads g s w (at g s x .next)) h
+    (subst (λ v. T (leads g s v (at g s x .next))) b (→leads g s x a))))) r
 
 pub reads-end : (g : Rows) → Closed g → (xs ws : List ℕ) (s : ℕ) → s < length g → Reads g s xs ws
     → ends g s xs < length g
@@ -113,7 +115,7 @@ pub able→ : (g : Rows) (ws : List ℕ) (s : ℕ) → T (member (able g ws) s) 
 able→ g [] s h = ([], tt)
 able→ g (w ∷ ws) s h =
     let (x, a, u) = any→ (enters (able g ws) w) (edge 0 0) (edges g s)
-        (tab→ (λ s. any (enters (able g ws) w) (edges g s)) (length g) s h .1) in
+    (tab→ (λ s. any (enters (able g ws) w) (edges g s)) (length g) s h .1) in
     let (b, k) = and→ (eqb (at g s x .word) w) (member (able g ws) (at g s x .next)) u in
     let (xs, r) = able→ g ws (at g s x .next) k in
     (x ∷ xs, (a, eqb→eq (at g s x .word) w b, r))
@@ -124,9 +126,9 @@ pub →able : (g : Rows) → Closed g → (ws xs : List ℕ) (s : ℕ) → s < l
 →able g c (w ∷ ws) [] s h r = absurd r
 →able g c (w ∷ ws) (x ∷ xs) s h (a, b, r) =
     →tab (λ s. any (enters (able g ws) w) (edges g s)) (length g) s h
-        (→any (enters (able g ws) w) (edge 0 0) (edges g s) x a
-        (→and (eqb (at g s x .word) w) (member (able g ws) (at g s x .next)) (rw b (eqb-refl w))
-            (→able g c ws xs (at g s x .next) (c s x a) r)))
+    (→any (enters (able g ws) w) (edge 0 0) (edges g s) x a
+    (→and (eqb (at g s x .word) w) (member (able g ws) (at g s x .next)) (rw b (eqb-refl w))
+    (→able g c ws xs (at g s x .next) (c s x a) r)))
 
 -- ---- the readings
 
@@ -160,11 +162,11 @@ readings→ g S w ws d h =
 unfolding Reading
 →readings g c S w ws d (s, ys, n, i, a, b, r) =
     simp (any-concat, any-map) (→any-below (λ s. elem d (readingsOf g S w (able g ws) s)) (length g) s n
-        (→elem-filter (λ d. member S s && enters (able g ws) w (at g s d)) d (range (length (edges g s)))
-            (elem-range (length (edges g s)) d a)
-            (→and (member S s) (enters (able g ws) w (at g s d)) i
-                (→and (eqb (at g s d .word) w) (member (able g ws) (at g s d .next)) (rw b (eqb-refl w))
-                    (→able g c ws ys (at g s d .next) (c s d a) r)))))
+    (→elem-filter (λ d. member S s && enters (able g ws) w (at g s d)) d (range (length (edges g s)))
+    (elem-range (length (edges g s)) d a)
+    (→and (member S s) (enters (able g ws) w (at g s d)) i
+    (→and (eqb (at g s d .word) w) (member (able g ws) (at g s d .next)) (rw b (eqb-refl w))
+    (→able g c ws ys (at g s d .next) (c s d a) r)))))
 
 only : (l : List ℕ) (x : ℕ) → T (elem x l) → ((d : ℕ) → T (elem d l) → d ≡ x) → getD l 0 255 ≡ x
 only [] x h f = absurd h
@@ -174,7 +176,6 @@ only (y ∷ l) x h f = f y (→orL (eqb y y) (elem y l) (eqb-refl y))
 module _ (g : Rows) (c : Closed g) (S : List Bool) (us vs : List ℕ) (x : ℕ) (pre ws : List ℕ) (w s : ℕ)
     (before : Reads g s us pre) (after : Reads g (ends g s us) (x ∷ vs) (w ∷ ws))
     (agree : (t : ℕ) → T (member S t) → AgreeSame g (length pre) (length ws) t s) where
-
   other : (d : ℕ) → Reading g (alongAll g S pre) w ws d → d ≡ x
   unfolding Reading
   other d (t', ys, n, k, a, b, r) = go (alongAll→ g pre S t' k)
@@ -182,18 +183,24 @@ module _ (g : Rows) (c : Closed g) (S : List Bool) (us vs : List ℕ) (x : ℕ) 
       go : (t : ℕ) × (us' : List ℕ) × T (member S t) × Reads g t us' pre × (ends g t us' ≡ t') → d ≡ x
       go (t, us', i, q, e) =
           agree t i us' us ys vs d x (reads-length g t us' pre q) (reads-length g s us pre before)
-              (reads-length g (at g t' d .next) ys ws r) (reads-length g _ vs ws (after .2))
+          (reads-length g (at g t' d .next) ys ws r) (reads-length g _ vs ws (after .2))
           (reads-same g t s (us' ++ d ∷ ys) (us ++ x ∷ vs) (pre ++ w ∷ ws)
-              (reads-append g t us' (d ∷ ys) pre (w ∷ ws) q
-                  (subst (λ u. Reads g u (d ∷ ys) (w ∷ ws)) (sym e) (a, b, r)))
-              (reads-append g s us (x ∷ vs) pre (w ∷ ws) before after))
+          (reads-append g t us' (d ∷ ys) pre (w ∷ ws) q
+          (subst (λ u. Reads g u (d ∷ ys) (w ∷ ws)) (sym e) (a, b, r)))
+          (reads-append g s us (x ∷ vs) pre (w ∷ ws) before after))
 
   pub stretch : s < length g → T (member S s) → reading g (alongAll g S pre) w ws ≡ x
   unfolding Reading
   stretch n i = only (readings g (alongAll g S pre) w (able g ws)) x
-      (→readings g c (alongAll g S pre) w ws x
-          (ends g s us, vs, reads-end g c us pre s n before, →alongAll g c pre S s us n i before, after .0, after .1,
-          after .2))
+      (→readings g c (alongAll g S pre) w ws x (
+        ends g s us,
+        vs,
+        reads-end g c us pre s n before,
+        →alongAll g c pre S s us n i before,
+        after .0,
+        after .1,
+        after .2,
+      ))
       (λ d h. other d (readings→ g (alongAll g S pre) w ws d h))
 
 -- the same at place k of a stretch W of words
@@ -203,7 +210,7 @@ pub at-place : (g : Rows) → Closed g → (S : List Bool) (ds W : List ℕ) (k 
     → reading g (alongAll g S (take k W)) (getD W k 0) (drop (suc k) W) ≡ getD ds k 0
 at-place g c S ds W k s n i r l agree =
     stretch g c S (take k ds) (drop (suc k) ds) (getD ds k 0) (take k W) (drop (suc k) W) (getD W k 0) s
-        (reads-take g k s ds W r)
-        (subst₂ (λ a b. Reads g (ends g s (take k ds)) a b) (drop-cons ds k 0 (rw (reads-length g s ds W r) l))
-            (drop-cons W k 0 l) (reads-drop g k s ds W r))
-        (rw (length-take-le k W (omega arith), length-drop) agree) n i
+    (reads-take g k s ds W r)
+    (subst₂ (λ a b. Reads g (ends g s (take k ds)) a b) (drop-cons ds k 0 (rw (reads-length g s ds W r) l))
+    (drop-cons W k 0 l) (reads-drop g k s ds W r))
+    (rw (length-take-le k W (omega arith), length-drop) agree) n i

@@ -41,12 +41,12 @@ decode-recording c g ds b =
     let ld : length (decode c R) ≡ length ds = length-decode c R ∙ omega arith in
     ext-getD 255 (decode c R) ds ld
     (λ i h.
-        let hi : i < length ds = omega arith in
-        recovered c g ds R b i i hi (clear-self c R i (omega arith) (decLt i (c .window .memory)))
-        ∙ getD-any ds i 0 255 hi)
+    let hi : i < length ds = omega arith in
+    recovered c g ds R b i i hi (clear-self c R i (omega arith) (decLt i (c .window .memory)))
+    ∙ getD-any ds i 0 255 hi)
 
--- a list is a recording exactly when it is long enough, its blocks can be recorded (none is a mark) and their recording is
--- the list
+-- a list is a recording exactly when it is long enough, its blocks can be recorded (none is a mark) and their
+-- recording is the list
 pub recognised : (c : Code) → Sound c → (L : List ℕ)
     → Recording c L
     ↔ ((c .window .lookahead ≤ length L) × Blocks c (decode c L) × (recording c (decode c L) ≡ L))

@@ -1,6 +1,6 @@
 -- Encoding and decoding with their refusals: "Encode: record, 13, 11. Decode: record, 12, 13, 11."
--- In order: firstBad; encoded and decoded, under a loaded code; encodeUnder and decodeUnder, under a record's bytes. `room`
--- is the length of the output that was lent.
+-- In order: firstBad; encoded and decoded, under a loaded code; encodeUnder and decodeUnder, under a record's bytes.
+-- `room` is the length of the output that was lent.
 -- Assumes nothing.
 use mathlib.Core.List.{List, [], _∷_}
 use Prim.Native.Nat.{ℕ, suc, _+_, _-_, _^_}

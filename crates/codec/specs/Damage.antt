@@ -9,9 +9,9 @@ use lib.ListN.{length, take, drop}
 use Rattle.table.specs.Rows.{Code}
 use Rattle.table.specs.Paths.{Blocks, recording}
 
--- block i of the recording R "stands clear at place j of L if L reaches to word j + a and one of these holds: i ≥ m, j ≥ m
--- and words j − m to j + a of L equal words i − m to i + a of R; or i < m, j = i and words 0 to i + a of both are equal"
--- (in the field: its window is received without error)
+-- block i of the recording R "stands clear at place j of L if L reaches to word j + a and one of these holds: i ≥ m, j
+-- ≥ m and words j − m to j + a of L equal words i − m to i + a of R; or i < m, j = i and words 0 to i + a of both are
+-- equal" (in the field: its window is received without error)
 abbrev pub StandsClear : Code → List ℕ → List ℕ → ℕ → ℕ → Type 0
 StandsClear c R L i j =
     let m = c .window .memory in

@@ -1,3 +1,5 @@
 pub mod Reading
 pub mod Answers
 pub mod Damage
+pub mod With
+pub mod StateSets

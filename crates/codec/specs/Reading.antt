@@ -69,8 +69,8 @@ mark = 255
 abbrev pub reading : Rows → List Bool → ℕ → List ℕ → ℕ
 reading t S w ahead = getD (readings t S w (able t ahead)) 0 mark
 
--- "the past set holds the states reachable by words i − m to i − 1 from any state, or by words 0 to i − 1 from state 0 if
--- i < m"
+-- "the past set holds the states reachable by words i − m to i − 1 from any state, or by words 0 to i − 1 from state 0
+-- if i < m"
 abbrev pub past : Code → List ℕ → ℕ → List Bool
 past c ws i =
     let t = c .table in

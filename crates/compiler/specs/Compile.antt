@@ -1,10 +1,10 @@
 -- "Compiling": a job to a code, and to its record in lent bytes, with refusals "3, 4, 5, 6, 13" in this order.
--- In order: ways, graphOf, weightsOf, componentOf, startOf, finishedOf, tableFor; code, compile; compileInto; compileJob,
--- compileRunLength, from bytes to bytes.
+-- In order: ways, graphOf; Vector, what the weights are the greatest of; weightsOf, componentOf, startOf, finishedOf,
+-- tableFor; code, compile; compileInto; compileJob, compileRunLength, from bytes to bytes.
 -- Assumes nothing.
 use mathlib.Core.Bool.{not}
 use mathlib.Core.List.{List}
-use Prim.Native.Nat.{ℕ, _^_}
+use Prim.Native.Nat.{ℕ, _^_, _≤_}
 use lib.Dec.{ltb, leb}
 use lib.ListN.{length, getD}
 use Rattle.laws.specs.Lists.{sum}
@@ -14,7 +14,7 @@ use Rattle.table.specs.Rows.{Rows, Code}
 use Rattle.table.specs.Search.{window}
 use Rattle.record.specs.Parse.{packInto}
 use Rattle.graph.specs.Arcs.{Arc, Work, power}
-use Rattle.graph.specs.Weights.{weights}
+use Rattle.graph.specs.Weights.{Enough, weights}
 use Rattle.graph.specs.Component.{componentStates, componentGraph}
 use Rattle.graph.specs.Splitting.{crowded, splitAll}
 use Rattle.graph.specs.TableOf.{tableOf}
@@ -27,6 +27,12 @@ ways j = 2 ^ j .p
 -- the words that the job's constraint allows
 abbrev pub graphOf : Job → List Arc
 graphOf j = power (j .constraint) (j .q)
+
+-- "vector with A v ≥ n v and entries up to cap"; entries that are not there are 0
+pub record Vector (j : Job) (u : List ℕ) : Type 0 where
+  pub short : length u ≤ length (j .constraint)
+  pub capped : (s : ℕ) → getD u s 0 ≤ j .cap
+  pub enough : Enough (ways j) (graphOf j) u
 
 -- the weights of the constraint's states
 abbrev pub weightsOf : Job → List ℕ
@@ -51,7 +57,12 @@ tableFor j = tableOf (ways j) (finishedOf j)
 -- the code with the table t and its least window
 abbrev pub code : Job → Rows → Code
 code j t = record {
-  p = j .p; q = j .q; window = window t; constraint = j .constraint; start = startOf j; table = t
+  p = j .p;
+  q = j .q;
+  window = window t;
+  constraint = j .constraint;
+  start = startOf j;
+  table = t;
 }
 
 -- "all weights 0", "component's weights sum over 128", "over 2,048 edges", "no window up to 15 and 15"

@@ -1,15 +1,16 @@
--- Both kinds of job, from bytes: "Job: 8 below four bytes, 1, K by 2, 8, next states by 2 [..] Run-length job: 8, 1, 2".
--- In order: Job; goodParameters; statesOf, readJob; readRunLength.
+-- Both kinds of job, from bytes: "Job: 8 below four bytes, 1, K by 2, 8, next states by 2 [..] Run-length job: 8, 1,
+-- 2".
+-- In order: Job; goodParameters; statesOf, readJob; readRunLength; Allowed, the jobs that pass these checks.
 -- Assumes nothing.
 use mathlib.Core.Bool.{Bool, _&&_}
 use mathlib.Core.List.{List, [], _∷_}
-use Prim.Native.Nat.{ℕ, zero, suc, _+_, _*_}
+use Prim.Native.Nat.{ℕ, zero, suc, _+_, _*_, _≤_}
 use lib.Dec.{leb, eqb}
 use lib.ListN.{length, getD, drop}
 use Rattle.laws.specs.Lists.{all}
 use Rattle.answer.specs.declared.Refusal.the-variants.{Parameters, States, Length}
 use Rattle.answer.specs.Outcomes.{Outcome, done, unless}
-use Rattle.constraint.specs.Walking.{Constraint, runLength}
+use Rattle.constraint.specs.Walking.{Constraint, runLength, Well}
 use Rattle.table.specs.Formed.{goodNext}
 
 -- what a job asks for
@@ -53,3 +54,15 @@ readRunLength xs =
     unless Length (eqb (length xs) 5)
     (unless Parameters (goodParameters p q cap)
     (unless States (leb d k && leb k 15) (done (record { p = p; q = q; cap = cap; constraint = runLength d k }))))
+
+-- p, q, cap and K are in range, and every next state is a state or none
+pub record Allowed (j : Job) : Type 0 where
+  pub p₁ : 1 ≤ j .p
+  pub p₂ : j .p ≤ 4
+  pub q₁ : 1 ≤ j .q
+  pub q₂ : j .q ≤ 8
+  pub cap₁ : 1 ≤ j .cap
+  pub cap₂ : j .cap ≤ 16
+  pub k₁ : 1 ≤ length (j .constraint)
+  pub k₂ : length (j .constraint) ≤ 16
+  pub well : Well (j .constraint)

@@ -1,3 +1,4 @@
 pub mod Jobs
 pub mod Compile
 pub mod Listing
+pub mod JobValues

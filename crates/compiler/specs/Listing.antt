@@ -1,5 +1,5 @@
--- The listing: "it prints all of this (p, q, states, m, a; then state, datum, word in binary, next), or else `refused` and
--- the number".
+-- The listing: "it prints all of this (p, q, states, m, a; then state, datum, word in binary, next), or else `refused`
+-- and the number".
 -- In order: blank, newline, digit, decimal, binary; line; edgeLine, rowLines, listing; refusal, listingOf; listInto.
 -- Assumes nothing.
 use mathlib.Core.List.{List, [], _∷_, _++_, map}

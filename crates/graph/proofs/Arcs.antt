@@ -1,4 +1,6 @@
 -- Edges: when two are the same, how often one occurs, sorting, and the sum over the edges that a list names.
+-- In order: same→eq, same-refl, same-is, among→count, count→among, each-among, tot-insert, tot-sort, length-sort,
+-- tot-same, pick.
 -- Assumes nothing.
 use mathlib.Core.Path.{_≡_, refl, sym, ap, ap₂, subst, _∙_}
 use mathlib.Core.Bool.{Bool, true, false, _&&_, _||_}
@@ -22,13 +24,17 @@ pub same→eq : (e f : Arc) → T (same e f) → e ≡ f
 same→eq e f t =
     let (a, u) = and→ (eqb (e .source) (f .source)) (eqb (e .word) (f .word) && eqb (e .target) (f .target)) t in
     let (b, c) = and→ (eqb (e .word) (f .word)) (eqb (e .target) (f .target)) u in
-    λ i. record { source = eqb→eq (e .source) (f .source) a i; word = eqb→eq (e .word) (f .word) b i; target =
-        eqb→eq (e .target) (f .target) c i }
+    λ i. record {
+      source = eqb→eq (e .source) (f .source) a i;
+      word = eqb→eq (e .word) (f .word) b i;
+      target =
+          eqb→eq (e .target) (f .target) c i;
+    }
 
 pub same-refl : (e : Arc) → T (same e e)
 same-refl e =
     →and (eqb (e .source) (e .source)) (eqb (e .word) (e .word) && eqb (e .target) (e .target)) (eqb-refl (e .source))
-        (→and (eqb (e .word) (e .word)) (eqb (e .target) (e .target)) (eqb-refl (e .word)) (eqb-refl (e .target)))
+    (→and (eqb (e .word) (e .word)) (eqb (e .target) (e .target)) (eqb-refl (e .word)) (eqb-refl (e .target)))
 
 pub same-is : (e f : Arc) → Whether (e ≡ f) (same e f)
 same-is e f = go (same e f) refl
@@ -48,9 +54,11 @@ count→among l e h = count→any (same e) l h
 -- each arc of a list is among it
 pub each-among : (l : List Arc) → Each (λ e. T (among l e)) l
 each-among [] = tt
-each-among (x ∷ l) =
-    (→orL (same x x) (among l x) (same-refl x), each-map (λ e. T (among l e)) (λ e. T (among (x ∷ l) e))
-        (λ e t. →orR (same e x) (among l e) t) l (each-among l))
+each-among (x ∷ l) = (
+  →orL (same x x) (among l x) (same-refl x),
+  each-map (λ e. T (among l e)) (λ e. T (among (x ∷ l) e))
+      (λ e t. →orR (same e x) (among l e) t) l (each-among l),
+)
 
 -- ---- sorting changes no sum
 pub tot-insert : (f : Arc → ℕ) (e : Arc) (l : List Arc) → tot f (insert e l) ≡ f e + tot f l
@@ -100,10 +108,10 @@ pick f (k ∷ keep) g h d =
     let c : one (same k) k ≡ 1 = rw (T→true (same k k) (same-refl k)) in
     let a : count k g ≡ 1 = omega (arith, h k, d k) in
     let new : T (among keep k) → ⊥ = λ t. let u : 0 < count k keep = among→count keep k t in
-        omega (arith, h k, d k) in
+    omega (arith, h k, d k) in
     let rest : tot (mask (among keep) f) g ≡ tot f keep = pick f keep g (λ e. omega (arith, h e)) d in
     let here : tot (mask (λ e. same e k) f) g ≡ f k = tot-same f k g ∙ (rw a (omega arith)) in
     tot-eq (mask (among (k ∷ keep)) f) (λ e. mask (λ e. same e k) f e + mask (among keep) f e) g
-        (each-always (λ e. mask (among (k ∷ keep)) f e ≡ mask (λ e. same e k) f e + mask (among keep) f e)
-        (mask-cons f k keep new) g)
-        ∙ tot-add (mask (λ e. same e k) f) (mask (among keep) f) g ∙ ap₂ (λ a b. a + b) here rest
+    (each-always (λ e. mask (among (k ∷ keep)) f e ≡ mask (λ e. same e k) f e + mask (among keep) f e)
+    (mask-cons f k keep new) g)
+    ∙ tot-add (mask (λ e. same e k) f) (mask (among keep) f) g ∙ ap₂ (λ a b. a + b) here rest

@@ -1,4 +1,6 @@
 -- The n edges among which the run is sought: they are edges of the state, n of them, and weigh less than n M.
+-- In order: each-insert, each-sort, any-sort, tot-take-le, tot-drop-le, length-take-le, candidates-length,
+-- candidates-tot, candidates-lt, candidates-each.
 -- Assumes nothing.
 use mathlib.Core.Path.{_≡_, refl, sym, ap, _∙_}
 use mathlib.Core.Bool.{Bool, true, false, not}
@@ -11,10 +13,8 @@ use lib.ListN.{length, take, drop}
 use Rattle.laws.specs.Lists.{if_then_else_, filter, any, first}
 use Rattle.laws.proofs.Tests.{→orL}
 use Rattle.laws.specs.Sums.{Each, tot, mask, one}
-use Rattle.laws.proofs.Sums.{
-  each-map, each-always, each-filter, each-take, first-passes, tot-filter, tot-eq, tot-add, tot-length, tot-take-drop,
-  any→count, count→any
-}
+use Rattle.laws.proofs.Sums.{each-map, each-always, each-filter, each-take, first-passes, tot-filter, tot-eq}
+use Rattle.laws.proofs.Sums.{tot-add, tot-length, tot-take-drop, any→count, count→any}
 use Rattle.graph.proofs.Arcs.{among→count, each-among, tot-sort, tot-same}
 use Rattle.graph.specs.Invariant.{count}
 use Rattle.graph.specs.Arcs.{Arc, arc}
@@ -27,7 +27,7 @@ tot-split : {A : Type 0} (f : A → ℕ) (p : A → Bool) (l : List A)
     → tot (mask (λ x. not (p x)) f) l + tot (mask p f) l ≡ tot f l
 tot-split f p l =
     sym (tot-add (mask (λ x. not (p x)) f) (mask p f) l)
-        ∙ tot-eq (λ x. mask (λ x. not (p x)) f x + mask p f x) f l (each-always _ (λ x. go x (p x)) l)
+    ∙ tot-eq (λ x. mask (λ x. not (p x)) f x + mask p f x) f l (each-always _ (λ x. go x (p x)) l)
   where
     go : (x : _) (b : Bool) → (if not b then f x else 0) + (if b then f x else 0) ≡ f x
     go x true = zero-add (f x)
@@ -69,6 +69,11 @@ module _ (n : ℕ) (v : List ℕ) (es : List Arc) (hn : 0 < n) (many : n < lengt
   l-light : T (lighter v (greatest v) l)
   l-light = first-passes (lighter v (greatest v)) (arc 0 0 0) (λ e. T (among es e)) es light (each-among es) .0
 
+  -- the list has an edge to a lighter state
+  candidates-light : T (any (lighter v (greatest v)) (candidates n v (greatest v) es))
+  candidates-light =
+      →orL (lighter v (greatest v) l) (any (lighter v (greatest v)) (take (n - 1) (filter (other l) es))) l-light
+
   l-once : 0 < count l es
   l-once = among→count es l
       (first-passes (lighter v (greatest v)) (arc 0 0 0) (λ e. T (among es e)) es light (each-among es) .1)
@@ -84,9 +89,9 @@ module _ (n : ℕ) (v : List ℕ) (es : List Arc) (hn : 0 < n) (many : n < lengt
   pub candidates-length : length (candidates n v (greatest v) es) ≡ n
   candidates-length =
       let a : length (filter (other l) es) + 1 ≡ length es =
-          ap (λ k. k + 1) (sym (tot-length (filter (other l) es))) ∙ others (λ e. 1) ∙ tot-length es in
+      ap (λ k. k + 1) (sym (tot-length (filter (other l) es))) ∙ others (λ e. 1) ∙ tot-length es in
       let b : length (take (n - 1) (filter (other l) es)) ≡ n - 1 =
-          length-take-le (n - 1) (filter (other l) es) (omega arith) in
+      length-take-le (n - 1) (filter (other l) es) (omega arith) in
       omega arith
 
   -- they are among the edges, each once
@@ -94,13 +99,11 @@ module _ (n : ℕ) (v : List ℕ) (es : List Arc) (hn : 0 < n) (many : n < lengt
   candidates-tot f = omega (arith, others f, tot-take-le f (n - 1) (filter (other l) es))
 
   pub candidates-lt : total v (candidates n v (greatest v) es) < n * greatest v
-  candidates-lt =
-      rw candidates-length at
-          (total-lt v (candidates n v (greatest v) es)
-          (→orL (lighter v (greatest v) l)
-          (any (lighter v (greatest v)) (take (n - 1) (filter (other l) es))) l-light))
+  candidates-lt = rw candidates-length at (total-lt v (candidates n v (greatest v) es) candidates-light)
 
   pub candidates-each : (P : Arc → Type 0) → Each P es → Each P (candidates n v (greatest v) es)
-  candidates-each P h =
-      (first-passes (lighter v (greatest v)) (arc 0 0 0) P es light h .1, each-take P (n - 1) (filter (other l) es)
-          (each-filter P (other l) es (each-map P _ (λ e p t. p) es h)))
+  candidates-each P h = (
+    first-passes (lighter v (greatest v)) (arc 0 0 0) P es light h .1,
+    each-take P (n - 1) (filter (other l) es)
+        (each-filter P (other l) es (each-map P _ (λ e p t. p) es h)),
+  )

@@ -1,14 +1,13 @@
 -- The state to split: there is one, of greatest weight, with more than n edges.
+-- In order: greatest-ge, greatest-at, total-le, total-lt, each-for, ripe-some, Chosen, chosen-is.
 -- Assumes nothing.
 use mathlib.Core.Path.{_≡_, refl, sym, _∙_}
 use mathlib.Core.Logic.{_⊎_, inl, inr}
 use mathlib.Core.Bool.{Bool, true, false}
 use mathlib.Core.List.{List, [], _∷_}
 use Prim.Native.Nat.{ℕ, zero, suc, _+_, _*_, _≤_, _<_, zero-le, suc-le-suc}
-use native.Mathlib.Nat.{
-  not-suc-le-zero, le-trans, le-of-eq, zero-add, mul-comm, le-of-mul-le-mul-right, lt-of-mul-lt-mul-right,
-  le-max-left, le-max-right, max-eq-left, max-eq-right
-}
+use native.Mathlib.Nat.{not-suc-le-zero, le-trans, le-of-eq, zero-add, mul-comm, le-of-mul-le-mul-right}
+use native.Mathlib.Nat.{lt-of-mul-lt-mul-right, le-max-left, le-max-right, max-eq-left, max-eq-right}
 use native.Mathlib.Omega.{arith}
 use native.Mathlib.Decide.{decLe}
 use lib.Dec.{T, eqb, ltb, eqb→eq, eqb-refl, ltb→lt}
@@ -17,7 +16,8 @@ use lib.ListN.{length, getD}
 use Rattle.laws.specs.Lists.{from, range, any}
 use Rattle.laws.proofs.Tests.{and→, →and, or→, any-below→, →any-below}
 use Rattle.laws.specs.Sums.{Each}
-use Rattle.laws.proofs.Sums.{each-map, each-always, each-both, filter-each, each-any, first-passes, tot-le, tot-const}
+use Rattle.laws.proofs.Sums.{each-map, each-always, each-both, filter-each, each-any, first-passes, tot-le}
+use Rattle.laws.proofs.Sums.{tot-const}
 use Rattle.graph.specs.Invariant.{Inside, Stays, Inv}
 use Rattle.graph.specs.Arcs.{Arc, Work, leaves, out}
 use Rattle.graph.specs.Weights.{weight, total}
@@ -50,6 +50,7 @@ total-lt v (e ∷ es) t = go (or→ (lighter v (greatest v) e) (any (lighter v (
   where
     sucs : (k : ℕ) → suc k * greatest v ≡ greatest v + k * greatest v
     sucs k = omega arith
+
     go : T (lighter v (greatest v) e) ⊎ T (any (lighter v (greatest v)) es)
         → (T (any (lighter v (greatest v)) es) → total v es < length es * greatest v)
         → weight v e + total v es < suc (length es) * greatest v
@@ -91,12 +92,12 @@ module _ (n S : ℕ) (x : Work) (I : Inv n S x) where
           go : (b : Bool) → ltb (weight v e) (greatest v) ≡ b → T (eqb (weight v e) (greatest v))
           go true q = absurd (h (→any-below (splittable v g) (length v) (e .source) (i .0)
               (→and (eqb (getD v (e .source) 0) (greatest v)) (any (lighter v (greatest v)) (out g (e .source))) t
-                  (f (e .source) (eqb-refl (e .source)) (rw q tt)))))
+              (f (e .source) (eqb-refl (e .source)) (rw q tt)))))
           go false q = let m : weight v e ≡ greatest v =
               omega (arith, ltb-false (weight v e) (greatest v) q, greatest-ge v (e .target)) in
               rw m (eqb-refl (greatest v))
 
-  -- S1 and S2
+  -- some state of greatest weight has an edge to a lighter one
   pub ripe-some : T (unfinished n x) → T (any (splittable v g) (range (length v)))
   ripe-some t = go (any (splittable v g) (range (length v))) refl (any-below→ (fewEdges n g) (length v) t)
     where
@@ -106,12 +107,12 @@ module _ (n S : ℕ) (x : Work) (I : Inv n S x) where
       go false q (i, h, u) =
           let (m, hm, em) = greatest-at v (omega arith) in
           let e : getD v i 0 ≡ greatest v = eqb→eq (getD v i 0) (greatest v)
-                  (I .joined (λ s. eqb (getD v s 0) (greatest v)) (stays (λ k. rw q at k)) m hm
-                      (rw em (eqb-refl (greatest v))) i h) in
+          (I .joined (λ s. eqb (getD v s 0) (greatest v)) (stays (λ k. rw q at k)) m hm
+          (rw em (eqb-refl (greatest v))) i h) in
           let few : length (out g i) < n = ltb→lt (length (out g i)) n u in
           let a : greatest v * n ≤ total v (out g i) = rw e at (I .enough i h) in
           let b : greatest v * n ≤ greatest v * length (out g i) =
-              le-trans a (le-trans (total-le v (out g i)) (le-of-eq (mul-comm (length (out g i)) (greatest v)))) in
+          le-trans a (le-trans (total-le v (out g i)) (le-of-eq (mul-comm (length (out g i)) (greatest v)))) in
           let pos : 0 < greatest v = rw e at (I .positive i h) in
           absurd (few-not (greatest v) n (length (out g i)) pos b few)
         where
@@ -127,20 +128,22 @@ module _ (n S : ℕ) (x : Work) (I : Inv n S x) where
 
   each-from : (i k : ℕ) → Each (λ j. j < i + k) (from i k)
   each-from i zero = tt
-  each-from i (suc k) =
-      (omega arith, each-map (λ j. j < suc i + k) (λ j. j < i + suc k) (λ j h. omega arith) (from (suc i) k)
-      (each-from (suc i) k))
+  each-from i (suc k) = (
+    omega arith,
+    each-map (λ j. j < suc i + k) (λ j. j < i + suc k) (λ j h. omega arith) (from (suc i) k)
+        (each-from (suc i) k),
+  )
 
-  -- S3, for the state that the rule names
+  -- the state that the rule names has more than n edges
   pub chosen-is : T (unfinished n x) → Chosen (chosen (x .weights) (x .arcs))
   chosen-is t =
       let s = chosen v g in
       let (r, l) = first-passes (splittable v g) 0 (λ s. s < 0 + length v) (range (length v)) (ripe-some t)
-          (each-from 0 (length v)) in
+      (each-from 0 (length v)) in
       let (a, b) = and→ (eqb (getD v s 0) (greatest v)) (any (lighter v (greatest v)) (out g s)) r in
       let h : s < length v = rw (zero-add (length v)) at l in
       let e : getD v s 0 ≡ greatest v = eqb→eq (getD v s 0) (greatest v) a in
       let c : greatest v * n ≤ total v (out g s) = rw e at (I .enough s h) in
       let d : n * greatest v < length (out g s) * greatest v =
-          rw (mul-comm n (greatest v)) (omega (arith, total-lt v (out g s) b)) in
+      rw (mul-comm n (greatest v)) (omega (arith, total-lt v (out g s) b)) in
       record { state = h; heavy = e; light = b; many = lt-of-mul-lt-mul-right (greatest v) d }

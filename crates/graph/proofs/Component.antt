@@ -1,4 +1,5 @@
 -- The component: there is a state that every state reachable from it reaches back, and what is reachable from it.
+-- In order: good-some, start-in, C-closed, C-joined.
 -- Assumes nothing.
 use mathlib.Core.Path.{_≡_, refl, subst}
 use mathlib.Core.Logic.{_⊎_, inl, inr}
@@ -34,7 +35,7 @@ module _ (K : ℕ) (L : List ℕ) (g : List Arc) (reach : ℕ → ℕ → Bool) 
   smaller s t es ht a b =
       let c : 0 < times s L = any→count (eqb s) L es in
       let d : tot (λ x. one (reach t) x + one (eqb s) x) L ≤ size s =
-          tot-le (λ x. one (reach t) x + one (eqb s) x) (one (reach s)) L (each-map (λ x. x < K) _ point L inK) in
+      tot-le (λ x. one (reach t) x + one (eqb s) x) (one (reach s)) L (each-map (λ x. x < K) _ point L inK) in
       omega (arith, tot-add (one (reach t)) (one (eqb s)) L)
     where
       point : (x : ℕ) → x < K → one (reach t) x + one (eqb s) x ≤ one (reach s) x
@@ -43,6 +44,7 @@ module _ (K : ℕ) (L : List ℕ) (g : List Arc) (reach : ℕ → ℕ → Bool) 
           rest : (c : Bool) → reach t x ≡ c → (if c then 1 else 0) + 0 ≤ one (reach s) x
           rest true q = rw (T→true (reach s x) (reach-trans K g reach R i s t x ht hx a (rw q tt))) (le-refl 1)
           rest false q = zero-le
+
           go : Whether (s ≡ x) (eqb s x) → one (reach t) x + one (eqb s) x ≤ one (reach s) x
           go (so p q) = rw (q, ← p, b, T→true (reach s s) (R .self s (lt s es))) (le-refl 1)
           go (nay p q) = rw q (rest (reach t x) refl)
@@ -59,11 +61,12 @@ module _ (K : ℕ) (L : List ℕ) (g : List Arc) (reach : ℕ → ℕ → Bool) 
       next (t, e, et) =
           let (p, q) = fails (reach s t) (reach t s) e in
           (t, et, smaller s t es (lt t et) (rw p tt) q)
+
       go : (b : Bool) → good s ≡ b → T (any good L) ⊎ ((t : ℕ) × T (elem t L) × (size t < size s))
       go true q = inl (elem-each (λ s. T (good s) → T (any good L)) s L es (each-any good L) (rw q tt))
       go false q = inr (next (not-all (returns reach s) (λ t. T (elem t L)) L q (each-elem L)))
 
-  -- K2
+  -- there is a state that all states reachable from it reach back
   descend : (k s : ℕ) → T (elem s L) → size s ≤ k → T (any good L)
   descend zero s es h = go (lower s es)
     where
@@ -92,37 +95,38 @@ module _ (K : ℕ) (L : List ℕ) (g : List Arc) (reach : ℕ → ℕ → Bool) 
     C-back x t =
         let u : T (reach s x) × T (elem x L) = elem-filter (reach s) x L t in
         imp→ (reach s x) (reach x s)
-            (elem-each (λ x. T (returns reach s x)) x L (u .1) (all-each (returns reach s) L gs)) (u .0)
+        (elem-each (λ x. T (returns reach s x)) x L (u .1) (all-each (returns reach s) L gs)) (u .0)
 
     -- edges of the component stay in it
     pub C-closed : Each (λ e. T (elem (e .source) C) → T (elem (e .target) C)) g
     C-closed =
         each-map _ (λ e. T (elem (e .source) C) → T (elem (e .target) C)) closed g
-            (each-both _ _ g (each-both (Inside K) _ g i (reach-edge K g reach R i)) stay)
+        (each-both _ _ g (each-both (Inside K) _ g i (reach-edge K g reach R i)) stay)
       where
         closed : (e : Arc) → (Inside K e × T (reach (e .source) (e .target))) × T (elem (e .target) L)
             → T (elem (e .source) C) → T (elem (e .target) C)
         closed e h t =
             →elem-filter (reach s) (e .target) L (h .1)
-                (reach-trans K g reach R i s (e .source) (e .target) (h .0 .0 .0) (h .0 .0 .1)
-                (elem-filter (reach s) (e .source) L t .0) (h .0 .1))
+            (reach-trans K g reach R i s (e .source) (e .target) (h .0 .0 .0) (h .0 .0 .1)
+            (elem-filter (reach s) (e .source) L t .0) (h .0 .1))
 
-    -- K4: a set with a member of the component, closed in it, holds all of it
+    -- a set with a member of the component, closed in it, holds all of it
     pub C-joined : (Q : ℕ → Bool) → Each (λ e. T (elem (e .source) C) → Stays Q e) g → (x y : ℕ) → T (elem x C)
         → T (elem y C) → T (Q x) → T (Q y)
     C-joined Q c x y ex ey q =
         let a : T (Q′ s) = R .sound s (lt s es) Q′ closed x (C-back x ex) (→and (elem x C) (Q x) ex q) in
         let b : T (Q′ y) = R .sound y (lt y (elem-filter (reach s) y L ey .1)) Q′ closed s
-            (elem-filter (reach s) y L ey .0) a in
+        (elem-filter (reach s) y L ey .0) a in
         and→ (elem y C) (Q y) b .1
       where
         Q′ : ℕ → Bool
         Q′ z = elem z (filter (reach s) L) && Q z
+
         closed : Each (Stays (λ z. elem z (filter (reach s) L) && Q z)) g
         closed =
             each-map _ (Stays (λ z. elem z (filter (reach s) L) && Q z))
-                (λ e h t. let u : T (elem (e .source) C) × T (Q (e .source)) =
-                    and→ (elem (e .source) C) (Q (e .source)) t in
-                    →and (elem (e .target) C) (Q (e .target)) (h .0 (u .0)) (h .1 (u .0) (u .1))) g
-                (each-both (λ e. T (elem (e .source) C) → T (elem (e .target) C))
-                    (λ e. T (elem (e .source) C) → Stays Q e) g C-closed c)
+            (λ e h t. let u : T (elem (e .source) C) × T (Q (e .source)) =
+            and→ (elem (e .source) C) (Q (e .source)) t in
+            →and (elem (e .target) C) (Q (e .target)) (h .0 (u .0)) (h .1 (u .0) (u .1))) g
+            (each-both (λ e. T (elem (e .source) C) → T (elem (e .target) C))
+            (λ e. T (elem (e .source) C) → Stays Q e) g C-closed c)

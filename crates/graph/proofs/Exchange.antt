@@ -1,4 +1,5 @@
 -- The sum over the words is the sum over the states t of A(s, t) times the weight of t.
+-- In order: exchange.
 -- Assumes nothing.
 use mathlib.Core.Path.{_≡_, sym, ap₂, _∙_}
 use mathlib.Core.Bool.{Bool, true, false}
@@ -44,10 +45,10 @@ exchange-all v [] = sym
     (each-always _ (λ t. zero-mul (getD v t 0)) (range (length v))) ∙ tot-zero (range (length v)))
 exchange-all v (e ∷ es) =
     ap₂ (λ a b. a + b) (sym (one-weight v (e .target))) (exchange-all v es)
-        ∙ sym (tot-add (λ t. one (eqb (e .target)) t * getD v t 0) (λ t. length (filter (enters t) es) * getD v t 0)
-            (range (length v)))
-        ∙ tot-eq _ (λ t. length (filter (enters t) (e ∷ es)) * getD v t 0) (range (length v))
-            (each-always _ (λ t. go t (eqb (e .target) t)) (range (length v)))
+    ∙ sym (tot-add (λ t. one (eqb (e .target)) t * getD v t 0) (λ t. length (filter (enters t) es) * getD v t 0)
+    (range (length v)))
+    ∙ tot-eq _ (λ t. length (filter (enters t) (e ∷ es)) * getD v t 0) (range (length v))
+    (each-always _ (λ t. go t (eqb (e .target) t)) (range (length v)))
   where
     go : (t : ℕ) (b : Bool)
         → (if b then 1 else 0) * getD v t 0 + length (filter (enters t) es) * getD v t 0 ≡ length

@@ -1,4 +1,6 @@
 -- The component with its weights, renumbered, has what splitting needs.
+-- In order: K, L, gl, reach, inside-l, in-K, s, s-is, C, start-C, closed-C, C-live, C-once, closed-g, heft, v′,
+-- v′-length, in-both, started-inv.
 -- Assumes nothing.
 use mathlib.Core.Path.{_≡_, refl, ap, _∙_}
 use mathlib.Core.Bool.{Bool}
@@ -11,23 +13,19 @@ use lib.ListN.{length, getD, length-map}
 use Rattle.laws.specs.Lists.{range, sum, first, elem, indexOf}
 use Rattle.laws.proofs.Tests.{and→, →and, Whether, so, nay, eqb-is, T→true, getD-map-lt}
 use Rattle.laws.specs.Sums.{Each, tot, mask, one, times}
-use Rattle.laws.proofs.Sums.{
-  each-map, each-always, each-both, each-filter, filter-each, first-passes, each-image, image-each, tot-filter,
-  tot-le, tot-map
-}
+use Rattle.laws.proofs.Sums.{each-map, each-always, each-both, each-filter, filter-each, first-passes, each-image}
+use Rattle.laws.proofs.Sums.{image-each, tot-filter, tot-le, tot-map}
 use Rattle.graph.proofs.Arcs.{same-is, same-refl}
 use Rattle.graph.specs.Invariant.{count, Inside, Stays, Joined, Inv}
 use Rattle.graph.specs.Arcs.{Arc, arc, leaves, out}
 use Rattle.graph.specs.Weights.{weight, total}
 use Rattle.graph.specs.Splitting.{same}
-use Rattle.graph.specs.Component.{
-  reachings, reaches, returning, both, within, renamed, renumbered, weighs, live, componentStates, componentGraph
-}
+use Rattle.graph.specs.Component.{reachings, reaches, returning, both, within, renamed, renumbered, weighs}
+use Rattle.graph.specs.Component.{live, componentStates, componentGraph}
 use Rattle.laws.proofs.Anys.{each-range}
 use Rattle.graph.proofs.Reach.{reaches-is}
-use Rattle.laws.proofs.Elems.{
-  each-elem, elem-filter, →elem-filter, each-at, elem-range, range-once, tot-filter-le, index-lt, at-index, index-at
-}
+use Rattle.laws.proofs.Elems.{each-elem, elem-filter, →elem-filter, each-at, elem-range, range-once, tot-filter-le}
+use Rattle.laws.proofs.Elems.{index-lt, at-index, index-at}
 use Rattle.graph.proofs.Component.{good-some, start-in, C-closed, C-joined}
 
 module _ (v : List ℕ) (g : List Arc) (i : Each (Inside (length v)) g) (z : ℕ) (ez : T (elem z (live v))) where
@@ -87,19 +85,19 @@ module _ (v : List ℕ) (g : List Arc) (i : Each (Inside (length v)) g) (z : ℕ
   C-once x = le-trans (tot-filter-le (one (eqb x)) (reach s) L)
       (le-trans (tot-filter-le (one (eqb x)) (weighs v) (range K)) (range-once x K))
 
-  -- an edge from the component to a state of weight above 0 stays in it (K3)
+  -- an edge from the component to a state of weight above 0 stays in it
   pub closed-g : Each (λ e. T (elem (e .source) C) → 0 < weight v e → T (elem (e .target) C)) g
   closed-g =
       each-map _ (λ e. T (elem (e .source) C) → 0 < weight v e → T (elem (e .target) C)) go g
-          (each-both (Inside K) _ g i
-              (filter-each (λ e. T (elem (e .source) C) → T (elem (e .target) C)) (both L) g closed-C))
+      (each-both (Inside K) _ g i
+      (filter-each (λ e. T (elem (e .source) C) → T (elem (e .target) C)) (both L) g closed-C))
     where
       go : (e : Arc) → Inside K e × (T (both L e) → T (elem (e .source) C) → T (elem (e .target) C))
           → T (elem (e .source) C) → 0 < weight v e → T (elem (e .target) C)
       go e (h, f) t w =
           f (→and (elem (e .source) L) (elem (e .target) L) (C-live (e .source) t)
-              (→elem-filter (weighs v) (e .target) (range K) (elem-range K (e .target) (h .1))
-              (lt→ltb 0 (weight v e) w))) t
+          (→elem-filter (weighs v) (e .target) (range K) (elem-range K (e .target) (h .1))
+          (lt→ltb 0 (weight v e) w))) t
 
   -- ---- renumbered
   abbrev pub heft : ℕ → ℕ
@@ -117,9 +115,9 @@ module _ (v : List ℕ) (g : List Arc) (i : Each (Inside (length v)) g) (z : ℕ
   positive′ : (j : ℕ) → j < length C → 0 < getD v′ j 0
   positive′ j h =
       rw (getD-map-lt heft C j 0 0 h)
-          (ltb→lt 0 (getD v (getD C j 0) 0)
-              (elem-filter (weighs v) (getD C j 0) (range K)
-              (C-live (getD C j 0) (each-at (λ x. T (elem x C)) 0 C (each-elem C) j h)) .0))
+      (ltb→lt 0 (getD v (getD C j 0) 0)
+      (elem-filter (weighs v) (getD C j 0) (range K)
+      (C-live (getD C j 0) (each-at (λ x. T (elem x C)) 0 C (each-elem C) j h)) .0))
 
   pub in-both : Each (λ e. T (elem (e .source) C) × T (elem (e .target) C)) (within C g)
   in-both = each-filter (λ e. T (elem (e .source) C) × T (elem (e .target) C)) (both C) g
@@ -128,17 +126,17 @@ module _ (v : List ℕ) (g : List Arc) (i : Each (Inside (length v)) g) (z : ℕ
   inside′ : Each (Inside (length C)) (renumbered C g)
   inside′ =
       each-image (Inside (length C)) (renamed C) (within C g)
-          (each-map _ (λ e. Inside (length C) (renamed C e))
-              (λ e h. (index-lt (e .source) C (h .0), index-lt (e .target) C (h .1))) (within C g) in-both)
+      (each-map _ (λ e. Inside (length C) (renamed C e))
+      (λ e h. (index-lt (e .source) C (h .0), index-lt (e .target) C (h .1))) (within C g) in-both)
 
   -- an edge of the renumbered graph comes from one edge
   distinct′ : ((e : Arc) → count e g ≤ 1) → (e : Arc) → count e (renumbered C g) ≤ 1
   distinct′ d e =
       let e′ = arc (getD C (e .source) 0) (e .word) (getD C (e .target) 0) in
       rw (tot-map (one (same e)) (renamed C) (within C g))
-          (le-trans (tot-le (λ f. one (same e) (renamed C f)) (one (same e′)) (within C g)
-              (each-map _ _ point (within C g) in-both))
-              (le-trans (tot-filter-le (one (same e′)) (both C) g) (d e′)))
+      (le-trans (tot-le (λ f. one (same e) (renamed C f)) (one (same e′)) (within C g)
+      (each-map _ _ point (within C g) in-both))
+      (le-trans (tot-filter-le (one (same e′)) (both C) g) (d e′)))
     where
       point : (f : Arc) → T (elem (f .source) C) × T (elem (f .target) C)
           → one (same e) (renamed C f) ≤ one (same (arc (getD C (e .source) 0) (e .word) (getD C (e .target) 0))) f
@@ -149,9 +147,9 @@ module _ (v : List ℕ) (g : List Arc) (i : Each (Inside (length v)) g) (z : ℕ
               (same (arc (getD C (e .source) 0) (e .word) (getD C (e .target) 0))) f
           go (so p q) =
               let a : getD C (e .source) 0 ≡ f .source =
-                  ap (λ e. getD C (e .source) 0) p ∙ at-index (f .source) C (h .0) in
+              ap (λ e. getD C (e .source) 0) p ∙ at-index (f .source) C (h .0) in
               let b : getD C (e .target) 0 ≡ f .target =
-                  ap (λ e. getD C (e .target) 0) p ∙ at-index (f .target) C (h .1) in
+              ap (λ e. getD C (e .target) 0) p ∙ at-index (f .target) C (h .1) in
               let c : e .word ≡ f .word = ap (λ e. e .word) p in
               rw (q, a, b, c, T→true (same f f) (same-refl f)) (le-refl 1)
           go (nay p q) = rw q zero-le
@@ -160,18 +158,22 @@ module _ (v : List ℕ) (g : List Arc) (i : Each (Inside (length v)) g) (z : ℕ
       → getD v′ j 0 * n ≤ total v′ (out (renumbered C g) j)
   enough′ n j h w =
       rw (getD-map-lt heft C j 0 0 h, sums)
-          (le-trans w (rw (tot-filter (weight v) (leaves x) g)
-              (tot-le (mask (leaves x) (weight v)) (mask (both C) F) g (each-map _ _ point g closed-g))))
+      (le-trans w (rw (tot-filter (weight v) (leaves x) g)
+      (tot-le (mask (leaves x) (weight v)) (mask (both C) F) g (each-map _ _ point g closed-g))))
     where
       x : ℕ
       x = getD C j 0
+
       F : Arc → ℕ
       F e = mask (leaves j) (weight v′) (renamed C e)
+
       sums : total v′ (out (renumbered C g) j) ≡ tot (mask (both C) F) g
       sums = tot-filter (weight v′) (leaves j) (renumbered C g)
           ∙ tot-map (mask (leaves j) (weight v′)) (renamed C) (within C g) ∙ tot-filter F (both C) g
+
       x-in : T (elem (getD C j 0) C)
       x-in = each-at (λ x. T (elem x C)) 0 C (each-elem C) j h
+
       point : (e : Arc) → (T (elem (e .source) C) → 0 < weight v e → T (elem (e .target) C))
           → mask (leaves (getD C j 0)) (weight v) e ≤ mask (both C) F e
       point e f = go (eqb-is (e .source) (getD C j 0)) (weight v e) refl
@@ -186,25 +188,27 @@ module _ (v : List ℕ) (g : List Arc) (i : Each (Inside (length v)) g) (z : ℕ
               let a : indexOf (e .source) C ≡ j = ap (λ x. indexOf x C) p ∙ index-at C C-once j h in
               let b : F e ≡ weight v e = rw (eq-eqb (indexOf (e .source) C) j a) (v′-at (e .target) et) in
               rw (q, T→true (both C e) (→and (elem (e .source) C) (elem (e .target) C) es et), b)
-                  (le-refl (weight v e))
+              (le-refl (weight v e))
 
   joined′ : Joined (length C) (renumbered C g)
   joined′ Q c a ha qa b hb =
       rw (index-at C C-once b hb) at
-          (joined-C (λ x. Q (indexOf x C)) closed (getD C a 0) (getD C b 0) (member a ha) (member b hb)
-          (rw (index-at C C-once a ha) qa))
+      (joined-C (λ x. Q (indexOf x C)) closed (getD C a 0) (getD C b 0) (member a ha) (member b hb)
+      (rw (index-at C C-once a ha) qa))
     where
       member : (j : ℕ) → j < length C → T (elem (getD C j 0) C)
       member j h = each-at (λ x. T (elem x C)) 0 C (each-elem C) j h
+
       all-g : Each (λ e. T (both C e) → Stays Q (renamed C e)) g
       all-g = filter-each (λ e. Stays Q (renamed C e)) (both C) g (image-each (Stays Q) (renamed C) (within C g) c)
+
       closed : Each (λ e. T (elem (e .source) C) → Stays (λ x. Q (indexOf x C)) e) gl
       closed =
           each-map _ (λ e. T (elem (e .source) C) → Stays (λ x. Q (indexOf x C)) e)
-              (λ e h t. h .1 (→and (elem (e .source) C) (elem (e .target) C) t (h .0 t))) gl
-              (each-both _ (λ e. T (both C e) → Stays Q (renamed C e)) gl closed-C
-                  (each-filter (λ e. T (both C e) → Stays Q (renamed C e)) (both L) g
-                      (each-map (λ e. T (both C e) → Stays Q (renamed C e)) _ (λ e h t. h) g all-g)))
+          (λ e h t. h .1 (→and (elem (e .source) C) (elem (e .target) C) t (h .0 t))) gl
+          (each-both _ (λ e. T (both C e) → Stays Q (renamed C e)) gl closed-C
+          (each-filter (λ e. T (both C e) → Stays Q (renamed C e)) (both L) g
+          (each-map (λ e. T (both C e) → Stays Q (renamed C e)) _ (λ e h t. h) g all-g)))
 
   pub started-inv : (n : ℕ) → ((e : Arc) → count e g ≤ 1) → ((s : ℕ) → getD v s 0 * n ≤ total v (out g s))
       → Inv n (sum (componentGraph v g .weights)) (componentGraph v g)
@@ -216,5 +220,5 @@ module _ (v : List ℕ) (g : List Arc) (i : Each (Inside (length v)) g) (z : ℕ
         inside = rw v′-length inside′;
         enough = λ j h. enough′ n j (rw v′-length at h) (enough (getD C j 0));
         distinct = distinct′ d;
-        joined = rw v′-length joined′
+        joined = rw v′-length joined′;
       }

@@ -12,6 +12,7 @@ pub mod Choice
 pub mod Candidates
 pub mod Sorted
 pub mod Runs
+pub mod RunUnique
 pub mod Parted
 pub mod PartedSums
 pub mod PartedDistinct

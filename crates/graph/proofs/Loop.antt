@@ -1,4 +1,5 @@
 -- All splits: they end with no state short of edges, or with too many edges, and never for want of rounds.
+-- In order: length-le-sum, splits-on, splits-off, states-le, splits-end, splitted-end, splitted-full.
 -- Assumes nothing.
 use mathlib.Core.Path.{_≡_, refl, sym, subst}
 use mathlib.Core.Bool.{Bool, true, false, not}
@@ -47,9 +48,12 @@ module _ (n S : ℕ) (hn : 0 < n) where
   splits-end zero x I h = go (goesOn n x) refl
     where
       go : (b : Bool) → goesOn n x ≡ b → Inv n S x × (goesOn n x ≡ false)
-      go true q = absurd (omega
-          (arith, states-le (split n x) (split-inv n S x hn I (going→short x q)), split-length n S x hn I
-          (going→short x q)))
+      go true q = absurd (omega (
+        arith,
+        states-le (split n x) (split-inv n S x hn I (going→short x q)),
+        split-length n S x hn I
+            (going→short x q),
+      ))
       go false q = (I, q)
   splits-end (suc k) x I h = go (goesOn n x) refl (λ y. splits-end k y)
     where
@@ -77,7 +81,7 @@ module _ (n S : ℕ) (hn : 0 < n) where
           → s < length (y .weights) → n ≤ length (out (y .arcs) s)
       go y true q e a l =
           let t : T (goesOn n y) =
-              →and (not (ltb 2048 (length (y .arcs)))) (unfinished n y) (rw (le-ltb 2048 (length (y .arcs)) a) tt)
-              (→any-below (fewEdges n (y .arcs)) (length (y .weights)) s l (rw q tt)) in
+          →and (not (ltb 2048 (length (y .arcs)))) (unfinished n y) (rw (le-ltb 2048 (length (y .arcs)) a) tt)
+          (→any-below (fewEdges n (y .arcs)) (length (y .weights)) s l (rw q tt)) in
           absurd (rw e at t)
       go y false q e a l = ltb-false (length (out (y .arcs) s)) n q

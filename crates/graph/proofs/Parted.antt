@@ -1,4 +1,5 @@
 -- Parting a state: the weights of the two parts.
+-- In order: at-front, at-end, set-at, set-off, weights′, length′, w-old, w-new, w-other, sum′.
 -- Assumes nothing.
 use mathlib.Core.Path.{_≡_, refl, sym, ap, _∙_}
 use mathlib.Core.List.{List, [], _∷_, _++_}

@@ -1,4 +1,5 @@
 -- Parting a state: the edges stay distinct and inside.
+-- In order: moved-inside, shifted-inside, doubled-inside, parted-distinct.
 -- Assumes nothing.
 use mathlib.Core.Path.{_≡_, refl, sym, ap, _∙_}
 use mathlib.Core.Bool.{Bool, true, false, not, _&&_}
@@ -11,9 +12,8 @@ use borrow.Author.Tests.{eq-eqb, ne-eqb}
 use Rattle.laws.specs.Lists.{if_then_else_, filter}
 use Rattle.laws.proofs.Tests.{Whether, so, nay, eqb-is}
 use Rattle.laws.specs.Sums.{Each, tot, mask, one}
-use Rattle.laws.proofs.Sums.{
-  each-map, each-always, each-append, each-filter, each-image, tot-append, tot-filter, tot-le, tot-add, tot-map
-}
+use Rattle.laws.proofs.Sums.{each-map, each-always, each-append, each-filter, each-image, tot-append, tot-filter}
+use Rattle.laws.proofs.Sums.{tot-le, tot-add, tot-map}
 use Rattle.graph.specs.Invariant.{count, Inside}
 use Rattle.graph.specs.Arcs.{Arc, arc, leaves, enters}
 use Rattle.graph.specs.Splitting.{same, among, moved, redirected, doubled}
@@ -35,6 +35,7 @@ module _ (s K : ℕ) (keep : List Arc) where
     where
       none : (f′ : Arc) → f′ .source < K → (k : ℕ) → one (same e) f′ ≤ k
       none f′ l k = rw (ne-eqb (e .source) (f′ .source) (λ r. omega arith)) zero-le
+
       go : Fate s K keep f → one (same e) (moved s K keep f) ≤ one (same (arc s (e .word) (e .target))) f
       go (goes a u q) = rw q (rw (eq-eqb (e .source) K p, eq-eqb s (f .source) (sym a)) (le-refl _))
       go (remains a u q) = rw q (none f h _)
@@ -55,12 +56,16 @@ module _ (s K : ℕ) (keep : List Arc) where
     where
       go : Whether (e .source ≡ K) (eqb (e .source) K) → (e′ : Arc) × (count e (map (moved s K keep) g) ≤ count e′ g)
       go (so p q) =
-          let e′ = arc s (e .word) (e .target) in
-          (e′, rw (tot-map (one (same e)) (moved s K keep) g)
-              (tot-le _ (one (same e′)) g (each-map (Inside K) _ (λ f k. from-new e f p (k .0)) g i)))
-      go (nay p q) =
-          (e, rw (tot-map (one (same e)) (moved s K keep) g)
-              (tot-le _ (one (same e)) g (each-always _ (λ f. from-old e f p) g)))
+          let e′ = arc s (e .word) (e .target) in (
+            e′,
+            rw (tot-map (one (same e)) (moved s K keep) g)
+                (tot-le _ (one (same e′)) g (each-map (Inside K) _ (λ f k. from-new e f p (k .0)) g i)),
+          )
+      go (nay p q) = (
+        e,
+        rw (tot-map (one (same e)) (moved s K keep) g)
+            (tot-le _ (one (same e)) g (each-always _ (λ f. from-old e f p) g)),
+      )
 
 -- ---- doubled edges: likewise
 module _ (s K : ℕ) where
@@ -69,8 +74,8 @@ module _ (s K : ℕ) where
       (same (arc (e .source) (e .word) s)) f
   to-new e f p h =
       let a : one (same e) f ≡ 0 =
-          rw (and-false (eqb (e .source) (f .source)) _
-          (and-false (eqb (e .word) (f .word)) _ (ne-eqb (e .target) (f .target) (λ r. omega arith)))) in
+      rw (and-false (eqb (e .source) (f .source)) _
+      (and-false (eqb (e .word) (f .word)) _ (ne-eqb (e .target) (f .target) (λ r. omega arith)))) in
       rw (a, zero-add) (go (eqb-is (f .target) s))
     where
       go : Whether (f .target ≡ s) (eqb (f .target) s)
@@ -82,8 +87,8 @@ module _ (s K : ℕ) where
       → one (same e) f + mask (enters s) (λ f. one (same e) (redirected K f)) f ≤ one (same e) f
   to-old e f p =
       let a : one (same e) (redirected K f) ≡ 0 =
-          rw (and-false (eqb (e .source) (f .source)) _
-          (and-false (eqb (e .word) (f .word)) _ (ne-eqb (e .target) K p))) in
+      rw (and-false (eqb (e .source) (f .source)) _
+      (and-false (eqb (e .word) (f .word)) _ (ne-eqb (e .target) K p))) in
       rw a (go (enters s f))
     where
       go : (b : Bool) → one (same e) f + (if b then 0 else 0) ≤ one (same e) f
@@ -98,10 +103,11 @@ module _ (s K : ℕ) where
           (λ f. one (same e) f + mask (enters s) (λ f. one (same e) (redirected K f)) f) g
       sums =
           tot-append (one (same e)) g (map (redirected K) (filter (enters s) g))
-              ∙ ap (λ k. count e g + k)
-                  (tot-map (one (same e)) (redirected K) (filter (enters s) g)
-                  ∙ tot-filter (λ f. one (same e) (redirected K f)) (enters s) g)
-              ∙ sym (tot-add (one (same e)) (mask (enters s) (λ f. one (same e) (redirected K f))) g)
+          ∙ ap (λ k. count e g + k)
+          (tot-map (one (same e)) (redirected K) (filter (enters s) g)
+          ∙ tot-filter (λ f. one (same e) (redirected K f)) (enters s) g)
+          ∙ sym (tot-add (one (same e)) (mask (enters s) (λ f. one (same e) (redirected K f))) g)
+
       go : Whether (e .target ≡ K) (eqb (e .target) K) → (e′ : Arc) × (count e (doubled s K g) ≤ count e′ g)
       go (so p q) =
           let e′ = arc (e .source) (e .word) s in
@@ -126,15 +132,15 @@ pub doubled-inside : (s K : ℕ) (g : List Arc) → Each (λ e. (e .source < suc
     → Each (Inside (suc K)) (doubled s K g)
 doubled-inside s K g i =
     each-append (Inside (suc K)) g (map (redirected K) (filter (enters s) g))
-        (each-map _ (Inside (suc K)) (λ e h. (h .0, omega (arith, h .1))) g i)
-        (each-image (Inside (suc K)) (redirected K) (filter (enters s) g)
-            (each-filter (λ e. Inside (suc K) (redirected K e)) (enters s) g
-                (each-map (λ e. (e .source < suc K) × (e .target < K)) _ (λ e h t. (h .0, le-refl (suc K))) g i)))
+    (each-map _ (Inside (suc K)) (λ e h. (h .0, omega (arith, h .1))) g i)
+    (each-image (Inside (suc K)) (redirected K) (filter (enters s) g)
+    (each-filter (λ e. Inside (suc K) (redirected K e)) (enters s) g
+    (each-map (λ e. (e .source < suc K) × (e .target < K)) _ (λ e h t. (h .0, le-refl (suc K))) g i)))
 
 pub parted-distinct : (s K : ℕ) (keep g : List Arc) → Each (Inside K) g → ((e : Arc) → count e g ≤ 1) → (e : Arc)
     → count e (doubled s K (map (moved s K keep) g)) ≤ 1
 parted-distinct s K keep g i d e =
     let (e′, h) = doubled-count s K (map (moved s K keep) g)
-        (each-map _ (λ e. e .target < K) (λ e h. h .1) (map (moved s K keep) g) (shifted-inside s K keep g i)) e in
+    (each-map _ (λ e. e .target < K) (λ e h. h .1) (map (moved s K keep) g) (shifted-inside s K keep g i)) e in
     let (e″, k) = moved-count s K keep g i e′ in
     le-trans h (le-trans k (d e″))

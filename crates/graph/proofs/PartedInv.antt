@@ -1,4 +1,5 @@
 -- Parting a state keeps the invariant, given what the choice of the run must bring.
+-- In order: count-out, parted-length, parted-inv.
 -- Assumes nothing.
 use mathlib.Core.Path.{_≡_, ap, _∙_}
 use mathlib.Core.Bool.{Bool, true, false}
@@ -13,7 +14,7 @@ use Rattle.laws.specs.Lists.{if_then_else_}
 use Rattle.laws.proofs.Tests.{Whether, so, nay, eqb-is}
 use Rattle.laws.specs.Sums.{Each, mask, one}
 use Rattle.laws.proofs.Sums.{each-map, each-always, tot-filter, tot-le}
-use Rattle.graph.specs.Invariant.{count, Inv}
+use Rattle.graph.specs.Invariant.{count, Inv, Part}
 use Rattle.graph.specs.Arcs.{Arc, Work, leaves, out}
 use Rattle.graph.specs.Weights.{total}
 use Rattle.graph.specs.Splitting.{same, parted}
@@ -21,14 +22,6 @@ use Rattle.graph.proofs.Parted.{weights′, length′, w-old, w-new, w-
 use Rattle.graph.proofs.PartedSums.{shifted, shifted-other, shifted-old, shifted-both, doubled-tot}
 use Rattle.graph.proofs.PartedDistinct.{shifted-inside, doubled-inside, parted-distinct}
 use Rattle.graph.proofs.PartedJoined.{parted-joined}
-
--- a state, edges for it to keep and their weight
-pub record Part (n : ℕ) (x : Work) (s : ℕ) (keep : List Arc) (w : ℕ) : Type 0 where
-  pub state : s < length (x .weights)
-  pub some : 0 < w
-  pub less : w < getD (x .weights) s 0
-  pub exact : total (x .weights) keep ≡ w * n
-  pub own : (e : Arc) → count e keep ≤ count e (out (x .arcs) s)
 
 data Which (s K y : ℕ) : Type 0 where
   old : y ≡ s → Which s K y
@@ -77,6 +70,7 @@ module _ (n S : ℕ) (x : Work) (s : ℕ) (keep : List Arc) (w : ℕ) (hn : 0 < 
       kept-sum : total v (out g′ s) ≡ w * n
       kept-sum = shifted-old v (x .arcs) keep s (p .state) (p .own)
           (λ e. le-trans (count-out (x .arcs) s e) (I .distinct e)) ∙ p .exact
+
       go : Which s (length v) y → getD v′ y 0 * n ≤ total v (out g′ y)
       go (old q) = rw (q, w-old v s w (p .state), kept-sum) (le-refl (w * n))
       go (new q) =
@@ -84,7 +78,7 @@ module _ (n S : ℕ) (x : Work) (s : ℕ) (keep : List Arc) (w : ℕ) (hn : 0 < 
           let a : getD v s 0 ≡ w + d = omega (arith, p .less) in
           let b : getD v s 0 * n ≡ w * n + d * n = ap (λ k. k * n) a ∙ add-mul w d n in
           let c : total v (out g′ s) + total v (out g′ (length v)) ≡ total v (out (x .arcs) s) =
-              shifted-both v (x .arcs) keep s (p .state) (I .inside) in
+          shifted-both v (x .arcs) keep s (p .state) (I .inside) in
           let e : getD v s 0 * n ≤ total v (out (x .arcs) s) = I .enough s (p .state) in
           rw (q, w-new v s w (p .state)) (omega (arith, kept-sum))
       go (another l q) = rw (w-other v s w (p .state) y l q, shifted-other v (x .arcs) keep s (p .state) y l q)
@@ -113,5 +107,5 @@ module _ (n S : ℕ) (x : Work) (s : ℕ) (keep : List Arc) (w : ℕ) (hn : 0 < 
         enough = λ y h. rw (doubled-tot v s w (p .state) (omega (arith, p .less)) g′ tight y)
             (enough′ y (rw len at h));
         distinct = parted-distinct s (length v) keep (x .arcs) (I .inside) (I .distinct);
-        joined = rw len (parted-joined s (length v) keep (x .arcs) v (p .state) (I .joined) tight some-edge)
+        joined = rw len (parted-joined s (length v) keep (x .arcs) v (p .state) (I .joined) tight some-edge);
       }

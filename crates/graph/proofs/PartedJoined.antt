@@ -1,4 +1,5 @@
 -- Parting a state: the graph stays irreducible.
+-- In order: parted-joined.
 -- Assumes nothing.
 use mathlib.Core.Path.{_≡_, refl, subst}
 use mathlib.Core.Bool.{Bool, _&&_}
@@ -11,9 +12,8 @@ use borrow.Author.Tests.{eq-eqb}
 use Rattle.laws.specs.Lists.{if_then_else_, filter}
 use Rattle.laws.proofs.Tests.{and→, →and, Whether, so, nay, eqb-is}
 use Rattle.laws.specs.Sums.{Each, tot, mask}
-use Rattle.laws.proofs.Sums.{
-  each-map, each-both, each-front, each-back, filter-each, image-each, tot-filter, tot-some
-}
+use Rattle.laws.proofs.Sums.{each-map, each-both, each-front, each-back, filter-each, image-each, tot-filter}
+use Rattle.laws.proofs.Sums.{tot-some}
 use Rattle.graph.specs.Invariant.{Stays, Joined}
 use Rattle.graph.specs.Arcs.{Arc, leaves, enters, out}
 use Rattle.graph.specs.Weights.{weight, total}
@@ -48,18 +48,19 @@ module _ (s K : ℕ) (keep g : List Arc) (hs : s < K) (Q : ℕ → Bool) where
     moved-both =
         let g′ = map (moved s K keep) g in
         each-map (λ e. Stays Q e × (T (enters s e) → Stays Q (redirected K e))) Both
-            (λ e h t. (h .0 t, λ p. h .1 (rw (eq-eqb (e .target) s p) tt) t)) g′
-            (each-both (Stays Q) (λ e. T (enters s e) → Stays Q (redirected K e)) g′
-                (each-front (Stays Q) g′ (map (redirected K) (filter (enters s) g′)) closed)
-                (filter-each (λ e. Stays Q (redirected K e)) (enters s) g′
-                    (image-each (Stays Q) (redirected K) (filter (enters s) g′)
-                    (each-back (Stays Q) g′ (map (redirected K) (filter (enters s) g′)) closed))))
+        (λ e h t. (h .0 t, λ p. h .1 (rw (eq-eqb (e .target) s p) tt) t)) g′
+        (each-both (Stays Q) (λ e. T (enters s e) → Stays Q (redirected K e)) g′
+        (each-front (Stays Q) g′ (map (redirected K) (filter (enters s) g′)) closed)
+        (filter-each (λ e. Stays Q (redirected K e)) (enters s) g′
+        (image-each (Stays Q) (redirected K) (filter (enters s) g′)
+        (each-back (Stays Q) g′ (map (redirected K) (filter (enters s) g′)) closed))))
 
     merged-stays : (e : Arc) → Both (moved s K keep e) → Stays merged e
     merged-stays e b t = go (fate s K keep e)
       where
         use-it : T (Q (e .target)) × (e .target ≡ s → T (Q K)) → T (merged (e .target))
         use-it u = merged-at (e .target) (u .0) (u .1)
+
         go : Fate s K keep e → T (merged (e .target))
         go (goes p u q) = use-it (subst Both q b (at-merged (e .source) t .1 p))
         go (remains p u q) = use-it (subst Both q b (at-merged (e .source) t .0))
@@ -76,7 +77,7 @@ module _ (s K : ℕ) (keep g : List Arc) (hs : s < K) (Q : ℕ → Bool) where
         let g′ = map (moved s K keep) g in
         let h′ : 0 < tot (mask (leaves x) (weight v)) g′ = rw (← tot-filter (weight v) (leaves x) g′) h in
         go (tot-some (mask (leaves x) (weight v)) (λ e. Both e × (e .target < K)) g′ h′
-            (each-both Both (λ e. e .target < K) g′ moved-both i))
+        (each-both Both (λ e. e .target < K) g′ moved-both i))
       where
         go : (e : Arc) × (0 < mask (leaves x) (weight v) e) × (Both e × (e .target < K))
             → (y : ℕ) × (y < K) × T (merged y)
@@ -90,11 +91,11 @@ module _ (s K : ℕ) (keep g : List Arc) (hs : s < K) (Q : ℕ → Bool) where
 pub parted-joined : (s K : ℕ) (keep g : List Arc) (v : List ℕ) → s < K → Joined K g
     → Each (λ e. e .target < K) (map (moved s K keep) g)
     → ((x : ℕ) → x < suc K → 0 < total v (out (map (moved s K keep) g) x))
-        → Joined (suc K) (doubled s K (map (moved s K keep) g))
+    → Joined (suc K) (doubled s K (map (moved s K keep) g))
 parted-joined s K keep g v hs j i some Q closed x hx tx y hy =
     let (z, hz, tz) = member s K keep g hs Q closed v i x tx (some x hx) in
     let full : (y : ℕ) → y < K → T (merged s K keep g hs Q y) =
-        j (merged s K keep g hs Q) (merged-closed s K keep g hs Q closed) z hz tz in
+    j (merged s K keep g hs Q) (merged-closed s K keep g hs Q closed) z hz tz in
     go full (decLt y K)
   where
     go : ((y : ℕ) → y < K → T (merged s K keep g hs Q y)) → Dec (y < K) → T (Q y)

@@ -1,4 +1,5 @@
 -- Parting a state: both parts have the root of the state.
+-- In order: rooted, parted-over.
 -- Assumes nothing.
 use mathlib.Core.Path.{_≡_, sym, ap, subst, _∙_}
 use mathlib.Core.List.{List, map}
@@ -34,6 +35,7 @@ module _ (P : ℕ → ℕ → ℕ → Type 0) (s K : ℕ) (hs : s < K) (r : ℕ 
     where
       tgt : rooted s K r (e .target) ≡ r (e .target)
       tgt = rooted-old s K r (e .target) (i .1)
+
       go : Fate s K keep e → Over (rooted s K r) (moved s K keep e)
       go (goes p u q) = subst (Over (rooted s K r)) (sym q) (rw (rooted-new s K r, tgt) (rw p at h))
       go (remains p u q) = subst (Over (rooted s K r)) (sym q) (rw (rooted-old s K r (e .source) (i .0), tgt) h)
@@ -43,19 +45,19 @@ module _ (P : ℕ → ℕ → ℕ → Type 0) (s K : ℕ) (hs : s < K) (r : ℕ 
   over-turned e h t =
       let p : e .target ≡ s = eqb→eq (e .target) s t in
       let q : rooted s K r K ≡ rooted s K r (e .target) =
-          rooted-new s K r ∙ sym (rooted-old s K r s hs) ∙ ap (rooted s K r) (sym p) in
+      rooted-new s K r ∙ sym (rooted-old s K r s hs) ∙ ap (rooted s K r) (sym p) in
       subst (λ y. P (rooted s K r (e .source)) (e .word) y) (sym q) h
 
   pub parted-over : (g : List Arc) → Each (λ e. (e .source < K) × (e .target < K)) g
       → Each (λ e. P (r (e .source)) (e .word) (r (e .target))) g
       → Each (λ e. P (rooted s K r (e .source)) (e .word) (rooted s K r (e .target)))
-          (doubled s K (map (moved s K keep) g))
+      (doubled s K (map (moved s K keep) g))
   parted-over g i h =
       let g′ = map (moved s K keep) g in
       let o : Each (Over (rooted s K r)) g′ = each-image (Over (rooted s K r)) (moved s K keep) g
-                (each-map (λ e. ((e .source < K) × (e .target < K)) × Over r e) _
-                    (λ e u. over-moved e (u .0) (u .1)) g (each-both _ (Over r) g i h)) in
+      (each-map (λ e. ((e .source < K) × (e .target < K)) × Over r e) _
+      (λ e u. over-moved e (u .0) (u .1)) g (each-both _ (Over r) g i h)) in
       each-append (Over (rooted s K r)) g′ (map (redirected K) (filter (enters s) g′)) o
-          (each-image (Over (rooted s K r)) (redirected K) (filter (enters s) g′)
-              (each-filter (λ e. Over (rooted s K r) (redirected K e)) (enters s) g′
-              (each-map (Over (rooted s K r)) _ over-turned g′ o)))
+      (each-image (Over (rooted s K r)) (redirected K) (filter (enters s) g′)
+      (each-filter (λ e. Over (rooted s K r) (redirected K e)) (enters s) g′
+      (each-map (Over (rooted s K r)) _ over-turned g′ o)))

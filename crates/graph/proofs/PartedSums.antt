@@ -1,4 +1,5 @@
 -- Parting a state: the sums of weights to which the edges of each state lead.
+-- In order: Fate, fate, shifted, shifted-other, shifted-old, shifted-both, doubled-tot.
 -- Assumes nothing.
 use mathlib.Core.Path.{_≡_, refl, sym, ap, ap₂, _∙_}
 use mathlib.Core.Bool.{Bool, true, false}
@@ -69,14 +70,13 @@ module _ (f : Arc → ℕ) (s K : ℕ) (keep : List Arc) (free : (e : Arc) → f
       → mask (leaves s) f (moved s K keep e) + mask (leaves K) f (moved s K keep e) ≡ mask (leaves s) f e
   moved-both h e i = go (fate s K keep e)
     where
-
       go : Fate s K keep e → mask (leaves s) f (moved s K keep e) + mask (leaves K) f (moved s K keep e) ≡ mask
           (leaves s) f e
       go (goes p u q) =
           let e′ = arc K (e .word) (e .target) in
           ap (λ e′. mask (leaves s) f e′ + mask (leaves K) f e′) q
-              ∙ ap₂ (λ a b. a + b) (mask-nay f s e′ (λ r. omega arith)) (mask-so f K e′ refl ∙ free e)
-                  ∙ zero-add (f e) ∙ sym (mask-so f s e p)
+          ∙ ap₂ (λ a b. a + b) (mask-nay f s e′ (λ r. omega arith)) (mask-so f K e′ refl ∙ free e)
+          ∙ zero-add (f e) ∙ sym (mask-so f s e p)
       go (remains p u q) = ap (λ e′. mask (leaves s) f e′ + mask (leaves K) f e′) q
           ∙ ap (λ b. mask (leaves s) f e + b) (mask-nay f K e (λ r. omega arith)) ∙ add-zero _
       go (apart p q) = ap (λ e′. mask (leaves s) f e′ + mask (leaves K) f e′) q
@@ -95,26 +95,26 @@ module _ (v : List ℕ) (g keep : List Arc) (s : ℕ) (hs : s < length v) where
   pub shifted-other : (x : ℕ) → x < length v → (x ≡ s → ⊥) → total v (out shifted x) ≡ total v (out g x)
   shifted-other x h d =
       shifted-tot x ∙ tot-eq _ (mask (leaves x) (weight v)) g
-          (each-always _ (moved-other (weight v) s (length v) keep (λ e. refl) x d h) g)
-          ∙ sym (tot-filter (weight v) (leaves x) g)
+      (each-always _ (moved-other (weight v) s (length v) keep (λ e. refl) x d h) g)
+      ∙ sym (tot-filter (weight v) (leaves x) g)
 
   pub shifted-old : ((e : Arc) → count e keep ≤ count e (out g s)) → ((e : Arc) → count e (out g s) ≤ 1)
       → total v (out shifted s) ≡ total v keep
   shifted-old h d =
       shifted-tot s ∙ tot-eq _ (mask (leaves s) (mask (among keep) (weight v))) g
-          (each-always _ (moved-old (weight v) s (length v) keep (λ e. refl) hs) g)
-          ∙ sym (tot-filter (mask (among keep) (weight v)) (leaves s) g) ∙ pick (weight v) keep (out g s) h d
+      (each-always _ (moved-old (weight v) s (length v) keep (λ e. refl) hs) g)
+      ∙ sym (tot-filter (mask (among keep) (weight v)) (leaves s) g) ∙ pick (weight v) keep (out g s) h d
 
   pub shifted-both : Each (Inside (length v)) g
       → total v (out shifted s) + total v (out shifted (length v)) ≡ total v (out g s)
   shifted-both i =
       ap₂ (λ a b. a + b) (shifted-tot s) (shifted-tot (length v))
-          ∙ sym (tot-add (λ e. mask (leaves s) (weight v) (moved s (length v) keep e))
-              (λ e. mask (leaves (length v)) (weight v) (moved s (length v) keep e)) g)
-          ∙ tot-eq _ (mask (leaves s) (weight v)) g
-              (each-map (Inside (length v)) _
-              (λ e k. moved-both (weight v) s (length v) keep (λ e. refl) hs e (k .0)) g i)
-          ∙ sym (tot-filter (weight v) (leaves s) g)
+      ∙ sym (tot-add (λ e. mask (leaves s) (weight v) (moved s (length v) keep e))
+      (λ e. mask (leaves (length v)) (weight v) (moved s (length v) keep e)) g)
+      ∙ tot-eq _ (mask (leaves s) (weight v)) g
+      (each-map (Inside (length v)) _
+      (λ e k. moved-both (weight v) s (length v) keep (λ e. refl) hs e (k .0)) g i)
+      ∙ sym (tot-filter (weight v) (leaves s) g)
 
 -- ---- the sums after the edges into s have been doubled
 module _ (v : List ℕ) (s w : ℕ) (hs : s < length v) (hw : w ≤ getD v s 0) where
@@ -140,6 +140,7 @@ module _ (v : List ℕ) (s w : ℕ) (hs : s < length v) (hw : w ≤ getD v s 0) 
       zero-if : (b : Bool) → 0 + (if b then 0 else 0) ≡ 0
       zero-if true = refl
       zero-if false = refl
+
       go : (b : Bool) → (if b then weight (weights′ v s w hs) e else 0) +
           (if enters s e then (if b then weight (weights′ v s w hs) (redirected K e) else 0) else 0) ≡
           (if b then weight v e else 0)
@@ -151,9 +152,9 @@ module _ (v : List ℕ) (s w : ℕ) (hs : s < length v) (hw : w ≤ getD v s 0) 
   doubled-tot g h x =
       let F = mask (leaves x) (weight (weights′ v s w hs)) in
       tot-filter (weight (weights′ v s w hs)) (leaves x) (doubled s K g)
-          ∙ tot-append F g (map (redirected K) (filter (enters s) g))
-          ∙ ap (λ k. tot F g + k)
-              (tot-map F (redirected K) (filter (enters s) g) ∙ tot-filter (λ e. F (redirected K e)) (enters s) g)
-          ∙ sym (tot-add F (mask (enters s) (λ e. F (redirected K e))) g)
-          ∙ tot-eq _ (mask (leaves x) (weight v)) g (each-map (λ e. e .target < K) _ (twice-mask x) g h)
-          ∙ sym (tot-filter (weight v) (leaves x) g)
+      ∙ tot-append F g (map (redirected K) (filter (enters s) g))
+      ∙ ap (λ k. tot F g + k)
+      (tot-map F (redirected K) (filter (enters s) g) ∙ tot-filter (λ e. F (redirected K e)) (enters s) g)
+      ∙ sym (tot-add F (mask (enters s) (λ e. F (redirected K e))) g)
+      ∙ tot-eq _ (mask (leaves x) (weight v)) g (each-map (λ e. e .target < K) _ (twice-mask x) g h)
+      ∙ sym (tot-filter (weight v) (leaves x) g)

@@ -1,4 +1,5 @@
 -- The graph of words: its edges are distinct, lead to states, and are readings of the constraint.
+-- In order: tot-union, power-distinct, power-reads, power-inside.
 -- Assumes nothing.
 use mathlib.Core.Path.{_≡_, refl, ap, _∙_}
 use mathlib.Core.Logic.{inl, inr}
@@ -14,7 +15,7 @@ use Rattle.laws.proofs.Tests.{Whether, so, nay, eqb-is}
 use Rattle.laws.specs.Sums.{Each, tot, one}
 use Rattle.laws.proofs.Sums.{each-map, each-always, each-filter, each-image, tot-append, tot-le, tot-zero, tot-map}
 use Rattle.graph.specs.Invariant.{count, Inside}
-use Rattle.graph.specs.Arcs.{Arc, wordFrom, wordsFrom, leadsOn, power}
+use Rattle.graph.specs.Arcs.{Arc, wordFrom, wordsFrom, leadsOn, power, Reads}
 use Rattle.graph.specs.Splitting.{same}
 use Rattle.constraint.specs.Walking.{Constraint, none, walk, Target, Well}
 use Rattle.laws.proofs.Anys.{each-union, each-range}
@@ -41,46 +42,41 @@ module _ (c : Constraint) (q : ℕ) where
           → tot (λ w. one (same e) (wordFrom c q s w)) (range (2 ^ q)) ≤ one (eqb (e .source)) s
       go (so p u) =
           rw u (le-trans (tot-le (λ w. if true && (eqb (e .word) w && eqb (e .target) (walk c q w s)) then 1 else 0)
-              (one (eqb (e .word))) (range (2 ^ q))
-              (each-always _ (λ w. and-le true (eqb (e .word) w) (eqb (e .target) (walk c q w s)))
-              (range (2 ^ q))))
-              (range-once (e .word) (2 ^ q)))
+          (one (eqb (e .word))) (range (2 ^ q))
+          (each-always _ (λ w. and-le true (eqb (e .word) w) (eqb (e .target) (walk c q w s)))
+          (range (2 ^ q))))
+          (range-once (e .word) (2 ^ q)))
       go (nay p u) = rw u (le-of-eq (tot-zero (range (2 ^ q))))
 
   pub power-distinct : (e : Arc) → count e (power c q) ≤ 1
   unfolding power
   power-distinct e =
       le-trans (tot-filter-le (one (same e)) leadsOn (concat (map (wordsFrom c q) (range (length c)))))
-          (rw (tot-union (one (same e)) (wordsFrom c q) (range (length c)))
-              (le-trans (tot-le (λ s. count e (wordsFrom c q s)) (one (eqb (e .source))) (range (length c))
-                  (each-always _ (row-count e) (range (length c)))) (range-once (e .source) (length c))))
+      (rw (tot-union (one (same e)) (wordsFrom c q) (range (length c)))
+      (le-trans (tot-le (λ s. count e (wordsFrom c q s)) (one (eqb (e .source))) (range (length c))
+      (each-always _ (row-count e) (range (length c)))) (range-once (e .source) (length c))))
 
   -- each edge is a word read from a state
-  pub power-reads : Each
-      (λ e. (e .source < length c) × ((e .target ≡ walk c q (e .word) (e .source)) × (e .target ≡ none → ⊥)))
-      (power c q)
+  pub power-reads : Each (λ e. Reads c q (e .source) (e .word) (e .target)) (power c q)
   unfolding power
   power-reads =
       each-filter _ leadsOn (concat (map (wordsFrom c q) (range (length c))))
-          (each-union (λ e. T (leadsOn e)
-              → (e .source < length c) × ((e .target ≡ walk c q (e .word) (e .source)) × (e .target ≡ none → ⊥)))
-              (wordsFrom c q) (range (length c))
-              (each-map (λ s. s < length c) _
-                  (λ s h. each-image _ (wordFrom c q s) (range (2 ^ q))
-                  (each-always _ (λ w t. (h, (refl, λ p. absurd (ban (walk c q w s) t p)))) (range (2 ^ q))))
-                  (range (length c)) (each-range (length c))))
+      (each-union (λ e. T (leadsOn e) → Reads c q (e .source) (e .word) (e .target)) (wordsFrom c q) (range (length c))
+      (each-map (λ s. s < length c) _
+      (λ s h. each-image _ (wordFrom c q s) (range (2 ^ q))
+      (each-map (λ w. w < 2 ^ q) _ (λ w l t. (h, (refl, (λ p. absurd (ban (walk c q w s) t p)), l))) (range (2 ^ q))
+      (each-range (2 ^ q))))
+      (range (length c)) (each-range (length c))))
     where
       ban : (a : ℕ) → T (not (eqb a none)) → a ≡ none → ⊥
       ban a t p = let u : T (not true) = rw (eq-eqb a none p) at t in u
 
 module _ (c : Constraint) (well : Well c) where
-
   pub power-inside : (q : ℕ) → Each (Inside (length c)) (power c q)
   power-inside q = each-map _ (Inside (length c))
       (λ e h. (h .0, go e h (walk-target c well q (e .word) (e .source) (inl (h .0))))) (power c q) (power-reads c q)
     where
-      go : (e : Arc) → (e .source < length c)
-          × ((e .target ≡ walk c q (e .word) (e .source)) × (e .target ≡ none → ⊥))
+      go : (e : Arc) → Reads c q (e .source) (e .word) (e .target)
           → Target (length c) (walk c q (e .word) (e .source)) → e .target < length c
       go e h (inl l) = rw (h .1 .0) l
       go e h (inr p) = absurd (h .1 .1 (h .1 .0 ∙ p))

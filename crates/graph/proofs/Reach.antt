@@ -1,4 +1,5 @@
 -- Reaching: its steps, and that a closed set which holds a state holds all that it reaches.
+-- In order: Reaching, reaches-is, reach-trans, reach-edge.
 -- Assumes nothing.
 use mathlib.Core.Path.{_≡_, refl, sym, ap, subst, _∙_}
 use mathlib.Core.Logic.{_⊎_, inl, inr}
@@ -77,8 +78,8 @@ module _ (K : ℕ) (g : List Arc) (t : ℕ) where
   reaching-fixed : withSources g (reaching K g t) ≡ reaching K g t
   reaching-fixed =
       settles (withSources g) missing (λ S. length S ≡ K) (λ S e. before-length g S ∙ e)
-          (λ S e. grow (withSources g S) S (before-length g S) (before-more g S)) K start start-length
-          (le-trans (missing-le start) (le-of-eq start-length))
+      (λ S e. grow (withSources g S) S (before-length g S) (before-more g S)) K start start-length
+      (le-trans (missing-le start) (le-of-eq start-length))
 
   reaching-self : t < K → T (member (reaching K g t) t)
   reaching-self h = iterate-keeps (withSources g) (λ S. T (member S t)) (λ S u. before-more g S t u) K start
@@ -90,19 +91,20 @@ module _ (K : ℕ) (g : List Arc) (t : ℕ) where
   reaching-step =
       let R = reaching K g t in
       each-map _ (λ e. e .source < K → T (member R (e .target)) → T (member R (e .source)))
-          (λ e f h u. close (e .source) h
-          (f (e .source) (→and (eqb (e .source) (e .source)) (member R (e .target)) (eqb-refl (e .source)) u))) g
-          (each-for (λ s e. T (leadsInto R s e) → T (any (leadsInto R s) g)) g (λ s. each-any (leadsInto R s) g))
+      (λ e f h u. close (e .source) h
+      (f (e .source) (→and (eqb (e .source) (e .source)) (member R (e .target)) (eqb-refl (e .source)) u))) g
+      (each-for (λ s e. T (leadsInto R s e) → T (any (leadsInto R s) g)) g (λ s. each-any (leadsInto R s) g))
     where
       each-for : (P : ℕ → Arc → Type 0) (l : List Arc) → ((y : ℕ) → Each (P y) l) → Each (λ x. (y : ℕ) → P y x) l
       each-for P [] h = tt
       each-for P (x ∷ l) h = (λ y. h y .0, each-for P l (λ y. h y .1))
+
       close : (s : ℕ) → s < K → T (any (leadsInto (reaching K g t) s) g) → T (member (reaching K g t) s)
       close s h u =
           subst (λ S. T (member S s)) reaching-fixed
-              (→tab (λ s. member (reaching K g t) s || any (leadsInto (reaching K g t) s) g)
-                  (length (reaching K g t)) s (rw reaching-length h)
-                  (→orR (member (reaching K g t) s) (any (leadsInto (reaching K g t) s) g) u))
+          (→tab (λ s. member (reaching K g t) s || any (leadsInto (reaching K g t) s) g)
+          (length (reaching K g t)) s (rw reaching-length h)
+          (→orR (member (reaching K g t) s) (any (leadsInto (reaching K g t) s) g) u))
 
   abbrev Sound : (ℕ → Bool) → List Bool → Type 0
   Sound Q S = (s : ℕ) → T (member S s) → T (Q s) → T (Q t)
@@ -113,6 +115,7 @@ module _ (K : ℕ) (g : List Arc) (t : ℕ) where
     where
       first-one : Sound Q start
       first-one s m q = subst (λ x. T (Q x)) (sym (eqb→eq t s (tab→ (eqb t) K s m .1))) q
+
       keep : (S : List Bool) → Sound Q S → Sound Q (withSources g S)
       keep S h s m q = go (or→ (member S s) (any (leadsInto S s) g)
           (tab→ (λ s. member S s || any (leadsInto S s) g) (length S) s m .1))
@@ -121,6 +124,7 @@ module _ (K : ℕ) (g : List Arc) (t : ℕ) where
           found (e, u, stay) =
               let (a, b) = and→ (eqb (e .source) s) (member S (e .target)) u in
               h (e .target) b (stay (rw (eqb→eq (e .source) s a) q))
+
           go : T (member S s) ⊎ T (any (leadsInto S s) g) → T (Q t)
           go (inl a) = h s a q
           go (inr a) = found (any-each (leadsInto S s) (Stays Q) g a c)
@@ -136,7 +140,7 @@ reaches-is K g =
     record {
       self = λ t h. rw (at t h) (reaching-self K g t h);
       step = λ t h. rw (at t h) (reaching-step K g t);
-      sound = λ t h Q c s u. reaching-sound K g t Q c s (rw (at t h) at u)
+      sound = λ t h Q c s u. reaching-sound K g t Q c s (rw (at t h) at u);
     }
   where
     at : (t : ℕ) → t < K → getD (reachings K g) t [] ≡ reaching K g t
@@ -158,6 +162,7 @@ module _ (K : ℕ) (g : List Arc) (reach : ℕ → ℕ → Bool) (R : Reaching K
       closed = each-map _ (Stays (λ x. not (reach x u)))
           (λ e h n. T-not (reach (e .target) u) (λ m. not-T (reach (e .source) u) n (h .1 (h .0 .0) m))) g
           (each-both (Inside K) _ g i (R .step u hu))
+
       go : (c : Bool) → reach s u ≡ c → T (reach s u)
       go true q = rw q tt
       go false q = absurd (not-T (reach t u) (R .sound t ht (λ x. not (reach x u)) closed s a (rw q tt)) b)
@@ -166,8 +171,8 @@ module _ (K : ℕ) (g : List Arc) (reach : ℕ → ℕ → Bool) (R : Reaching K
   pub reach-edge : Each (λ e. T (reach (e .source) (e .target))) g
   reach-edge =
       each-map _ (λ e. T (reach (e .source) (e .target)))
-          (λ e h. h .1 (e .target) (h .0 .1) (h .0 .0) (R .self (e .target) (h .0 .1))) g
-          (each-both (Inside K) _ g i (each-for-lt g (λ t h. R .step t h)))
+      (λ e h. h .1 (e .target) (h .0 .1) (h .0 .0) (R .self (e .target) (h .0 .1))) g
+      (each-both (Inside K) _ g i (each-for-lt g (λ t h. R .step t h)))
     where
       each-for-lt : (l : List Arc)
           → ((t : ℕ) → t < K → Each (λ e. e .source < K → T (reach (e .target) t) → T (reach (e .source) t)) l)

@@ -1,4 +1,5 @@
 -- Roots through all splits: every edge at the end is an edge of the component between the roots.
+-- In order: Rooted, splits-rooted.
 -- Assumes nothing.
 use mathlib.Core.Path.{_≡_, refl, sym, subst}
 use mathlib.Core.Bool.{Bool, true, false, not}
@@ -17,7 +18,8 @@ use Rattle.graph.proofs.Split.{split-inv, split-length, split-part}
 use Rattle.graph.proofs.Loop.{splits-on, splits-off}
 use Rattle.graph.proofs.PartedRoots.{rooted, parted-over}
 
--- r gives each state its root, one of the first K states, which are their own roots; P holds of roots and word of each edge
+-- r gives each state its root, one of the first K states, which are their own roots; P holds of roots and word of each
+-- edge
 pub record Rooted (P : ℕ → ℕ → ℕ → Type 0) (K : ℕ) (x : Work) (r : ℕ → ℕ) : Type 0 where
   pub over : Each (λ e. P (r (e .source)) (e .word) (r (e .target))) (x .arcs)
   pub base : (y : ℕ) → y < K → r y ≡ y
@@ -34,15 +36,18 @@ module _ (P : ℕ → ℕ → ℕ → Type 0) (K n S : ℕ) (hn : 0 < n) where
             (I .inside) (R .over);
         base = λ y h. rw (ne-eqb y k (λ p. omega (arith, R .more))) (R .base y h);
         from = λ y h. go y (rw len at h) (eqb-is y k);
-        more = rw len (omega (arith, R .more))
+        more = rw len (omega (arith, R .more));
       }
     where
       s : ℕ
       s = chosen (x .weights) (x .arcs)
+
       k : ℕ
       k = length (x .weights)
+
       len : length (split n x .weights) ≡ suc (length (x .weights))
       len = split-length n S x hn I t
+
       go : (y : ℕ) → y < suc (length (x .weights)) → Whether (y ≡ length (x .weights)) (eqb y (length (x .weights)))
           → rooted (chosen (x .weights) (x .arcs)) (length (x .weights)) r y < K
       go y h (so p q) = rw q (R .from (chosen (x .weights) (x .arcs)) (split-part n S x hn I t .state))
@@ -62,6 +67,6 @@ module _ (P : ℕ → ℕ → ℕ → Type 0) (K n S : ℕ) (hn : 0 < n) where
       go true q f =
           let t : T (unfinished n x) = and→ (not (ltb 2048 (length (x .arcs)))) (unfinished n x) (rw q tt) .1 in
           subst Roots (sym (splits-on m n x q))
-              (f (split n x) (rooted (chosen (x .weights) (x .arcs)) (length (x .weights)) r) (split-inv n S x hn I t)
-              (split-rooted x r I t R))
+          (f (split n x) (rooted (chosen (x .weights) (x .arcs)) (length (x .weights)) r) (split-inv n S x hn I t)
+          (split-rooted x r I t R))
       go false q f = subst Roots (sym (splits-off m n x q)) (r, R)

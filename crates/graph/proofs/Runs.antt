@@ -1,13 +1,11 @@
 -- A run whose weights sum to a multiple of n: there is one among n edges, and what it weighs.
+-- In order: mod-diff, tot-take-add, run-exists, PartOf, run-is.
 -- Assumes nothing.
 use mathlib.Core.Path.{_≡_, refl, sym, ap, _∙_}
-use mathlib.Core.Bool.{Bool}
 use mathlib.Core.List.{List, [], _∷_, map}
 use Prim.Native.Nat.{ℕ, zero, suc, _+_, _*_, _-_, _/_, _%_, _≤_, _<_, zero-le, suc-le-suc}
-use native.Mathlib.Nat.{
-  le-of-suc-le-suc, not-suc-le-zero, le-trans, zero-add, mod-add-div, mod-lt, mod-eq-zero-of-dvd, dvd-sub,
-  dvd-mul-right, mod-add-div', suc-add
-}
+use native.Mathlib.Nat.{le-of-suc-le-suc, not-suc-le-zero, le-trans, zero-add, mod-add-div, mod-lt}
+use native.Mathlib.Nat.{mod-eq-zero-of-dvd, dvd-sub, dvd-mul-right, mod-add-div', suc-add}
 use native.Mathlib.Omega.{arith}
 use lib.Dec.{T, eqb→eq}
 use lib.ListN.{length, take, drop}
@@ -31,7 +29,7 @@ mod-diff n a b h =
     let e : b ≡ n * q - n * r = omega (arith, mod-add-div (a + b) n, mod-add-div a n) in
     rw e (mod-eq-zero-of-dvd n (dvd-sub n (dvd-mul-right n q) (dvd-mul-right n r)))
 
-tot-take-add : {A : Type 0} (f : A → ℕ) (i k : ℕ) (l : List A)
+pub tot-take-add : {A : Type 0} (f : A → ℕ) (i k : ℕ) (l : List A)
     → tot f (take (i + k) l) ≡ tot f (take i l) + tot f (take k (drop i l))
 tot-take-add f zero k l = rw (zero-add k) (sym (zero-add _))
 tot-take-add f (suc i) k [] = rw (suc-add i k) (nil k)
@@ -42,7 +40,7 @@ tot-take-add f (suc i) k [] = rw (suc-add i k) (nil k)
 tot-take-add f (suc i) k (x ∷ l) = rw (suc-add i k) (omega (arith, tot-take-add f i k l))
 
 module _ (n : ℕ) (v : List ℕ) (es : List Arc) (hn : 0 < n) (size : length es ≡ n) where
-  -- S4
+  -- among n edges there is a run whose weights sum to a multiple of n
   pub run-exists : T (any (divisible n v) (runs es))
   run-exists = go (pigeon n (λ i. total v (take i es) % n) (λ i h. mod-lt (total v (take i es)) hn))
     where
@@ -53,15 +51,15 @@ module _ (n : ℕ) (v : List ℕ) (es : List Arc) (hn : 0 < n) (size : length es
           let b : j - 1 - k ≡ i = omega arith in
           let c : j ≡ i + (j - i) = omega arith in
           let d : total v (take j es) ≡ total v (take i es) + total v (take (j - i) (drop i es)) =
-              ap (λ k. total v (take k es)) c ∙ tot-take-add (weight v) i (j - i) es in
+          ap (λ k. total v (take k es)) c ∙ tot-take-add (weight v) i (j - i) es in
           let z : total v (take (j - i) (drop i es)) % n ≡ 0 =
-              mod-diff n (total v (take i es)) (total v (take (j - i) (drop i es))) (e ∙ ap (λ k. k % n) d) in
+          mod-diff n (total v (take i es)) (total v (take (j - i) (drop i es))) (e ∙ ap (λ k. k % n) d) in
           let t : T (divisible n v (stretch es (j - 1) k)) = rw (a, b, z) tt in
           any-union (divisible n v) (λ j. map (stretch es j) (range (j + 1))) (range (length es))
-              (→any-below (λ j. any (divisible n v) (map (stretch es j) (range (j + 1)))) (length es) (j - 1)
-                  (rw size (omega arith))
-                  (any-image (divisible n v) (stretch es (j - 1)) (range (j - 1 + 1))
-                      (→any-below (λ i. divisible n v (stretch es (j - 1) i)) (j - 1 + 1) k (omega arith) t)))
+          (→any-below (λ j. any (divisible n v) (map (stretch es j) (range (j + 1)))) (length es) (j - 1)
+          (rw size (omega arith))
+          (any-image (divisible n v) (stretch es (j - 1)) (range (j - 1 + 1))
+          (→any-below (λ i. divisible n v (stretch es (j - 1) i)) (j - 1 + 1) k (omega arith) t)))
 
 take-some : {A : Type 0} (k i : ℕ) (l : List A) → k < length l → 0 < length (take (i + 1) (drop k l))
 take-some k i [] h = absurd (not-suc-le-zero h)
@@ -78,24 +76,25 @@ PartOf v es r = ((f : Arc → ℕ) → tot f r ≤ tot f es) × (0 < total v r)
 
 stretch-part : (v : List ℕ) (es : List Arc) → Each (λ e. 0 < weight v e) es → (j i : ℕ) → j < length es
     → PartOf v es (stretch es j i)
-stretch-part v es p j i h =
-    (λ f. le-trans (tot-take-le f (i + 1) (drop (j - i) es)) (tot-drop-le f (j - i) es),
-     total-pos v (stretch es j i) (each-take _ (i + 1) (drop (j - i) es) (each-drop _ (j - i) es p))
-         (take-some (j - i) i es (omega arith)))
+stretch-part v es p j i h = (
+  λ f. le-trans (tot-take-le f (i + 1) (drop (j - i) es)) (tot-drop-le f (j - i) es),
+  total-pos v (stretch es j i) (each-take _ (i + 1) (drop (j - i) es) (each-drop _ (j - i) es p))
+      (take-some (j - i) i es (omega arith)),
+)
 
 runs-part : (v : List ℕ) (es : List Arc) → Each (λ e. 0 < weight v e) es → Each (PartOf v es) (runs es)
 runs-part v es p =
     each-union (PartOf v es) (λ j. map (stretch es j) (range (j + 1))) (range (length es))
-        (each-map (λ j. j < length es) _
-            (λ j h. each-image (PartOf v es) (stretch es j) (range (j + 1))
-            (each-always _ (λ i. stretch-part v es p j i h) (range (j + 1)))) (range (length es))
-            (each-range (length es)))
+    (each-map (λ j. j < length es) _
+    (λ j h. each-image (PartOf v es) (stretch es j) (range (j + 1))
+    (each-always _ (λ i. stretch-part v es p j i h) (range (j + 1)))) (range (length es))
+    (each-range (length es)))
 
--- S5: the run found is part of the list, weighs something, and a multiple of n
+-- the run found is part of the list, weighs something, and a multiple of n
 pub run-is : (n : ℕ) (v : List ℕ) (es : List Arc) → 0 < n → length es ≡ n → Each (λ e. 0 < weight v e) es
     → PartOf v es (firstRun n v es) × (total v (firstRun n v es) ≡ total v (firstRun n v es) / n * n)
 run-is n v es hn size p =
     let (t, q) = first-passes (divisible n v) [] (PartOf v es) (runs es) (run-exists n v es hn size)
-        (runs-part v es p) in
+    (runs-part v es p) in
     let z : total v (firstRun n v es) % n ≡ 0 = eqb→eq (total v (firstRun n v es) % n) 0 t in
     (q, omega (arith, mod-add-div' (total v (firstRun n v es)) n))

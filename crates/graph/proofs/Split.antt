@@ -1,4 +1,5 @@
 -- One split: while some state has too few edges, the split keeps the invariant and makes one more state.
+-- In order: split-part, split-inv, split-length.
 -- Assumes nothing.
 use mathlib.Core.Path.{_≡_, sym, subst}
 use mathlib.Core.List.{List}
@@ -10,17 +11,15 @@ use Rattle.laws.specs.Lists.{any}
 use Rattle.laws.specs.Sums.{Each, one}
 use Rattle.laws.proofs.Sums.{each-map, each-filter}
 use Rattle.graph.proofs.Arcs.{tot-sort, length-sort}
-use Rattle.graph.specs.Invariant.{count, Inside, Inv}
+use Rattle.graph.specs.Invariant.{count, Inside, Inv, Part}
 use Rattle.graph.specs.Arcs.{Arc, Work, leaves, out}
 use Rattle.graph.specs.Weights.{weight, total}
-use Rattle.graph.specs.Splitting.{
-  sort, same, greatest, lighter, chosen, candidates, firstRun, kept, split, unfinished
-}
-use Rattle.graph.proofs.PartedInv.{Part, parted-inv, parted-length, count-out}
+use Rattle.graph.specs.Splitting.{sort, same, greatest, lighter, chosen, candidates, firstRun, kept, split}
+use Rattle.graph.specs.Splitting.{unfinished}
+use Rattle.graph.proofs.PartedInv.{parted-inv, parted-length, count-out}
 use Rattle.graph.proofs.Choice.{Chosen, chosen-is}
-use Rattle.graph.proofs.Candidates.{
-  each-sort, any-sort, candidates-length, candidates-tot, candidates-lt, candidates-each
-}
+use Rattle.graph.proofs.Candidates.{each-sort, any-sort, candidates-length, candidates-tot, candidates-lt}
+use Rattle.graph.proofs.Candidates.{candidates-each}
 use Rattle.graph.proofs.Runs.{PartOf, run-is}
 
 module _ (n S : ℕ) (x : Work) (hn : 0 < n) (I : Inv n S x) (t : T (unfinished n x)) where
@@ -48,9 +47,9 @@ module _ (n S : ℕ) (x : Work) (hn : 0 < n) (I : Inv n S x) (t : T (unfinished 
   es-positive : Each (λ e. 0 < weight (x .weights) e) es
   es-positive =
       each-sort _ (out (x .arcs) s)
-          (each-filter (λ e. 0 < weight (x .weights) e) (leaves s) (x .arcs)
-          (each-map (Inside (length (x .weights))) _ (λ e i u. I .positive (e .target) (i .1)) (x .arcs)
-          (I .inside)))
+      (each-filter (λ e. 0 < weight (x .weights) e) (leaves s) (x .arcs)
+      (each-map (Inside (length (x .weights))) _ (λ e i u. I .positive (e .target) (i .1)) (x .arcs)
+      (I .inside)))
 
   -- the run among the candidates
   found : PartOf (x .weights) among-them (firstRun n (x .weights) among-them)
@@ -58,7 +57,7 @@ module _ (n S : ℕ) (x : Work) (hn : 0 < n) (I : Inv n S x) (t : T (unfinished 
       (firstRun n (x .weights) among-them) / n * n)
   found =
       run-is n (x .weights) among-them hn (candidates-length n (x .weights) es hn es-many es-light es-once)
-          (candidates-each n (x .weights) es hn es-many es-light es-once (λ e. 0 < weight (x .weights) e) es-positive)
+      (candidates-each n (x .weights) es hn es-many es-light es-once (λ e. 0 < weight (x .weights) e) es-positive)
 
   part-run : Part n x s (firstRun n (x .weights) among-them)
       (total (x .weights) (firstRun n (x .weights) among-them) / n)
@@ -67,9 +66,9 @@ module _ (n S : ℕ) (x : Work) (hn : 0 < n) (I : Inv n S x) (t : T (unfinished 
       let w = total (x .weights) keep / n in
       let e : total (x .weights) keep ≡ w * n = found .1 in
       let lt : w * n < greatest (x .weights) * n =
-          rw (← e, mul-comm (greatest (x .weights)) n)
-          (le-trans (suc-le-suc (found .0 .0 (weight (x .weights))))
-          (candidates-lt n (x .weights) es hn es-many es-light es-once)) in
+      rw (← e, mul-comm (greatest (x .weights)) n)
+      (le-trans (suc-le-suc (found .0 .0 (weight (x .weights))))
+      (candidates-lt n (x .weights) es hn es-many es-light es-once)) in
       let pos : 0 * n < w * n = rw (zero-mul n, ← e) (found .0 .1) in
       record {
         state = is .state;
@@ -78,7 +77,7 @@ module _ (n S : ℕ) (x : Work) (hn : 0 < n) (I : Inv n S x) (t : T (unfinished 
         exact = e;
         own = λ a. le-trans (found .0 .0 (one (same a)))
             (le-trans (candidates-tot n (x .weights) es hn es-many es-light es-once (one (same a)))
-            (le-of-eq (tot-sort (one (same a)) (out (x .arcs) s))))
+            (le-of-eq (tot-sort (one (same a)) (out (x .arcs) s))));
       }
 
   abbrev keep : List Arc

@@ -1,4 +1,5 @@
 -- The first state of the component is the lowest state that all reachable states reach back.
+-- In order: start-first.
 -- Assumes nothing.
 use mathlib.Core.Path.{_≡_, refl}
 use mathlib.Core.Bool.{Bool, true, false, _||_}
@@ -72,6 +73,7 @@ module _ (v : List ℕ) (g : List Arc) (i : Each (Inside (length v)) g) (z : ℕ
       home : (t : ℕ) → T (elem t L) → T (reach s t) → T (reach t s)
       home t et u = imp→ (reach s t) (reach t s)
           (elem-each (λ t. T (returns reach s t)) t L et (all-each (returns reach s) L (s-is v g i z ez .0))) u
+
       go : (t : ℕ) → T (elem t L) → T (reach x t) → T (reach t x)
       go t et b = trans t s x s-in ex (home t et (trans s x t ex et a b)) a
 
@@ -80,6 +82,6 @@ module _ (v : List ℕ) (g : List Arc) (i : Each (Inside (length v)) g) (z : ℕ
   unfolding componentStates
   start-first =
       first-head good (reach s) 0 L
-          (elem-each (λ x. T (good x) → T (any good L)) s L s-in (each-any good L) (s-is v g i z ez .0))
-          (each-map (λ x. T (elem x L)) (λ x. T (reach s x) → T (good x)) as-good L (each-elem L))
-          (reaches-is K gl .self s (lt s s-in))
+      (elem-each (λ x. T (good x) → T (any good L)) s L s-in (each-any good L) (s-is v g i z ez .0))
+      (each-map (λ x. T (elem x L)) (λ x. T (reach s x) → T (good x)) as-good L (each-elem L))
+      (reaches-is K gl .self s (lt s s-in))

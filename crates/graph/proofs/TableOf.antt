@@ -1,4 +1,5 @@
 -- The table: each state has n edges, to states of the table, and each is an edge between the roots.
+-- In order: Tabled, union-each, table-length, tabled, reached-first.
 -- Assumes nothing.
 use mathlib.Core.Path.{_≡_, refl, ap, _∙_}
 use mathlib.Core.Bool.{Bool, true, false}
@@ -21,9 +22,8 @@ use Rattle.graph.specs.TableOf.{row, tableStates, named, tableOf}
 use Rattle.laws.proofs.Anys.{each-union, each-range}
 use Rattle.graph.proofs.Candidates.{each-sort, length-take-le}
 use Rattle.graph.proofs.Reach.{reaches-is, reach-trans, reach-edge}
-use Rattle.laws.proofs.Elems.{
-  each-elem, elem-each, elem-filter, →elem-filter, each-at, elem-range, index-lt, at-index
-}
+use Rattle.laws.proofs.Elems.{each-elem, elem-each, elem-filter, →elem-filter, each-at, elem-range, index-lt}
+use Rattle.laws.proofs.Elems.{at-index}
 
 -- a table of rows of n edges, whose edges lie over P under the roots; the root of state 0 is 0
 pub record Tabled (P : ℕ → ℕ → ℕ → Type 0) (n : ℕ) (t : Rows) (root : ℕ → ℕ) : Type 0 where
@@ -55,9 +55,9 @@ module _ (n : ℕ) (x : Work) (i : Each (Inside (length (x .weights))) (x .arcs)
   row-each : (P : Arc → Type 0) → Each P (x .arcs) → (s : ℕ) → Each (λ e. P e × (e .source ≡ s)) (row n (x .arcs) s)
   row-each P h s =
       each-take _ n (sort (out (x .arcs) s))
-          (each-sort _ (out (x .arcs) s)
-              (each-filter (λ e. P e × (e .source ≡ s)) (leaves s) (x .arcs)
-              (each-map P _ (λ e p t. (p, eqb→eq (e .source) s t)) (x .arcs) h)))
+      (each-sort _ (out (x .arcs) s)
+      (each-filter (λ e. P e × (e .source ≡ s)) (leaves s) (x .arcs)
+      (each-map P _ (λ e p t. (p, eqb→eq (e .source) s t)) (x .arcs) h)))
 
   inside-firsts : Each (Inside K) firsts
   inside-firsts = each-union (Inside K) (row n (x .arcs)) (range K)
@@ -77,17 +77,17 @@ module _ (n : ℕ) (x : Work) (i : Each (Inside (length (x .weights))) (x .arcs)
   unfolding tableStates tableOf
   row-stays s t =
       each-map _ (λ e. T (elem (e .target) S)) go (row n (x .arcs) s)
-          (each-both _ _ (row n (x .arcs) s) (row-each (Inside K) i s)
-              (elem-each (λ s. Each (λ e. T (reach (e .source) (e .target))) (row n (x .arcs) s)) s (range K)
-                  (elem-range K s (S-lt s t))
-                  (union-each (λ e. T (reach (e .source) (e .target))) (row n (x .arcs)) (range K)
-                      (reach-edge K firsts reach (reaches-is K firsts) inside-firsts))))
+      (each-both _ _ (row n (x .arcs) s) (row-each (Inside K) i s)
+      (elem-each (λ s. Each (λ e. T (reach (e .source) (e .target))) (row n (x .arcs) s)) s (range K)
+      (elem-range K s (S-lt s t))
+      (union-each (λ e. T (reach (e .source) (e .target))) (row n (x .arcs)) (range K)
+      (reach-edge K firsts reach (reaches-is K firsts) inside-firsts))))
     where
       go : (e : Arc) → (Inside K e × (e .source ≡ s)) × T (reach (e .source) (e .target)) → T (elem (e .target) S)
       go e ((k, p), r) =
           →elem-filter (reach 0) (e .target) (range K) (elem-range K (e .target) (k .1))
-              (reach-trans K firsts reach (reaches-is K firsts) inside-firsts 0 (e .source) (e .target) (k .0) (k .1)
-                  (rw p (elem-filter (reach 0) s (range K) t .0)) r)
+          (reach-trans K firsts reach (reaches-is K firsts) inside-firsts 0 (e .source) (e .target) (k .0) (k .1)
+          (rw p (elem-filter (reach 0) s (range K) t .0)) r)
 
   abbrev rows : ℕ → List Edge
   rows s = map (named S) (row n (x .arcs) s)
@@ -115,8 +115,8 @@ module _ (n : ℕ) (x : Work) (i : Each (Inside (length (x .weights))) (x .arcs)
         → at (tableOf n x) j d ≡ named S (getD (row n (x .arcs) (getD S j 0)) d (arc 0 0 0))
     at-is j d h k =
         ap (λ l. getD l d (edge 0 0)) (edges-are j h)
-            ∙ getD-map-lt (named S) (row n (x .arcs) (getD S j 0)) d (arc 0 0 0) (edge 0 0)
-                (rw (row-length (getD S j 0) (S-lt (getD S j 0) (S-at j h))) k)
+        ∙ getD-map-lt (named S) (row n (x .arcs) (getD S j 0)) d (arc 0 0 0) (edge 0 0)
+        (rw (row-length (getD S j 0) (S-lt (getD S j 0) (S-at j h))) k)
 
     -- an edge of the table, from what holds of the row
     from-row : (P : Arc → Type 0) (j d : ℕ) → j < length S → d < n → Each P (row n (x .arcs) (getD S j 0))
@@ -136,13 +136,13 @@ module _ (n : ℕ) (x : Work) (i : Each (Inside (length (x .weights))) (x .arcs)
               ∙ row-length (getD S j 0) (S-lt (getD S j 0) (S-at j k)));
           next = λ j d h l. let k : j < length S = rw table-length at h in
               rw (table-length, at-is j d k l)
-                  (index-lt _ S (from-row (λ e. T (elem (e .target) S)) j d k l (row-stays (getD S j 0) (S-at j k))));
+              (index-lt _ S (from-row (λ e. T (elem (e .target) S)) j d k l (row-stays (getD S j 0) (S-at j k))));
           over = λ j d h l. let k : j < length S = rw table-length at h in
               rw (at-is j d k l) (over-row j k (getD (row n (x .arcs) (getD S j 0)) d (arc 0 0 0))
-                  (from-row (λ e. T (elem (e .target) S)
-                  × (P (r (e .source)) (e .word) (r (e .target)) × (e .source ≡ getD S j 0))) j d k l
-                  (each-both _ _ (row n (x .arcs) (getD S j 0)) (row-stays (getD S j 0) (S-at j k))
-                      (row-each (λ e. P (r (e .source)) (e .word) (r (e .target))) o (getD S j 0)))))
+              (from-row (λ e. T (elem (e .target) S)
+              × (P (r (e .source)) (e .word) (r (e .target)) × (e .source ≡ getD S j 0))) j d k l
+              (each-both _ _ (row n (x .arcs) (getD S j 0)) (row-stays (getD S j 0) (S-at j k))
+              (row-each (λ e. P (r (e .source)) (e .word) (r (e .target))) o (getD S j 0)))));
         }
       where
         over-row : (j : ℕ) → j < length S → (e : Arc)
@@ -161,11 +161,12 @@ reached-first n x pos =
         → getD (if b then 0 ∷ filter p (from 1 k) else filter p (from 1 k)) 0 0 ≡ 0
     head p k t true q = refl
     head p k t false q = absurd (rw q at t)
+
     go : (k : ℕ) → 0 < k → T
         (reaches (reachings (length (x .weights)) (concat (map (row n (x .arcs)) (range (length (x .weights)))))) 0 0)
         → getD (filter (reaches
-            (reachings (length (x .weights)) (concat (map (row n (x .arcs)) (range (length (x .weights)))))) 0)
-            (range k)) 0 0 ≡ 0
+        (reachings (length (x .weights)) (concat (map (row n (x .arcs)) (range (length (x .weights)))))) 0)
+        (range k)) 0 0 ≡ 0
     go zero h t = absurd (not-suc-le-zero h)
     go (suc k) h t = head
         (reaches (reachings (length (x .weights)) (concat (map (row n (x .arcs)) (range (length (x .weights)))))) 0) k

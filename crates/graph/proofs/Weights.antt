@@ -1,16 +1,15 @@
 -- Weights: the greatest vector with A v ≥ n v and entries up to cap.
+-- In order: enough-total, weights-length, weights-fixed, weights-enough, weights-greatest, weights-cap.
 -- Assumes nothing.
 use mathlib.Core.Path.{_≡_, refl, sym, ap, ap₂, _∙_}
 use mathlib.Core.Logic.{_⊎_, inl, inr}
 use mathlib.Core.List.{List, [], _∷_}
 use Prim.Native.Nat.{ℕ, zero, suc, _*_, _/_, _≤_, _<_, zero-le, min}
-use native.Mathlib.Nat.{
-  le-of-suc-le-suc, not-suc-le-zero, le-trans, le-of-eq, add-le-add, zero-mul, min-le-left, le-min, zero-min,
-  le-div-iff-mul-le
-}
+use native.Mathlib.Nat.{le-of-suc-le-suc, not-suc-le-zero, le-trans, le-of-eq, add-le-add, zero-mul, min-le-left}
+use native.Mathlib.Nat.{le-min, zero-min, le-div-iff-mul-le}
 use native.Mathlib.Omega.{arith}
 use native.Mathlib.Decide.{decLt}
-use lib.ListN.{length, getD, length-map, replicate, length-replicate, List·getD-eq-default}
+use lib.ListN.{length, getD, length-map, replicate, length-replicate, List·getD-eq-default, getD-replicate}
 use Rattle.laws.specs.Lists.{range, sum}
 use Rattle.laws.proofs.Tests.{length-from, map-range-at}
 use Rattle.graph.specs.Arcs.{Arc, out}
@@ -23,6 +22,12 @@ product-mono : (u v : List ℕ) → AtMost u v → (g : List Arc) (s : ℕ) → 
 product-mono u v h g s =
     rw (← exchange u g s, ← exchange v g s)
     (tot-le (weight u) (weight v) (out g s) (each-always _ (λ e. h (e .target)) (out g s)))
+
+-- an entry that meets the inequality is not lowered past
+lower-keeps : (n : ℕ) (g : List Arc) (u v : List ℕ) → 0 < n → Enough n g u → AtMost u v
+    → (s : ℕ) → getD u s 0 ≤ lower n g v s
+lower-keeps n g u v p e h s =
+    le-min (h s) (le-div-iff-mul-le p .1 (le-trans (e s) (product-mono u v h g s)))
 
 -- the inequality, by the edges
 pub enough-total : (n : ℕ) (g : List Arc) (v : List ℕ) → Enough n g v → (s : ℕ) → getD v s 0 * n ≤ total v (out g s)
@@ -39,7 +44,7 @@ lowered-at n g v i = go (decLt i (length v))
     go (yes h) = map-range-at (lower n g v) (length v) i 0 h
     go (no h) =
         let a : getD (lowered n g v) i 0 ≡ 0 =
-            List·getD-eq-default (lowered n g v) 0 {n = i} (rw (lowered-length n g v) (omega arith)) in
+        List·getD-eq-default (lowered n g v) 0 {n = i} (rw (lowered-length n g v) (omega arith)) in
         let b : getD v i 0 ≡ 0 = List·getD-eq-default v 0 {n = i} (omega arith) in
         a ∙ sym (rw b (zero-min (product g v i / n)))
 
@@ -78,19 +83,19 @@ module _ (n : ℕ) (g : List Arc) where
   unfolding weights
   weights-fixed cap K =
       settles (lowered n g) sum (λ v. length v ≡ K) (λ v e. lowered-length n g v ∙ e)
-          (λ v e. below-rest (lowered n g v) v (lowered-length n g v) (lowered-below v))
-          (K * cap) (replicate K cap) (length-replicate K cap) (le-of-eq (sum-replicate K cap))
+      (λ v e. below-rest (lowered n g v) v (lowered-length n g v) (lowered-below v))
+      (K * cap) (replicate K cap) (length-replicate K cap) (le-of-eq (sum-replicate K cap))
 
   pub weights-enough : (cap K : ℕ) → 0 < n → Enough n g (weights n cap K g)
   weights-enough cap K p i =
       let w = weights n cap K g in
       let e : getD w i 0 ≡ min (getD w i 0) (product g w i / n) =
-          sym (ap (λ v. getD v i 0) (weights-fixed cap K)) ∙ lowered-at n g w i in
+      sym (ap (λ v. getD v i 0) (weights-fixed cap K)) ∙ lowered-at n g w i in
       le-div-iff-mul-le p .0 (omega arith)
 
   lowered-keeps : (u v : List ℕ) → 0 < n → Enough n g u → AtMost u v → AtMost u (lowered n g v)
   lowered-keeps u v p e h i =
-      rw (lowered-at n g v i) (le-min (h i) (le-div-iff-mul-le p .1 (le-trans (e i) (product-mono u v h g i))))
+      rw (lowered-at n g v i) (lower-keeps n g u v p e h i)
 
   below-caps : (u : List ℕ) (k cap : ℕ) → length u ≤ k → ((i : ℕ) → getD u i 0 ≤ cap) → AtMost u (replicate k cap)
   below-caps [] k cap l h i = zero-le
@@ -104,3 +109,18 @@ module _ (n : ℕ) (g : List Arc) where
   weights-greatest cap K u p l h e =
       iterate-keeps (lowered n g) (AtMost u) (λ v k. lowered-keeps u v p e k) (K * cap) (replicate K cap)
       (below-caps u K cap l h)
+
+-- no weight is above cap
+pub weights-cap : (n : ℕ) (g : List Arc) (cap K : ℕ) (s : ℕ) → getD (weights n cap K g) s 0 ≤ cap
+unfolding weights
+weights-cap n g cap K =
+    iterate-keeps (lowered n g) (λ v. (s : ℕ) → getD v s 0 ≤ cap)
+    (λ v h s. le-trans (lowered-below n g v s) (h s)) (K * cap) (replicate K cap) capped
+  where
+    capped : (s : ℕ) → getD (replicate K cap) s 0 ≤ cap
+    capped s = go (decLt s K)
+      where
+        go : Dec (s < K) → getD (replicate K cap) s 0 ≤ cap
+        go (yes h) = le-of-eq (getD-replicate K s cap 0 h)
+        go (no h) =
+            rw (List·getD-eq-default (replicate K cap) 0 {n = s} (rw (length-replicate K cap) (omega arith))) zero-le

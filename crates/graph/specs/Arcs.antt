@@ -1,9 +1,12 @@
--- The graph in work, as a flat list of edges in the order in which they were made, and the graph of words of a constraint.
--- In order: Arc, an edge of the graph in work; Work; leaves, enters, out; wordFrom, wordsFrom, leadsOn, power.
+-- The graph in work, as a flat list of edges in the order in which they were made, and the graph of words of a
+-- constraint.
+-- In order: Arc, an edge of the graph in work; Work; leaves, enters, out; wordFrom, wordsFrom, leadsOn, power; Reads,
+-- what an edge of it says.
 -- Assumes nothing.
+use mathlib.Core.Path.{_≡_}
 use mathlib.Core.Bool.{Bool, not}
 use mathlib.Core.List.{List, map}
-use Prim.Native.Nat.{ℕ, _^_}
+use Prim.Native.Nat.{ℕ, _^_, _<_}
 use lib.Dec.{eqb}
 use lib.ListN.{length}
 use Rattle.laws.specs.Lists.{range, filter, concat}
@@ -48,6 +51,11 @@ wordsFrom c q s = map (wordFrom c q s) (range (2 ^ q))
 abbrev pub leadsOn : Arc → Bool
 leadsOn e = not (eqb (e .target) none)
 
--- the words of q bits that the constraint allows from each state (in the field: the q-th power of the constraint's graph)
+-- the words of q bits that the constraint allows from each state (in the field: the q-th power of the constraint's
+-- graph)
 unfoldable pub power : Constraint → ℕ → List Arc
 power c q = filter leadsOn (concat (map (wordsFrom c q) (range (length c))))
+
+-- the constraint reads the word w of q bits from its state a, and is then in b
+abbrev pub Reads : Constraint → ℕ → ℕ → ℕ → ℕ → Type 0
+Reads c q a w b = (a < length c) × ((b ≡ walk c q w a) × (b ≡ none → ⊥) × (w < 2 ^ q))

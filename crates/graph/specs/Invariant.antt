@@ -1,5 +1,5 @@
 -- What every split keeps.
--- In order: Inside; Stays, Joined, irreducible; count, how often an edge occurs; Inv.
+-- In order: Inside; Stays, Joined, irreducible; count, how often an edge occurs; Inv; Part, what a split must bring.
 -- Assumes nothing.
 use mathlib.Core.Path.{_≡_}
 use mathlib.Core.Bool.{Bool}
@@ -37,3 +37,11 @@ pub record Inv (n S : ℕ) (x : Work) : Type 0 where
   pub enough : (s : ℕ) → s < length (x .weights) → getD (x .weights) s 0 * n ≤ total (x .weights) (out (x .arcs) s)
   pub distinct : (e : Arc) → count e (x .arcs) ≤ 1
   pub joined : Joined (length (x .weights)) (x .arcs)
+
+-- a state s, edges of it to keep and a weight w for it: the edges lead to weight n × w, and 0 < w < M
+pub record Part (n : ℕ) (x : Work) (s : ℕ) (keep : List Arc) (w : ℕ) : Type 0 where
+  pub state : s < length (x .weights)
+  pub some : 0 < w
+  pub less : w < getD (x .weights) s 0
+  pub exact : total (x .weights) keep ≡ w * n
+  pub own : (e : Arc) → count e keep ≤ count e (out (x .arcs) s)

@@ -37,8 +37,8 @@ lower n g v s = min (getD v s 0) (product g v s / n)
 abbrev pub lowered : ℕ → List Arc → List ℕ → List ℕ
 lowered n g v = map (lower n g v) (range (length v))
 
--- "Start with cap at every state [..] until nothing changes": each round that changes something takes at least 1 away, so
--- K × cap rounds are enough
+-- "Start with cap at every state [..] until nothing changes": each round that changes something takes at least 1 away,
+-- so K × cap rounds are enough
 unfoldable pub weights : ℕ → ℕ → ℕ → List Arc → List ℕ
 weights n cap K g = iterate (lowered n g) (K * cap) (replicate K cap)
 

@@ -1,13 +1,14 @@
 -- Bytes parse to a code exactly when they are the record of it, its fields are in range, and its table is accepted.
--- In order: parse-exact.
+-- In order: parse-exact; parse-canonical; check-exact.
 -- Assumes nothing.
 use mathlib.Core.Path.{_≡_, sym, ap, _∙_}
 use mathlib.Core.Logic.{_↔_}
-use mathlib.Core.List.{List}
+use mathlib.Core.List.{List, []}
 use Prim.Native.Nat.{ℕ}
 use lib.Dec.{T}
 use Rattle.laws.specs.Sums.{Below}
-use Rattle.answer.specs.Outcomes.{done}
+use Rattle.answer.specs.Outcomes.{Outcome, done, onward}
+use Rattle.answer.proofs.Outcomes.{onward→}
 use Rattle.table.specs.Rows.{Code}
 use Rattle.table.specs.Formed.{formed}
 use Rattle.table.specs.Accepted.{Accepted}
@@ -16,6 +17,7 @@ use Rattle.table.proofs.Obeys.{obeys-exact}
 use Rattle.table.proofs.Accepted.{window-exact}
 use Rattle.record.specs.Layout.{pack}
 use Rattle.record.specs.Parse.{parse}
+use Rattle.record.specs.Checks.{checkedOnly}
 use Rattle.record.proofs.RecordWrite.{parse-pack-good}
 use Rattle.record.proofs.RecordRead.{parse-good}
 
@@ -28,5 +30,21 @@ parse-exact xs b c = (
       (a .formed, a .canonical, (obeys-exact c f .0 (a .obeys), window-exact c f .0 (a .works)))),
   (λ (t, e, (o, w)).
       let f = formed→ c t in
-      ap parse (sym e) ∙ parse-pack-good c t (obeys-exact c f .1 o) (window-exact c f .1 w))
+      ap parse (sym e) ∙ parse-pack-good c t (obeys-exact c f .1 o) (window-exact c f .1 w)),
+)
+
+-- the bytes are the record of the code that they hold
+pub parse-canonical : (xs : List ℕ) → Below 256 xs → (c : Code) → parse xs ≡ done c → pack c ≡ xs
+parse-canonical xs b c e = parse-good xs b c e .canonical
+
+-- the checker is done exactly when the bytes are the record of an accepted table
+pub check-exact : (xs : List ℕ) → Below 256 xs
+    → (checkedOnly xs ≡ done []) ↔ ((c : Code) × T (formed c) × (pack c ≡ xs) × Accepted c)
+unfolding checkedOnly
+check-exact xs b = (
+  (λ e.
+      let (c, p, _) = onward→ (parse xs) (λ c. done []) [] e in
+      let (f, k, a) = parse-exact xs b c .0 p in
+      (c, f, k, a)),
+  (λ (c, f, k, a). ap (λ o. onward o (λ c. done [])) (parse-exact xs b c .1 (f, k, a)))
 )

@@ -6,3 +6,17 @@ pub mod RecordBytes
 pub mod RecordPlaces
 pub mod RecordPuts
 pub mod Accepted
+pub mod Sizes
+pub mod Alls
+pub mod Fills
+pub mod RecordChecks
+pub mod RecordTables
+pub mod RecordReady
+pub mod RecordReading
+pub mod RecordFollow
+pub mod Reasons
+pub mod RecordParts
+pub mod Runs
+pub mod RecordRuns
+pub mod RecordOut
+pub mod RecordWriting

@@ -1,4 +1,5 @@
 -- Fields that are read and written again, and the code that they name.
+-- In order: nexts-again, nexts-good, rows-good, length-nextsOf, length-rowsOf, tail-again, head-again.
 -- Assumes nothing.
 use mathlib.Core.Path.{_≡_, refl, sym, ap, ap₂, _∙_}
 use mathlib.Core.Bool.{Bool, true, false, _&&_}
@@ -14,9 +15,8 @@ use Rattle.laws.proofs.Tests.{and→, →and, →orR}
 use Rattle.constraint.specs.Walking.{none}
 use Rattle.bits.specs.Fields.{Fits}
 use Rattle.table.specs.Formed.{Head, head, goodState, goodNext, goodEdge, goodRow}
-use Rattle.record.specs.Layout.{
-  fill, present, shown, nexts, pairs, rows, opened, nextsOf, edgesOf, rowsOf, codeOf
-}
+use Rattle.record.specs.Layout.{fill, present, shown, nexts, pairs, rows, opened, nextsOf, edgesOf, rowsOf}
+use Rattle.record.specs.Layout.{codeOf}
 use Rattle.record.specs.Parse.{goodField, goodFields, goodTarget}
 
 -- ---- fields that are written again
@@ -63,7 +63,7 @@ rows-again (suc s) n q us vs f =
     let (e', g') = rows-again s n q us (drop (n * 2) vs) g in
     let m : n * 2 + s * (n * 2) ≡ suc s * (n * 2) = omega (arith, suc-mul s (n * 2)) in
     let d : drop (s * (n * 2)) (drop (n * 2) vs) ≡ drop (suc s * (n * 2)) vs =
-        drop-drop (s * (n * 2)) (n * 2) vs ∙ ap (λ m. drop m vs) m in
+    drop-drop (s * (n * 2)) (n * 2) vs ∙ ap (λ m. drop m vs) m in
     (rw (← d, append-assoc) (ap (λ l. pairs (edgesOf n vs) ++ l) e' ∙ e), rw d at g')
 
 -- ---- a code that is read has its fields in range
@@ -84,8 +84,8 @@ nexts-good n (suc k) vs t =
     let (x, y) = and→ (goodField n a b && goodField n c d) (goodFields n k (drop 4 vs)) t in
     let (u, v) = and→ (goodField n a b) (goodField n c d) x in
     →and (goodState n (opened a b) && goodState n (opened c d)) (all (goodNext n) (nextsOf k (drop 4 vs)))
-        (→and (goodState n (opened a b)) (goodState n (opened c d)) (state-good n a b u) (state-good n c d v))
-            (nexts-good n k (drop 4 vs) y)
+    (→and (goodState n (opened a b)) (goodState n (opened c d)) (state-good n a b u) (state-good n c d v))
+    (nexts-good n k (drop 4 vs) y)
 
 edges-good : (n q m : ℕ) (us vs : List ℕ) → Fits (repeat n (q ∷ 7 ∷ []) ++ us) vs
     → T (all (goodTarget m) (edgesOf n vs)) → T (all (goodEdge q m) (edgesOf n vs))
@@ -95,9 +95,9 @@ edges-good (suc n) q m us (a ∷ []) f t = absurd (f .1)
 edges-good (suc n) q m us (a ∷ b ∷ vs) (fa, (fb, f)) t =
     let (x, y) = and→ (ltb b m) (all (goodTarget m) (edgesOf n vs)) t in
     →and (ltb a (2 ^ q) && ltb b m) (all (goodEdge q m) (edgesOf n vs))
-        (→and (ltb a (2 ^ q)) (ltb b m) (lt→ltb a (2 ^ q) fa) x) (edges-good n q m us vs f y)
+    (→and (ltb a (2 ^ q)) (ltb b m) (lt→ltb a (2 ^ q) fa) x) (edges-good n q m us vs f y)
 
-length-edgesOf : (n : ℕ) (vs : List ℕ) → length (edgesOf n vs) ≡ n
+pub length-edgesOf : (n : ℕ) (vs : List ℕ) → length (edgesOf n vs) ≡ n
 length-edgesOf zero vs = refl
 length-edgesOf (suc n) vs = ap suc (length-edgesOf n (drop 2 vs))
 
@@ -108,11 +108,11 @@ rows-good (suc s) p q m us vs f t =
     let es = edgesOf (2 ^ p) vs in
     let (x, y) = and→ (all (goodTarget m) es) (all (all (goodTarget m)) (rowsOf s (2 ^ p) (drop (2 ^ p * 2) vs))) t in
     let f' : Fits (repeat (2 ^ p) (q ∷ 7 ∷ []) ++ (repeat s (repeat (2 ^ p) (q ∷ 7 ∷ [])) ++ us)) vs =
-        rw append-assoc at f in
+    rw append-assoc at f in
     →and (goodRow p q m es) (all (goodRow p q m) (rowsOf s (2 ^ p) (drop (2 ^ p * 2) vs)))
-        (→and (eqb (length es) (2 ^ p)) (all (goodEdge q m) es) (rw (length-edgesOf (2 ^ p) vs) (eqb-refl (2 ^ p)))
-            (edges-good (2 ^ p) q m _ vs f' x))
-        (rows-good s p q m us (drop (2 ^ p * 2) vs) (edges-again (2 ^ p) q _ vs f' .1) y)
+    (→and (eqb (length es) (2 ^ p)) (all (goodEdge q m) es) (rw (length-edgesOf (2 ^ p) vs) (eqb-refl (2 ^ p)))
+    (edges-good (2 ^ p) q m _ vs f' x))
+    (rows-good s p q m us (drop (2 ^ p * 2) vs) (edges-again (2 ^ p) q _ vs f' .1) y)
 
 pub length-nextsOf : (k : ℕ) (vs : List ℕ) → length (nextsOf k vs) ≡ k
 length-nextsOf zero vs = refl
@@ -131,20 +131,28 @@ pub tail-again : (h : Head) (t : List ℕ)
     → Fits (repeat (h .count) (1 ∷ 4 ∷ 1 ∷ 4 ∷ []) ++
     (repeat (h .states) (repeat (2 ^ h .p) (h .q ∷ 7 ∷ [])) ++ (fill h ∷ []))) t
     → T (goodFields (h .count) (h .count) t)
-        → T (eqb (getD (drop (h .states * (2 ^ h .p * 2)) (drop (h .count * 4) t)) 0 0) 0)
+    → T (eqb (getD (drop (h .states * (2 ^ h .p * 2)) (drop (h .count * 4) t)) 0 0) 0)
     → nexts (nextsOf (h .count) t) ++ (rows (rowsOf (h .states) (2 ^ h .p) (drop (h .count * 4) t)) ++ (0 ∷ [])) ≡ t
 tail-again h t f b z =
     let (e, g) = nexts-again (h .count) (h .count) _ t f b in
     let (e', g') = rows-again (h .states) (2 ^ h .p) (h .q) (fill h ∷ []) (drop (h .count * 4) t) g in
     ap (λ l. nexts (nextsOf (h .count) t) ++ l)
-        (ap (λ l. rows (rowsOf (h .states) (2 ^ h .p) (drop (h .count * 4) t)) ++ l) (sym (last (fill h) _ g' z))
-        ∙ e') ∙ e
+    (ap (λ l. rows (rowsOf (h .states) (2 ^ h .p) (drop (h .count * 4) t)) ++ l) (sym (last (fill h) _ g' z))
+    ∙ e') ∙ e
 
 pub head-again : (h : Head) (vs : List ℕ) → head (codeOf h vs) ≡ h
 head-again h vs =
-    ap₂ (λ a b. record { p = h .p; q = h .q; states = a; memory = h .memory; lookahead = h .lookahead; count =
-        b; start = h .start })
-        (length-rowsOf (h .states) (2 ^ h .p) (drop (h .count * 4) (drop 7 vs)))
-            (length-nextsOf (h .count) (drop 7 vs))
+    ap₂ (λ a b. record {
+      p = h .p;
+      q = h .q;
+      states = a;
+      memory = h .memory;
+      lookahead = h .lookahead;
+      count =
+          b;
+      start = h .start;
+    })
+    (length-rowsOf (h .states) (2 ^ h .p) (drop (h .count * 4) (drop 7 vs)))
+    (length-nextsOf (h .count) (drop 7 vs))
 
 -- ---- the bits of bytes

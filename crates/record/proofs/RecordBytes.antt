@@ -1,4 +1,5 @@
 -- A record is bytes, at most 3,864 of them.
+-- In order: pack-bytes, size-le.
 -- Assumes nothing.
 use mathlib.Core.Path.{_≡_, sym, subst, _∙_}
 use Prim.Native.Nat.{_+_, _*_, _^_, _≤_}
@@ -15,19 +16,17 @@ use Rattle.table.specs.Formed.{Head, head, Ranges, Formed}
 use Rattle.record.specs.Layout.{size, widths, values, pack}
 use Rattle.record.proofs.RecordFits.{fits-values, sum-widths}
 
--- THEOREM
 pub pack-bytes : (c : Code) → Formed c → Below 256 (pack c)
 unfolding pack
 pack-bytes c f =
     let e : length (write (widths (head c)) (values c)) ≡ sum (replicate (size (head c)) 8) =
-        length-write (widths (head c)) (values c) (fits-values c f) ∙ sum-widths (head c) in
+    length-write (widths (head c)) (values c) (fits-values c f) ∙ sum-widths (head c) in
     fits-below (size (head c)) (pack c)
-        (fits-read (replicate (size (head c)) 8) (write (widths (head c)) (values c))
-        (below-write (widths (head c)) (values c))
-        (subst (λ n. sum (replicate (size (head c)) 8) ≤ n) (sym e)
-        (le-refl (sum (replicate (size (head c)) 8)))))
+    (fits-read (replicate (size (head c)) 8) (write (widths (head c)) (values c))
+    (below-write (widths (head c)) (values c))
+    (subst (λ n. sum (replicate (size (head c)) 8) ≤ n) (sym e)
+    (le-refl (sum (replicate (size (head c)) 8)))))
 
--- THEOREM
 pub size-le : (h : Head) → Ranges h → size h ≤ 3864
 size-le h r =
     let a : 2 ^ h .p ≤ 16 = pow-mono {i = h .p} {j = 4} (r .p₂) in

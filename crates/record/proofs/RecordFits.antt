@@ -1,4 +1,5 @@
 -- The fields of a code fit their widths, and fill the bytes of its record.
+-- In order: sum-widths, fits-values.
 -- Assumes nothing.
 use mathlib.Core.Path.{_≡_, subst}
 use mathlib.Core.Bool.{Bool, true, false, _||_}
@@ -49,9 +50,10 @@ fits-nexts : (k : ℕ) (c : List NextStates) → k ≤ 16 → T (all (goodNext k
 fits-nexts k [] h t = tt
 fits-nexts k (r ∷ c) h t =
     let (a, b) = and→ (goodNext k r) (all (goodNext k) c) t in
-    let (x, y) = and→ (goodState k (r .zero)) (goodState k (r .one)) a in
-    (present-lt (r .zero),
-        (shown-lt k (r .zero) h x, (present-lt (r .one), (shown-lt k (r .one) h y, fits-nexts k c h b))))
+    let (x, y) = and→ (goodState k (r .zero)) (goodState k (r .one)) a in (
+      present-lt (r .zero),
+      (shown-lt k (r .zero) h x, (present-lt (r .one), (shown-lt k (r .one) h y, fits-nexts k c h b))),
+    )
 
 fits-pairs : (q n : ℕ) (es : List Edge) → n ≤ 128 → T (all (goodEdge q n) es)
     → Fits (repeat (length es) (q ∷ 7 ∷ [])) (pairs es)
@@ -68,8 +70,8 @@ fits-rows p q n (es ∷ g) h t =
     let (a, b) = and→ (goodRow p q n es) (all (goodRow p q n) g) t in
     let (l, x) = and→ (eqb (length es) (2 ^ p)) (all (goodEdge q n) es) a in
     fits-append (repeat (2 ^ p) (q ∷ 7 ∷ [])) (pairs es) (repeat (length g) (repeat (2 ^ p) (q ∷ 7 ∷ []))) (rows g)
-        (subst (λ m. Fits (repeat m (q ∷ 7 ∷ [])) (pairs es)) (eqb→eq (length es) (2 ^ p) l) (fits-pairs q n es h x))
-            (fits-rows p q n g h b)
+    (subst (λ m. Fits (repeat m (q ∷ 7 ∷ [])) (pairs es)) (eqb→eq (length es) (2 ^ p) l) (fits-pairs q n es h x))
+    (fits-rows p q n g h b)
 
 pub fits-values : (c : Code) → Formed c → Fits (widths (head c)) (values c)
 fits-values c f =
@@ -79,9 +81,12 @@ fits-values c f =
     let ls : length (c .table) - 1 < 128 = omega (arith, r .s₁, r .s₂) in
     let lk : length (c .constraint) - 1 < 16 = omega (arith, r .k₁, r .k₂) in
     let lz : c .start < 16 = omega (arith, r .start, r .k₂) in
-    (lp, (lq, (ls, (r .m, (r .a, (lk, (lz,
-     fits-append (repeat (length (c .constraint)) (1 ∷ 4 ∷ 1 ∷ 4 ∷ [])) (nexts (c .constraint)) _
-         (rows (c .table) ++ (0 ∷ [])) (fits-nexts (length (c .constraint)) (c .constraint) (r .k₂) (f .nexts))
-        (fits-append (repeat (length (c .table)) (repeat (2 ^ c .p) (c .q ∷ 7 ∷ []))) (rows (c .table))
-            (fill (head c) ∷ []) (0 ∷ []) (fits-rows (c .p) (c .q) (length (c .table)) (c .table) (r .s₂) (f .rows))
-            (pow-pos (fill (head c)), tt)))))))))
+    let K = length (c .constraint) in
+    let S = length (c .table) in
+    let last : Fits (fill (head c) ∷ []) (0 ∷ []) = (pow-pos (fill (head c)), tt) in
+    let tables = fits-append (repeat S (repeat (2 ^ c .p) (c .q ∷ 7 ∷ []))) (rows (c .table)) (fill (head c) ∷ [])
+    (0 ∷ [])
+    (fits-rows (c .p) (c .q) S (c .table) (r .s₂) (f .rows)) last in
+    let rest = fits-append (repeat K (1 ∷ 4 ∷ 1 ∷ 4 ∷ [])) (nexts (c .constraint)) _ (rows (c .table) ++ (0 ∷ []))
+    (fits-nexts K (c .constraint) (r .k₂) (f .nexts)) tables in
+    (lp, (lq, (ls, (r .m, (r .a, (lk, (lz, rest)))))))

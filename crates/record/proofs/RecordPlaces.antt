@@ -1,4 +1,5 @@
 -- Where each field of a record stands: the code that is read, entry by entry, by bit places.
+-- In order: nextAt, edgeAt, constraint-at, table-at.
 -- Assumes nothing.
 use mathlib.Core.Path.{_≡_, refl, sym, ap, ap₂, _∙_}
 use mathlib.Core.List.{List, [], _∷_, _++_, append-assoc}
@@ -15,24 +16,27 @@ use Rattle.table.specs.Formed.{Head}
 use Rattle.record.specs.Layout.{header, fill, widths, opened, nextsOf, edgesOf, rowsOf, codeOf}
 use Rattle.laws.proofs.Lists.{sum-repeat, length-repeat}
 
-field-drop : (bs : List ℕ) (k o o' w : ℕ) → k + o ≡ o' → field (drop k bs) o w ≡ field bs o' w
+pub field-drop : (bs : List ℕ) (k o o' w : ℕ) → k + o ≡ o' → field (drop k bs) o w ≡ field bs o' w
 field-drop bs k o o' w e = ap (λ l. value (take w l)) (drop-drop o k bs ∙ ap (λ n. drop n bs) e)
 
-drop-read : (ws us bs : List ℕ) → drop (length ws) (read (ws ++ us) bs) ≡ read us (drop (sum ws) bs)
+pub drop-read : (ws us bs : List ℕ) → drop (length ws) (read (ws ++ us) bs) ≡ read us (drop (sum ws) bs)
 drop-read [] us bs = refl
 drop-read (w ∷ ws) us bs = drop-read ws us (drop w bs) ∙ ap (read us) (drop-drop (sum ws) w bs)
 
 -- the fields behind n groups of widths
-behind : (n m : ℕ) (ws us bs : List ℕ) → n * length ws ≡ m
+pub behind : (n m : ℕ) (ws us bs : List ℕ) → n * length ws ≡ m
     → drop m (read (repeat n ws ++ us) bs) ≡ read us (drop (n * sum ws) bs)
 behind n m ws us bs e =
     ap (λ k. drop k (read (repeat n ws ++ us) bs)) (sym (length-repeat n ws ∙ e)) ∙ drop-read (repeat n ws) us bs
-        ∙ ap (λ k. read us (drop k bs)) (sum-repeat n ws)
+    ∙ ap (λ k. read us (drop k bs)) (sum-repeat n ws)
 
 -- ---- constraint states
 abbrev pub nextAt : List ℕ → ℕ → NextStates
-nextAt bs o = record { zero = opened (field bs o 1) (field bs (o + 1) 4); one =
-    opened (field bs (o + 5) 1) (field bs (o + 6) 4) }
+nextAt bs o = record {
+  zero = opened (field bs o 1) (field bs (o + 1) 4);
+  one =
+      opened (field bs (o + 5) 1) (field bs (o + 6) 4);
+}
 
 nextAt-drop : (bs : List ℕ) (k o o' : ℕ) → k + o ≡ o' → nextAt (drop k bs) o ≡ nextAt bs o'
 nextAt-drop bs k o o' e =
@@ -55,11 +59,14 @@ next-at : (n k : ℕ) (us bs : List ℕ) (d : NextStates) → k < n
     → getD (nextsOf n (read (repeat n (1 ∷ 4 ∷ 1 ∷ 4 ∷ []) ++ us) bs)) k d ≡ nextAt bs (k * 10)
 next-at zero k us bs d h = absurd (not-suc-le-zero h)
 next-at (suc n) zero us bs d h =
-    ap₂ (λ u v. record { zero = opened (field bs 0 1) (field bs 1 4); one =
-        opened (value (take 1 u)) (value (take 4 v)) }) (five bs) (six bs)
+    ap₂ (λ u v. record {
+      zero = opened (field bs 0 1) (field bs 1 4);
+      one =
+          opened (value (take 1 u)) (value (take 4 v));
+    }) (five bs) (six bs)
 next-at (suc n) (suc k) us bs d h =
     next-at n k us (drop 4 (drop 1 (drop 4 (drop 1 bs)))) d (le-of-suc-le-suc h)
-        ∙ ap (λ l. nextAt l (k * 10)) (ten bs) ∙ nextAt-drop bs 10 (k * 10) (suc k * 10) (omega arith)
+    ∙ ap (λ l. nextAt l (k * 10)) (ten bs) ∙ nextAt-drop bs 10 (k * 10) (suc k * 10) (omega arith)
 
 -- ---- edges
 abbrev pub edgeAt : List ℕ → ℕ → ℕ → Edge
@@ -75,11 +82,11 @@ edge-at : (n d q : ℕ) (us bs : List ℕ) → d < n
 edge-at zero d q us bs h = absurd (not-suc-le-zero h)
 edge-at (suc n) zero q us bs h =
     ap (λ o. edge (value (take q bs)) (value (take 7 (drop o bs)))) (sym (zero-add q))
-        ∙ ap (λ o. edgeAt bs o q) (sym (zero-mul (q + 7)))
+    ∙ ap (λ o. edgeAt bs o q) (sym (zero-mul (q + 7)))
 edge-at (suc n) (suc d) q us bs h =
     let e : q + 7 + d * (q + 7) ≡ suc d * (q + 7) = omega (arith, suc-mul d (q + 7)) in
     edge-at n d q us (drop 7 (drop q bs)) (le-of-suc-le-suc h) ∙ ap (λ l. edgeAt l (d * (q + 7)) q) (drop-drop 7 q bs)
-        ∙ edgeAt-drop bs (q + 7) (d * (q + 7)) (suc d * (q + 7)) q e
+    ∙ edgeAt-drop bs (q + 7) (d * (q + 7)) (suc d * (q + 7)) q e
 
 row-at : (s i n d q : ℕ) (us bs : List ℕ) → i < s → d < n
     → at (rowsOf s n (read (repeat s (repeat n (q ∷ 7 ∷ [])) ++ us) bs)) i d ≡ edgeAt bs ((i * n + d) * (q + 7)) q
@@ -89,7 +96,7 @@ row-at (suc s) zero n d q us bs h l =
     let B = repeat s (repeat n (q ∷ 7 ∷ [])) in
     let e : d ≡ 0 * n + d = omega arith in
     ap (λ ws. getD (edgesOf n (read ws bs)) d (edge 0 0)) (append-assoc A B us) ∙ edge-at n d q (B ++ us) bs l
-        ∙ ap (λ o. edgeAt bs (o * (q + 7)) q) e
+    ∙ ap (λ o. edgeAt bs (o * (q + 7)) q) e
 row-at (suc s) (suc i) n d q us bs h l =
     let A = repeat n (q ∷ 7 ∷ []) in
     let B = repeat s (repeat n (q ∷ 7 ∷ [])) in
@@ -99,20 +106,20 @@ row-at (suc s) (suc i) n d q us bs h l =
     ∙ row-at s i n d q us (drop (n * (q + 7)) bs) (le-of-suc-le-suc h) l
     ∙ edgeAt-drop bs (n * (q + 7)) ((i * n + d) * (q + 7)) ((suc i * n + d) * (q + 7)) q e
 
--- ---- THEOREMS: the code that is read from the bits bs under the header h
+-- ---- the code that is read from the bits bs under the header h
 module _ (h : Head) (bs : List ℕ) where
-  abbrev fields : List ℕ
+  abbrev pub fields : List ℕ
   fields = repeat (h .count) (1 ∷ 4 ∷ 1 ∷ 4 ∷ []) ++
       (repeat (h .states) (repeat (2 ^ h .p) (h .q ∷ 7 ∷ [])) ++ (fill h ∷ []))
 
-  behind-head : drop 7 (read (widths h) bs) ≡ read fields (drop 30 bs)
+  pub behind-head : drop 7 (read (widths h) bs) ≡ read fields (drop 30 bs)
   behind-head = drop-read header fields bs
 
   pub constraint-at : (k : ℕ) (d : NextStates) → k < h .count
       → getD (codeOf h (read (widths h) bs) .constraint) k d ≡ nextAt bs (30 + k * 10)
   constraint-at k d l =
       ap (λ vs. getD (nextsOf (h .count) vs) k d) behind-head ∙ next-at (h .count) k _ (drop 30 bs) d l
-          ∙ nextAt-drop bs 30 (k * 10) (30 + k * 10) refl
+      ∙ nextAt-drop bs 30 (k * 10) (30 + k * 10) refl
 
   pub table-at : (s d : ℕ) → s < h .states → d < 2 ^ h .p
       → at (codeOf h (read (widths h) bs) .table) s d ≡ edgeAt bs
@@ -121,8 +128,8 @@ module _ (h : Head) (bs : List ℕ) where
       let us = repeat (h .states) (repeat (2 ^ h .p) (h .q ∷ 7 ∷ [])) ++ (fill h ∷ []) in
       ap (λ vs. at (rowsOf (h .states) (2 ^ h .p) (drop (h .count * 4) vs)) s d) behind-head
       ∙ ap (λ vs. at (rowsOf (h .states) (2 ^ h .p) vs) s d)
-          (behind (h .count) (h .count * 4) (1 ∷ 4 ∷ 1 ∷ 4 ∷ []) us (drop 30 bs) refl)
+      (behind (h .count) (h .count * 4) (1 ∷ 4 ∷ 1 ∷ 4 ∷ []) us (drop 30 bs) refl)
       ∙ row-at (h .states) s (2 ^ h .p) d (h .q) (fill h ∷ []) (drop (h .count * 10) (drop 30 bs)) i l
       ∙ ap (λ l. edgeAt l ((s * 2 ^ h .p + d) * (h .q + 7)) (h .q)) (drop-drop (h .count * 10) 30 bs)
       ∙ edgeAt-drop bs (30 + h .count * 10) ((s * 2 ^ h .p + d) * (h .q + 7))
-          (30 + h .count * 10 + (s * 2 ^ h .p + d) * (h .q + 7)) (h .q) refl
+      (30 + h .count * 10 + (s * 2 ^ h .p + d) * (h .q + 7)) (h .q) refl

@@ -1,4 +1,6 @@
--- Writing field by field: each field at the next place adds one, and bytes whose bits are the code's fields are its record.
+-- Writing field by field: each field at the next place adds one, and bytes whose bits are the code's fields are its
+-- record.
+-- In order: put-next, pack-is, numFrom, numFrom-value.
 -- Assumes nothing.
 use mathlib.Core.Path.{_≡_, sym, ap, ap₂, _∙_}
 use mathlib.Core.List.{List, [], _∷_, _++_, append-assoc, append-nil}
@@ -22,17 +24,17 @@ write-snoc (u ∷ ws) [] w v f = absurd f
 write-snoc (u ∷ ws) (x ∷ vs) w v (a, f) =
     ap (λ l. bits u x ++ l) (write-snoc ws vs w v f) ∙ sym (append-assoc (bits u x) (write ws vs) (bits w v))
 
--- THEOREM: the field of w bits at the place behind the fields that stand there
+-- the field of w bits at the place behind the fields that stand there
 pub put-next : (ws vs r : List ℕ) (w v : ℕ) → Fits ws vs
     → take (sum ws) (write ws vs ++ r) ++ bits w v ++ drop (sum ws + w) (write ws vs ++ r) ≡ write (ws ++ w ∷ [])
     (vs ++ v ∷ []) ++ drop w r
 put-next ws vs r w v f =
     let l = length-write ws vs f in
     ap₂ (λ a b. a ++ bits w v ++ b) (take-at (write ws vs) r (sum ws) l)
-        (sym (drop-drop w (sum ws) (write ws vs ++ r)) ∙ ap (drop w) (drop-at (write ws vs) r (sum ws) l))
+    (sym (drop-drop w (sum ws) (write ws vs ++ r)) ∙ ap (drop w) (drop-at (write ws vs) r (sum ws) l))
     ∙ ap (λ a. a ++ drop w r) (sym (write-snoc ws vs w v f))
 
--- THEOREM: bytes with the code's fields as their bits are its record
+-- bytes with the code's fields as their bits are its record
 pub pack-is : (c : Code) (out : List ℕ) → Below 256 out → length out ≡ size (head c)
     → bitsOf out ≡ write (widths (head c)) (values c) → pack c ≡ out
 unfolding pack
@@ -44,7 +46,7 @@ abbrev pub numFrom : ℕ → List ℕ → ℕ
 numFrom n [] = n
 numFrom n (b ∷ bs) = numFrom (n * 2 + b) bs
 
--- THEOREM
+-- the same number, built up bit by bit
 pub numFrom-value : (n : ℕ) (bs : List ℕ) → numFrom n bs ≡ n * 2 ^ length bs + value bs
 numFrom-value n [] = omega arith
 numFrom-value n (b ∷ bs) = numFrom-value (n * 2 + b) bs ∙ rw pow-suc (omega arith)

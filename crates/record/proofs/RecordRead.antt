@@ -1,4 +1,5 @@
 -- Bytes that `parse` accepts are the record of the code that it gives: a record is canonical.
+-- In order: Checked, parse-good.
 -- Assumes nothing.
 use mathlib.Core.Path.{_≡_, refl, sym, ap, ap₂, subst, _∙_}
 use mathlib.Core.Bool.{_&&_}
@@ -21,9 +22,8 @@ use Rattle.bits.proofs.Fields.{below-write, length-write, fits-read, write-read
 use Rattle.table.specs.Formed.{Head, head, inRange, goodNext, goodRow, formed}
 use Rattle.record.specs.Layout.{header, headOf, size, fill, widths, values, pack, nextsOf, rowsOf, codeOf}
 use Rattle.record.specs.Parse.{goodHead, goodFields, goodTarget, filler, goodRest, judged, parsed, parse}
-use Rattle.record.proofs.RecordAgain.{
-  nexts-again, nexts-good, rows-good, length-nextsOf, length-rowsOf, tail-again, head-again
-}
+use Rattle.record.proofs.RecordAgain.{nexts-again, nexts-good, rows-good, length-nextsOf, length-rowsOf}
+use Rattle.record.proofs.RecordAgain.{tail-again, head-again}
 use Rattle.record.proofs.RecordFits.{sum-widths}
 use Rattle.answer.proofs.Outcomes.{unless→}
 
@@ -31,7 +31,7 @@ use Rattle.answer.proofs.Outcomes.{unless→}
 module _ (p q s m a k z : ℕ) (t : List ℕ)
     (f : Fits (widths (headOf (p ∷ q ∷ s ∷ m ∷ a ∷ k ∷ z ∷ t))) (p ∷ q ∷ s ∷ m ∷ a ∷ k ∷ z ∷ t))
     (u : T (goodRest (headOf (p ∷ q ∷ s ∷ m ∷ a ∷ k ∷ z ∷ t)) (p ∷ q ∷ s ∷ m ∷ a ∷ k ∷ z ∷ t)
-        (codeOf (headOf (p ∷ q ∷ s ∷ m ∷ a ∷ k ∷ z ∷ t)) (p ∷ q ∷ s ∷ m ∷ a ∷ k ∷ z ∷ t)))) where
+    (codeOf (headOf (p ∷ q ∷ s ∷ m ∷ a ∷ k ∷ z ∷ t)) (p ∷ q ∷ s ∷ m ∷ a ∷ k ∷ z ∷ t)))) where
   abbrev h : Head
   h = headOf (p ∷ q ∷ s ∷ m ∷ a ∷ k ∷ z ∷ t)
 
@@ -53,7 +53,7 @@ module _ (p q s m a k z : ℕ) (t : List ℕ)
       let es : length g - 1 ≡ s = rw (length-rowsOf (s + 1) (2 ^ p) (drop ((k + 1) * 4) t)) (omega arith) in
       let ek : length (nextsOf (k + 1) t) - 1 ≡ k = rw (length-nextsOf (k + 1) t) (omega arith) in
       ap (λ r. p ∷ q ∷ (length g - 1) ∷ m ∷ a ∷ (length (nextsOf (k + 1) t) - 1) ∷ z ∷ r)
-          (tail-again h t (f .1 .1 .1 .1 .1 .1 .1) b l)
+      (tail-again h t (f .1 .1 .1 .1 .1 .1 .1) b l)
       ∙ ap₂ (λ x y. p ∷ q ∷ x ∷ m ∷ a ∷ y ∷ z ∷ t) es ek
 
   in-range : T (goodHead h) → T (inRange h)
@@ -65,13 +65,13 @@ module _ (p q s m a k z : ℕ) (t : List ℕ)
       let ha : a < 16 = f .1 .1 .1 .1 .0 in
       let hk : k < 16 = f .1 .1 .1 .1 .1 .0 in
       →and (leb 1 p && leb p 4) _ wp (→and (leb 1 q && leb q 8) _ wq
-          (→and (leb 1 (s + 1) && leb (s + 1) 128) _
-              (→and (leb 1 (s + 1)) (leb (s + 1) 128) (le→leb 1 (s + 1) (omega arith))
-              (le→leb (s + 1) 128 (omega arith)))
-          (→and (ltb m 16) _ (lt→ltb m 16 hm) (→and (ltb a 16) _ (lt→ltb a 16 ha)
-          (→and (leb 1 (k + 1) && leb (k + 1) 16) (ltb z (k + 1))
-              (→and (leb 1 (k + 1)) (leb (k + 1) 16) (le→leb 1 (k + 1) (omega arith))
-              (le→leb (k + 1) 16 (omega arith))) wz)))))
+      (→and (leb 1 (s + 1) && leb (s + 1) 128) _
+      (→and (leb 1 (s + 1)) (leb (s + 1) 128) (le→leb 1 (s + 1) (omega arith))
+      (le→leb (s + 1) 128 (omega arith)))
+      (→and (ltb m 16) _ (lt→ltb m 16 hm) (→and (ltb a 16) _ (lt→ltb a 16 ha)
+      (→and (leb 1 (k + 1) && leb (k + 1) 16) (ltb z (k + 1))
+      (→and (leb 1 (k + 1)) (leb (k + 1) 16) (le→leb 1 (k + 1) (omega arith))
+      (le→leb (k + 1) 16 (omega arith))) wz)))))
 
   formed-again : T (goodHead h) → T (formed (codeOf h vs))
   unfolding formed
@@ -80,10 +80,10 @@ module _ (p q s m a k z : ℕ) (t : List ℕ)
       let (_, fr) = nexts-again (k + 1) (k + 1) _ t (f .1 .1 .1 .1 .1 .1 .1) b in
       →and (inRange (head (codeOf h vs))) _ (subst (λ x. T (inRange x)) (sym (head-again h vs)) (in-range w))
       (→and (all (goodNext (length (nextsOf (k + 1) t))) (nextsOf (k + 1) t)) (all (goodRow p q (length g)) g)
-          (subst (λ n. T (all (goodNext n) (nextsOf (k + 1) t))) (sym (length-nextsOf (k + 1) t))
-              (nexts-good (k + 1) (k + 1) t b))
-          (subst (λ n. T (all (goodRow p q n) g)) (sym (length-rowsOf (s + 1) (2 ^ p) (drop ((k + 1) * 4) t)))
-              (rows-good (s + 1) p q (s + 1) (fill h ∷ []) (drop ((k + 1) * 4) t) fr y)))
+      (subst (λ n. T (all (goodNext n) (nextsOf (k + 1) t))) (sym (length-nextsOf (k + 1) t))
+      (nexts-good (k + 1) (k + 1) t b))
+      (subst (λ n. T (all (goodRow p q n) g)) (sym (length-rowsOf (s + 1) (2 ^ p) (drop ((k + 1) * 4) t)))
+      (rows-good (s + 1) p q (s + 1) (fill h ∷ []) (drop ((k + 1) * 4) t) fr y)))
 
 module _ (xs : List ℕ) (bytes : Below 256 xs) where
   -- the record's fields, with l bytes
@@ -93,8 +93,8 @@ module _ (xs : List ℕ) (bytes : Below 256 xs) where
   packed-again h vs l e v =
       let bs = bitsOf xs in
       let lb : length bs ≡ sum (widths h) =
-          length-write (replicate (length xs) 8) xs (fits-bytes xs bytes) ∙ ap (λ n. sum (replicate n 8)) l
-          ∙ sym (sum-widths h) in
+      length-write (replicate (length xs) 8) xs (fits-bytes xs bytes) ∙ ap (λ n. sum (replicate n 8)) l
+      ∙ sym (sum-widths h) in
       ap (λ k. read (replicate (size k) 8) (write (widths k) (values (codeOf h vs)))) (head-again h vs)
       ∙ ap (λ ws. read (replicate (size h) 8) (write (widths h) ws)) (v ∙ e)
       ∙ ap (read (replicate (size h) 8)) (write-read (widths h) bs (below-write (replicate (length xs) 8) xs) lb)
@@ -104,10 +104,10 @@ module _ (xs : List ℕ) (bytes : Below 256 xs) where
   fits-again : (h : Head) → length xs ≡ size h → Fits (widths h) (read (widths h) (bitsOf xs))
   fits-again h l =
       let lb : sum (widths h) ≡ length (bitsOf xs) =
-          sum-widths h ∙ ap (λ n. sum (replicate n 8)) (sym l)
-          ∙ sym (length-write (replicate (length xs) 8) xs (fits-bytes xs bytes)) in
+      sum-widths h ∙ ap (λ n. sum (replicate n 8)) (sym l)
+      ∙ sym (length-write (replicate (length xs) 8) xs (fits-bytes xs bytes)) in
       fits-read (widths h) (bitsOf xs) (below-write (replicate (length xs) 8) xs)
-          (subst (λ n. sum (widths h) ≤ n) lb (le-refl (sum (widths h))))
+      (subst (λ n. sum (widths h) ≤ n) lb (le-refl (sum (widths h))))
 
   pub record Checked (c : Code) : Type 0 where
     pub formed : T (formed c)
@@ -115,7 +115,7 @@ module _ (xs : List ℕ) (bytes : Below 256 xs) where
     pub works : T (works (c .table) (c .window))
     pub canonical : pack c ≡ xs
 
-  -- THEOREM: what parse accepts is the record of a code that passes every check
+  -- what parse accepts is the record of a code that passes every check
   pub parse-good : (c : Code) → parse xs ≡ done c → Checked c
   unfolding parse
   parse-good c e =
@@ -125,7 +125,7 @@ module _ (xs : List ℕ) (bytes : Below 256 xs) where
       let d = codeOf h vs in
       let (t₀, e₀) = unless→ Length (leb 4 (length xs)) (parsed (length xs) h bs) c e in
       let (t₁, e₁) = unless→ Field (goodHead h)
-          (unless Length (eqb (length xs) (size h)) (unless Field (goodRest h vs d) (judged d))) c e₀ in
+      (unless Length (eqb (length xs) (size h)) (unless Field (goodRest h vs d) (judged d))) c e₀ in
       let (t₂, e₂) = unless→ Length (eqb (length xs) (size h)) (unless Field (goodRest h vs d) (judged d)) c e₁ in
       let (t₃, e₃) = unless→ Field (goodRest h vs d) (judged d) c e₂ in
       let (t₄, e₄) = unless→ Disobeys (obeys d) (unless WindowFails (works (d .table) (d .window)) (done d)) c e₃ in
@@ -133,6 +133,10 @@ module _ (xs : List ℕ) (bytes : Below 256 xs) where
       let l : length xs ≡ size h = eqb→eq (length xs) (size h) t₂ in
       let same : d ≡ c = cc in
       let f = fits-again h l in
-      subst Checked same (record
-          { formed = formed-again _ _ _ _ _ _ _ _ f t₃ t₁; obeys = t₄; works = t₅; canonical =
-          packed-again h vs l refl (values-again _ _ _ _ _ _ _ _ f t₃) })
+      subst Checked same (record {
+        formed = formed-again _ _ _ _ _ _ _ _ f t₃ t₁;
+        obeys = t₄;
+        works = t₅;
+        canonical =
+            packed-again h vs l refl (values-again _ _ _ _ _ _ _ _ f t₃);
+      })

@@ -1,4 +1,5 @@
 -- A code with its fields in range, written as a record and read again, is the same code.
+-- In order: code-back, length-pack, bits-pack, parse-pack, parse-pack-good.
 -- Assumes nothing.
 use mathlib.Core.Path.{_≡_, refl, sym, ap, ap₂, subst, _∙_}
 use mathlib.Core.Bool.{Bool, true, false, _&&_, _||_}
@@ -19,13 +20,10 @@ use Rattle.table.specs.Works.{works}
 use Rattle.bits.specs.Fields.{read, write, bitsOf}
 use Rattle.bits.proofs.Fields.{regroup, read-back, length-read}
 use Rattle.table.specs.Formed.{Head, head, goodState, goodNext, goodEdge, goodRow, formed, Formed, Ranges}
-use Rattle.record.specs.Layout.{
-  header, headOf, size, widths, present, shown, nexts, pairs, rows, values, pack, opened, nextsOf, edgesOf, rowsOf,
-  codeOf
-}
-use Rattle.record.specs.Parse.{
-  goodHead, goodField, goodFields, goodTarget, filler, goodRest, judged, checked, parsed, parse
-}
+use Rattle.record.specs.Layout.{header, headOf, size, widths, present, shown, nexts, pairs, rows, values}
+use Rattle.record.specs.Layout.{pack, opened, nextsOf, edgesOf, rowsOf, codeOf}
+use Rattle.record.specs.Parse.{goodHead, goodField, goodFields, goodTarget, filler, goodRest, judged, checked}
+use Rattle.record.specs.Parse.{parsed, parse}
 use Rattle.table.specs.Obeys.{obeys}
 use Rattle.table.proofs.Formed.{formed→}
 use Rattle.record.proofs.RecordFits.{sum-widths, fits-values}
@@ -63,20 +61,20 @@ rows-back p q n [] r t = refl
 rows-back p q n (es ∷ g) r t =
     let (a, b) = and→ (goodRow p q n es) (all (goodRow p q n) g) t in
     let l : length es ≡ 2 ^ p =
-        eqb→eq (length es) (2 ^ p) (and→ (eqb (length es) (2 ^ p)) (all (goodEdge q n) es) a .0) in
+    eqb→eq (length es) (2 ^ p) (and→ (eqb (length es) (2 ^ p)) (all (goodEdge q n) es) a .0) in
     rw append-assoc (ap₂ _∷_ (ap (λ m. edgesOf m (pairs es ++ (rows g ++ r))) (sym l) ∙ edges-back es (rows g ++ r))
-        (ap (rowsOf (length g) (2 ^ p))
-            (drop-at (pairs es) (rows g ++ r) (2 ^ p * 2) (length-pairs es ∙ ap (λ m. m * 2) l))
-            ∙ rows-back p q n g r b))
+    (ap (rowsOf (length g) (2 ^ p))
+    (drop-at (pairs es) (rows g ++ r) (2 ^ p * 2) (length-pairs es ∙ ap (λ m. m * 2) l))
+    ∙ rows-back p q n g r b))
 
 pub code-back : (c : Code) → Formed c → codeOf (head c) (values c) ≡ c
 code-back c f =
     ap₂ (λ x y. record { p = c .p; q = c .q; window = c .window; constraint = x; start = c .start; table = y })
-        (nexts-back (c .constraint) (rows (c .table) ++ (0 ∷ [])))
-        (ap (rowsOf (length (c .table)) (2 ^ c .p))
-            (drop-at (nexts (c .constraint)) (rows (c .table) ++ (0 ∷ [])) (length (c .constraint) * 4)
-            (length-nexts (c .constraint)))
-         ∙ rows-back (c .p) (c .q) (length (c .table)) (c .table) (0 ∷ []) (f .rows))
+    (nexts-back (c .constraint) (rows (c .table) ++ (0 ∷ [])))
+    (ap (rowsOf (length (c .table)) (2 ^ c .p))
+    (drop-at (nexts (c .constraint)) (rows (c .table) ++ (0 ∷ [])) (length (c .constraint) * 4)
+    (length-nexts (c .constraint)))
+    ∙ rows-back (c .p) (c .q) (length (c .table)) (c .table) (0 ∷ []) (f .rows))
 
 -- ---- the checks of a record that was written
 field-good : (k s : ℕ) → T (goodState k s) → T (goodField k (present s) (shown s))
@@ -93,30 +91,30 @@ fields-good k (x ∷ c) r t =
     let (a, b) = and→ (goodNext k x) (all (goodNext k) c) t in
     let (y, z) = and→ (goodState k (x .zero)) (goodState k (x .one)) a in
     →and (goodField k (present (x .zero)) (shown (x .zero)) && goodField k (present (x .one)) (shown (x .one)))
-        (goodFields k (length c) (nexts c ++ r))
-        (→and (goodField k (present (x .zero)) (shown (x .zero))) (goodField k (present (x .one)) (shown (x .one)))
-            (field-good k (x .zero) y) (field-good k (x .one) z)) (fields-good k c r b)
+    (goodFields k (length c) (nexts c ++ r))
+    (→and (goodField k (present (x .zero)) (shown (x .zero))) (goodField k (present (x .one)) (shown (x .one)))
+    (field-good k (x .zero) y) (field-good k (x .one) z)) (fields-good k c r b)
 
 targets-good : (q n : ℕ) (es : List Edge) → T (all (goodEdge q n) es) → T (all (goodTarget n) es)
 targets-good q n [] t = tt
 targets-good q n (e ∷ es) t =
     let (a, b) = and→ (goodEdge q n e) (all (goodEdge q n) es) t in
     →and (goodTarget n e) (all (goodTarget n) es) (and→ (ltb (e .word) (2 ^ q)) (ltb (e .next) n) a .1)
-        (targets-good q n es b)
+    (targets-good q n es b)
 
 rows-good : (p q n : ℕ) (g : Rows) → T (all (goodRow p q n) g) → T (all (all (goodTarget n)) g)
 rows-good p q n [] t = tt
 rows-good p q n (es ∷ g) t =
     let (a, b) = and→ (goodRow p q n es) (all (goodRow p q n) g) t in
     →and (all (goodTarget n) es) (all (all (goodTarget n)) g)
-        (targets-good q n es (and→ (eqb (length es) (2 ^ p)) (all (goodEdge q n) es) a .1)) (rows-good p q n g b)
+    (targets-good q n es (and→ (eqb (length es) (2 ^ p)) (all (goodEdge q n) es) a .1)) (rows-good p q n g b)
 
 length-rows : (p q n : ℕ) (g : Rows) → T (all (goodRow p q n) g) → length (rows g) ≡ length g * (2 ^ p * 2)
 length-rows p q n [] t = omega arith
 length-rows p q n (es ∷ g) t =
     let (a, b) = and→ (goodRow p q n es) (all (goodRow p q n) g) t in
     let l : length es ≡ 2 ^ p =
-        eqb→eq (length es) (2 ^ p) (and→ (eqb (length es) (2 ^ p)) (all (goodEdge q n) es) a .0) in
+    eqb→eq (length es) (2 ^ p) (and→ (eqb (length es) (2 ^ p)) (all (goodEdge q n) es) a .0) in
     length-append (pairs es) (rows g) ∙ rw (length-pairs es, length-rows p q n g b, l, suc-mul) (omega arith)
 
 rest-good : (c : Code) → Formed c → T (goodRest (head c) (values c) c)
@@ -124,24 +122,24 @@ rest-good c f =
     let K = length (c .constraint) in
     let S = length (c .table) in
     let e : drop (S * (2 ^ c .p * 2)) (drop (K * 4) (nexts (c .constraint) ++ (rows (c .table) ++ (0 ∷ [])))) ≡ 0 ∷
-        [] =
-            ap (drop (S * (2 ^ c .p * 2)))
-                (drop-at (nexts (c .constraint)) (rows (c .table) ++ (0 ∷ [])) (K * 4) (length-nexts (c .constraint)))
-            ∙ drop-at (rows (c .table)) (0 ∷ []) (S * (2 ^ c .p * 2))
-                (length-rows (c .p) (c .q) S (c .table) (f .rows)) in
+    [] =
+    ap (drop (S * (2 ^ c .p * 2)))
+    (drop-at (nexts (c .constraint)) (rows (c .table) ++ (0 ∷ [])) (K * 4) (length-nexts (c .constraint)))
+    ∙ drop-at (rows (c .table)) (0 ∷ []) (S * (2 ^ c .p * 2))
+    (length-rows (c .p) (c .q) S (c .table) (f .rows)) in
     →and (goodFields K K (nexts (c .constraint) ++ (rows (c .table) ++ (0 ∷ []))))
-        (all (all (goodTarget S)) (c .table) && eqb (filler (head c) (values c)) 0)
-        (fields-good K (c .constraint) (rows (c .table) ++ (0 ∷ [])) (f .nexts))
-        (→and (all (all (goodTarget S)) (c .table)) (eqb (filler (head c) (values c)) 0)
-            (rows-good (c .p) (c .q) S (c .table) (f .rows)) (subst (λ l. T (eqb (getD l 0 0) 0)) (sym e) tt))
+    (all (all (goodTarget S)) (c .table) && eqb (filler (head c) (values c)) 0)
+    (fields-good K (c .constraint) (rows (c .table) ++ (0 ∷ [])) (f .nexts))
+    (→and (all (all (goodTarget S)) (c .table)) (eqb (filler (head c) (values c)) 0)
+    (rows-good (c .p) (c .q) S (c .table) (f .rows)) (subst (λ l. T (eqb (getD l 0 0) 0)) (sym e) tt))
 
 head-good : (h : Head) → Ranges h → T (goodHead h)
 head-good h r =
     →and (leb 1 (h .p) && leb (h .p) 4) _
-        (→and (leb 1 (h .p)) (leb (h .p) 4) (le→leb 1 (h .p) (r .p₁)) (le→leb (h .p) 4 (r .p₂)))
+    (→and (leb 1 (h .p)) (leb (h .p) 4) (le→leb 1 (h .p) (r .p₁)) (le→leb (h .p) 4 (r .p₂)))
     (→and (leb 1 (h .q) && leb (h .q) 8) (ltb (h .start) (h .count))
-        (→and (leb 1 (h .q)) (leb (h .q) 8) (le→leb 1 (h .q) (r .q₁)) (le→leb (h .q) 8 (r .q₂)))
-        (lt→ltb (h .start) (h .count) (r .start)))
+    (→and (leb 1 (h .q)) (leb (h .q) 8) (le→leb 1 (h .q) (r .q₁)) (le→leb (h .q) 8 (r .q₂)))
+    (lt→ltb (h .start) (h .count) (r .start)))
 
 pub length-pack : (c : Code) → length (pack c) ≡ size (head c)
 unfolding pack
@@ -164,8 +162,16 @@ head-back c f =
     let s : length (c .table) - 1 + 1 ≡ length (c .table) = omega (arith, r .s₁) in
     let k : length (c .constraint) - 1 + 1 ≡ length (c .constraint) = omega (arith, r .k₁) in
     ap (λ vs. headOf (take 7 vs)) (fields-back c f)
-    ∙ ap₂ (λ a b. record { p = c .p; q = c .q; states = a; memory = c .window .memory; lookahead =
-        c .window .lookahead; count = b; start = c .start }) s k
+    ∙ ap₂ (λ a b. record {
+      p = c .p;
+      q = c .q;
+      states = a;
+      memory = c .window .memory;
+      lookahead =
+          c .window .lookahead;
+      count = b;
+      start = c .start;
+    }) s k
 
 passed : (l : ℕ) (h : Head) (bs vs : List ℕ) (c : Code) → read (widths h) bs ≡ vs → codeOf h vs ≡ c → T (goodHead h)
     → l ≡ size h → T (goodRest h vs c)
@@ -174,27 +180,27 @@ passed l h bs vs c e e' t₁ t₂ t₃ =
     ap (λ vs. checked l h vs (codeOf h vs)) e ∙ ap (checked l h vs) e'
     ∙ unless-true Field (goodHead h) (unless Length (eqb l (size h)) (unless Field (goodRest h vs c) (judged c))) t₁
     ∙ unless-true Length (eqb l (size h)) (unless Field (goodRest h vs c) (judged c))
-        (subst (λ n. T (eqb l n)) t₂ (eqb-refl l))
+    (subst (λ n. T (eqb l n)) t₂ (eqb-refl l))
     ∙ unless-true Field (goodRest h vs c) (judged c) t₃
 
--- THEOREM: a code with its fields in range, packed and parsed, is judged as it stands
+-- a code with its fields in range, packed and parsed, is judged as it stands
 pub parse-pack : (c : Code) → T (formed c) → parse (pack c) ≡ judged c
 unfolding parse
 parse-pack c t =
     let f = formed→ c t in
     let l = length-pack c in
     unless-true Length (leb 4 (length (pack c)))
-        (parsed (length (pack c)) (headOf (read header (bitsOf (pack c)))) (bitsOf (pack c)))
-        (rw l (le→leb 4 (size (head c)) (omega (arith, f .range .k₁))))
+    (parsed (length (pack c)) (headOf (read header (bitsOf (pack c)))) (bitsOf (pack c)))
+    (rw l (le→leb 4 (size (head c)) (omega (arith, f .range .k₁))))
     ∙ ap (λ n. parsed n (headOf (read header (bitsOf (pack c)))) (bitsOf (pack c))) l
     ∙ ap (λ bs. parsed (size (head c)) (headOf (read header bs)) bs) (bits-pack c f)
     ∙ ap (λ h. parsed (size (head c)) h (write (widths (head c)) (values c))) (head-back c f)
     ∙ passed (size (head c)) (head c) (write (widths (head c)) (values c)) (values c) c (fields-back c f)
-        (code-back c f) (head-good (head c) (f .range)) refl (rest-good c f)
+    (code-back c f) (head-good (head c) (f .range)) refl (rest-good c f)
 
 -- so an accepted code comes back
 pub parse-pack-good : (c : Code) → T (formed c) → T (obeys c) → T (works (c .table) (c .window))
     → parse (pack c) ≡ done c
 parse-pack-good c t u v =
     parse-pack c t ∙ unless-true Disobeys (obeys c) (unless WindowFails (works (c .table) (c .window)) (done c)) u
-        ∙ unless-true WindowFails (works (c .table) (c .window)) (done c) v
+    ∙ unless-true WindowFails (works (c .table) (c .window)) (done c) v

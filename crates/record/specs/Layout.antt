@@ -1,6 +1,7 @@
--- "The packed record": its fields as two lists, widths and values; a record written, and the code of fields that are read.
--- In order: header, headOf; size, fill, widths; present, shown, nexts, pairs, rows, values, pack; opened, nextsOf, edgesOf,
--- rowsOf, codeOf.
+-- "The packed record": its fields as two lists, widths and values; a record written, and the code of fields that are
+-- read.
+-- In order: header, headOf; size, fill, widths; present, shown, nexts, pairs, rows, values, pack; opened, nextsOf,
+-- edgesOf, rowsOf, codeOf.
 -- Assumes nothing.
 use mathlib.Core.List.{List, [], _∷_, _++_}
 use Prim.Native.Nat.{ℕ, zero, suc, _+_, _*_, _-_, _/_, _^_}
@@ -19,8 +20,13 @@ header = 3 ∷ 4 ∷ 7 ∷ 4 ∷ 4 ∷ 4 ∷ 4 ∷ []
 -- the numbers in front, from the fields
 abbrev pub headOf : List ℕ → Head
 headOf vs = record {
-  p = getD vs 0 0; q = getD vs 1 0; states = getD vs 2 0 + 1; memory = getD vs 3 0; lookahead = getD vs 4 0;
-  count = getD vs 5 0 + 1; start = getD vs 6 0
+  p = getD vs 0 0;
+  q = getD vs 1 0;
+  states = getD vs 2 0 + 1;
+  memory = getD vs 3 0;
+  lookahead = getD vs 4 0;
+  count = getD vs 5 0 + 1;
+  start = getD vs 6 0;
 }
 
 -- how many bits the fields have: 30 in front, 10 a constraint state, q + 7 an edge
@@ -35,8 +41,8 @@ size h = (bitCount h + 7) / 8
 abbrev pub fill : Head → ℕ
 fill h = 8 * size h - bitCount h
 
--- the widths of all fields, the fill as a last one: "for each constraint state and bit 0, then 1: present 1, next state 4;
--- for each table state and datum: word q, next table state 7"
+-- the widths of all fields, the fill as a last one: "for each constraint state and bit 0, then 1: present 1, next
+-- state 4; for each table state and datum: word q, next table state 7"
 abbrev pub widths : Head → List ℕ
 widths h =
     header ++ (repeat (h .count) (1 ∷ 4 ∷ 1 ∷ 4 ∷ [])
@@ -99,7 +105,10 @@ rowsOf (suc s) n vs = edgesOf n vs ∷ rowsOf s n (drop (n * 2) vs)
 -- the code that fields name
 abbrev pub codeOf : Head → List ℕ → Code
 codeOf h vs = record {
-  p = h .p; q = h .q; window = record { memory = h .memory; lookahead = h .lookahead };
-  constraint = nextsOf (h .count) (drop 7 vs); start = h .start;
-  table = rowsOf (h .states) (2 ^ h .p) (drop (h .count * 4) (drop 7 vs))
+  p = h .p;
+  q = h .q;
+  window = record { memory = h .memory; lookahead = h .lookahead };
+  constraint = nextsOf (h .count) (drop 7 vs);
+  start = h .start;
+  table = rowsOf (h .states) (2 ^ h .p) (drop (h .count * 4) (drop 7 vs));
 }

@@ -1,6 +1,6 @@
 -- A record read, with its refusals: "Record: 8 below four bytes, header by 7, 8, the rest by 7, 9, 10."
--- In order: goodHead; goodField, goodFields, goodTarget, filler, goodRest; judged, checked, parsed, parse;
--- packInto, a record into lent bytes.
+-- In order: goodHead; goodField, goodFields, goodTarget, filler, goodRest; judged, checked, parsed, parse; packInto,
+-- a record into lent bytes.
 -- Assumes nothing.
 use mathlib.Core.Bool.{Bool, true, _&&_}
 use mathlib.Core.List.{List}

@@ -1,5 +1,6 @@
 -- A set of accepted codes, written and walked, gives the codes; and a set that the walk accepts is what its codes are
 -- written as.
+-- In order: set-back, Whole, set-canonical.
 -- Assumes nothing.
 use mathlib.Core.Path.{_≡_, refl, sym, ap, ap₂, subst, _∙_}
 use mathlib.Core.Bool.{Bool, true, false}
@@ -20,13 +21,8 @@ use Rattle.record.specs.Layout.{pack}
 use Rattle.record.specs.Parse.{parse}
 use Rattle.answer.specs.Outcomes.{Outcome, done, refused}
 use Rattle.record.proofs.RecordRead.{parse-good}
-use Rattle.sets.specs.Sets.{Walk, codes, stopped, also, next, walked, readSet, framed, writeSet}
+use Rattle.sets.specs.Sets.{Walk, codes, stopped, also, next, walked, readSet, framed, writeSet, Readable}
 use Rattle.answer.specs.declared.Refusal.the-variants.{Length}
-
--- every code comes back from its record
-abbrev pub Readable : List Code → Type 0
-Readable [] = Unit {0}
-Readable (c ∷ cs) = (parse (pack c) ≡ done c) × Readable cs
 
 walked-framed : (cs : List Code) (i : ℕ) → Readable cs → walked (length cs) i (concat (map framed cs)) ≡ codes cs
 walked-framed [] i e = refl
@@ -36,8 +32,8 @@ walked-framed (c ∷ cs) i (e, es) =
     let l = length b / 256 * 256 + length b % 256 in
     let q : l ≡ length b = div-add-mod' (length b) 256 in
     ap (λ t. if t then stopped i Length else next i (parse (take l (b ++ r)))
-        (walked (length cs) (suc i) (drop l (b ++ r))))
-        (le-ltb (length (b ++ r)) l (rw (length-append b r) (omega arith)))
+    (walked (length cs) (suc i) (drop l (b ++ r))))
+    (le-ltb (length (b ++ r)) l (rw (length-append b r) (omega arith)))
     ∙ ap₂ (λ u v. next i (parse u) (walked (length cs) (suc i) v)) (take-at b r l (sym q)) (drop-at b r l (sym q))
     ∙ ap₂ (λ u v. next i u v) e (walked-framed cs (suc i) es)
 
@@ -76,9 +72,12 @@ front x y n xs c ds hx hy h p g (l, e, k) =
     let len : length (pack c) ≡ x * 256 + y = ap length p ∙ length-take-le (x * 256 + y) xs h in
     let a : length (pack c) / 256 ≡ x = ap (λ m. m / 256) len ∙ digits-div x hy in
     let b : length (pack c) % 256 ≡ y = ap (λ m. m % 256) len ∙ digits-mod x hy in
-    let tail : pack c ++ concat (map framed ds) ≡ xs = ap₂ _++_ p e ∙ take-append-drop (x * 256 + y) xs in
-    (ap suc l, ap₂ (λ u v. u ∷ v ∷ (pack c ++ concat (map framed ds))) a b
-        ∙ ap (λ t. x ∷ y ∷ t) tail, (ap parse p ∙ g, k))
+    let tail : pack c ++ concat (map framed ds) ≡ xs = ap₂ _++_ p e ∙ take-append-drop (x * 256 + y) xs in (
+      ap suc l,
+      ap₂ (λ u v. u ∷ v ∷ (pack c ++ concat (map framed ds))) a b
+          ∙ ap (λ t. x ∷ y ∷ t) tail,
+      (ap parse p ∙ g, k),
+    )
 
 walked→ : (n i : ℕ) (xs : List ℕ) (cs : List Code) → Below 256 xs → walked n i xs ≡ codes cs → Whole n xs cs
 walked→ zero i [] cs b e = let q : [] ≡ cs = cc in subst (λ cs. Whole 0 [] cs) q (refl, refl, tt)
@@ -89,13 +88,13 @@ walked→ (suc n) i (x ∷ y ∷ xs) cs (hx, (hy, b)) e =
     let l = x * 256 + y in
     let (t, e₁) = cut→ (ltb (length xs) l) i (next i (parse (take l xs)) (walked n (suc i) (drop l xs))) cs e in
     go (next→ i (parse (take l xs)) (walked n (suc i) (drop l xs)) cs e₁) (ltb-false (length xs) l t)
-        (λ ds q. walked→ n (suc i) (drop l xs) ds (below-drop 256 l xs b) q)
+    (λ ds q. walked→ n (suc i) (drop l xs) ds (below-drop 256 l xs b) q)
   where
     go : (c : Code) × (ds : List Code) × (parse (take (x * 256 + y) xs) ≡ done c)
         × (walked n (suc i) (drop (x * 256 + y) xs) ≡ codes ds) × (c ∷ ds ≡ cs)
         → x * 256 + y ≤ length xs
-            → ((ds : List Code) → walked n (suc i) (drop (x * 256 + y) xs) ≡ codes ds
-            → Whole n (drop (x * 256 + y) xs) ds) → Whole (suc n) (x ∷ y ∷ xs) cs
+        → ((ds : List Code) → walked n (suc i) (drop (x * 256 + y) xs) ≡ codes ds
+        → Whole n (drop (x * 256 + y) xs) ds) → Whole (suc n) (x ∷ y ∷ xs) cs
     go (c, ds, p, w, q) h f =
         let k = parse-good (take (x * 256 + y) xs) (below-take 256 (x * 256 + y) xs b) c p in
         subst (λ cs. Whole (suc n) (x ∷ y ∷ xs) cs) q (front x y n xs c ds hx hy h (k .canonical) p (f ds w))

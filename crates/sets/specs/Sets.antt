@@ -1,6 +1,7 @@
 -- "A set is one count byte, 0 to 255, then each record behind a two-byte length, most significant first."
--- In order: Walk; also, next, walked, readSet; framed, writeSet.
+-- In order: Walk; also, next, walked, readSet; framed, writeSet; Readable, codes whose records are good.
 -- Assumes nothing.
+use mathlib.Core.Path.{_≡_}
 use mathlib.Core.List.{List, [], _∷_, map}
 use Prim.Native.Nat.{ℕ, zero, suc, _+_, _*_, _/_, _%_}
 use lib.Dec.{ltb}
@@ -28,8 +29,8 @@ abbrev pub next : ℕ → Outcome Code → Walk → Walk
 next i (done c) w = also c w
 next i (refused r) w = stopped i r
 
--- n records from number i on: "record by record, 8 if its length or bytes are cut off, else the record's own checks; last 8,
--- with the count as number, for bytes left over"
+-- n records from number i on: "record by record, 8 if its length or bytes are cut off, else the record's own checks;
+-- last 8, with the count as number, for bytes left over"
 abbrev pub walked : ℕ → ℕ → List ℕ → Walk
 walked zero i [] = codes []
 walked zero i (x ∷ xs) = stopped i Length
@@ -52,3 +53,8 @@ framed c = let b = pack c in (length b / 256) ∷ (length b % 256) ∷ b
 -- the set of the records of codes
 unfoldable pub writeSet : List Code → List ℕ
 writeSet cs = length cs ∷ concat (map framed cs)
+
+-- each code comes back from its record
+abbrev pub Readable : List Code → Type 0
+Readable [] = Unit {0}
+Readable (c ∷ cs) = (parse (pack c) ≡ done c) × Readable cs

@@ -7,3 +7,9 @@ pub mod Obeys
 pub mod Formed
 pub mod Accepted
 pub mod Value
+pub mod Entries
+pub mod Obeying
+pub mod Marks
+pub mod Edges
+pub mod PairSets
+pub mod Steps

@@ -1,10 +1,13 @@
 -- The code that a value of the struct `Table` stands for.
--- In order: wordAt, nextAt; edgeIn, rowIn, rowsIn; codeIn; Ready, what the checks of a record's fields ensure.
+-- In order: wordAt, nextAt; edgeIn, rowIn, rowsIn; codeIn; Ready, what the checks of a record's fields ensure; ready, the same
+-- as a test.
 -- Assumes nothing.
+use mathlib.Core.Bool.{Bool, _&&_}
 use mathlib.Core.List.{List, map}
 use Prim.Native.Nat.{ℕ, _+_, _*_, _^_, _≤_, _<_}
+use lib.Dec.{ltb, leb}
 use lib.ListN.{getD}
-use Rattle.laws.specs.Lists.{range}
+use Rattle.laws.specs.Lists.{range, all}
 use Rattle.constraint.specs.Value.{constraintOf}
 use Rattle.table.specs.declared.Table.{Table}
 use Rattle.table.specs.Rows.{Edge, edge, Rows, Code}
@@ -32,12 +35,16 @@ rowsIn t = map (rowIn t) (range (t .states))
 -- the code
 abbrev pub codeIn : Table → Code
 codeIn t = record {
-  p = t .p; q = t .q; window = record { memory = t .memory; lookahead = t .lookahead };
-  constraint = constraintOf (t .constraint); start = t .start; table = rowsIn t
+  p = t .p;
+  q = t .q;
+  window = record { memory = t .memory; lookahead = t .lookahead };
+  constraint = constraintOf (t .constraint);
+  start = t .start;
+  table = rowsIn t;
 }
 
--- a table that fits its arrays, with words of q bits and edges that lead to states: no caller can fail it, since it holds of
--- every table that `load` gives
+-- a table that fits its arrays, with words of q bits and edges that lead to states: no caller can fail it, since it
+-- holds of every table that `load` gives
 pub record Ready (t : Table) : Type 0 where
   pub some : 1 ≤ t .states
   pub few : t .states ≤ 128
@@ -46,3 +53,17 @@ pub record Ready (t : Table) : Type 0 where
   pub reading : (s d : ℕ) → s < t .states → d < 2 ^ t .p → wordAt t s d < 2 ^ t .q
   pub inside : (s d : ℕ) → s < t .states → d < 2 ^ t .p → nextAt t s d < t .states
   pub limits : t .constraint .states ≤ 16
+
+-- the edge of s that carries d has a word of q bits and leads to a state
+abbrev pub goodEntry : Table → ℕ → ℕ → Bool
+goodEntry t s d = ltb (wordAt t s d) (2 ^ t .q) && ltb (nextAt t s d) (t .states)
+
+-- all edges of s are such
+abbrev pub goodEntries : Table → ℕ → Bool
+goodEntries t s = all (goodEntry t s) (range (2 ^ t .p))
+
+-- the table is one that `load` can give: it fits its arrays, has words of q bits, and its edges lead to states
+unfoldable pub ready : Table → Bool
+ready t =
+    (leb 1 (t .states) && leb (t .states) 128) && (leb (t .p) 4 && (leb (t .q) 8
+    && (leb (t .constraint .states) 16 && all (goodEntries t) (range (t .states)))))

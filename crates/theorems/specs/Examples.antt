@@ -37,7 +37,12 @@ weighed d k p q cap = onward (readRunLength (d ∷ k ∷ p ∷ q ∷ cap ∷ [])
 -- a code at p blocks to q bits, with memory m and lookahead a, for a constraint that starts in state 0
 abbrev pub codeAt : ℕ → ℕ → ℕ → ℕ → Constraint → Rows → Code
 codeAt p q m a c t = record {
-  p = p; q = q; window = record { memory = m; lookahead = a }; constraint = c; start = 0; table = t
+  p = p;
+  q = q;
+  window = record { memory = m; lookahead = a };
+  constraint = c;
+  start = 0;
+  table = t;
 }
 
 -- E1: "state 0 gives 01/0, 10/1 (word/next); state 1 gives 10/1, 11/0; m 1, a 0"
@@ -118,7 +123,9 @@ pub record Examples : Type 0 where
 
 -- they hold
 pub examples : Examples
-unfolding readJob readRunLength compile compileRunLength packInto pack parse encoded decoded encodeUnder decodeUnder works sizes window obeys power weights componentStates componentGraph split splits splitAll tableStates tableOf
+unfolding readJob readRunLength compile compileRunLength packInto pack parse encoded decoded encodeUnder
+    decodeUnder works sizes window obeys power weights componentStates componentGraph split splits
+    splitAll tableStates tableOf
 examples = record {
   e1-weights = refl;
   e1-table = refl;
@@ -137,5 +144,5 @@ examples = record {
   e9-sum = refl;
   e9-table = refl;
   e10-table = refl;
-  e10 = refl
+  e10 = refl;
 }

@@ -1,1 +1,2 @@
+pub mod Main
 pub mod Examples

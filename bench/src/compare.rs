@@ -1,0 +1,107 @@
+//! Random calls, good and bad, of the proved library and of the outside implementation.
+use crate::library;
+use reference::answer::Answer;
+use std::time::{Duration, Instant};
+
+/// A small generator of numbers, the same at each run.
+pub struct Numbers(u64);
+
+impl Numbers {
+    pub fn new() -> Self {
+        Numbers(0x9e37_79b9_7f4a_7c15)
+    }
+
+    fn next(&mut self) -> u64 {
+        self.0 ^= self.0 << 13;
+        self.0 ^= self.0 >> 7;
+        self.0 ^= self.0 << 17;
+        self.0
+    }
+
+    pub fn below(&mut self, bound: usize) -> usize {
+        (self.next() % bound as u64) as usize
+    }
+}
+
+/// Records of some run-length jobs, with their p and q.
+fn records() -> Vec<(Vec<u8>, usize, usize)> {
+    let jobs = [[0, 1, 1, 2, 1], [0, 1, 2, 3, 2], [1, 3, 1, 2, 1], [1, 7, 2, 3, 2], [2, 7, 1, 2, 4], [0, 2, 3, 4, 3]];
+    let record = |job: &[u8; 5]| reference::calls::compile_run_length(job, 65535).output;
+    jobs.iter().map(|job| (record(job), usize::from(job[2]), usize::from(job[3]))).collect()
+}
+
+/// Bytes with some bits turned, or cut, or lengthened.
+fn damaged(numbers: &mut Numbers, bytes: &[u8]) -> Vec<u8> {
+    let mut bytes = bytes.to_vec();
+    for _ in 0..numbers.below(4) {
+        let place = numbers.below(bytes.len().max(1));
+        if let Some(byte) = bytes.get_mut(place) {
+            *byte ^= 1 << numbers.below(8);
+        }
+    }
+    match numbers.below(16) {
+        0 => bytes.truncate(numbers.below(bytes.len() + 1)),
+        1 => bytes.push(numbers.below(256) as u8),
+        _ => {}
+    }
+    bytes
+}
+
+/// The answer and every lent byte are those of the outside implementation.
+fn agree(what: &str, input: &[u8], ours: (u64, u64), out: &[u8], theirs: &Answer) {
+    assert_eq!(ours, (u64::from(theirs.refusal), u64::from(theirs.value)), "{what} of {input:02x?}");
+    let written = theirs.output.len();
+    assert_eq!(out[..written], theirs.output, "{what} of {input:02x?}: what was written");
+    assert!(out[written..].iter().all(|&b| b == 0xa5), "{what} of {input:02x?}: bytes past the end");
+}
+
+fn check(record: &[u8]) -> u64 {
+    let ours = library::check(record);
+    agree("check", record, ours, &[], &Answer { output: Vec::new(), ..reference::calls::check(record) });
+    ours.0
+}
+
+fn encode(numbers: &mut Numbers, record: &[u8], p: usize) -> u64 {
+    let mut blocks: Vec<u8> = (0..numbers.below(40)).map(|_| numbers.below(1 << p) as u8).collect();
+    if numbers.below(4) == 0 {
+        blocks = damaged(numbers, &blocks);
+    }
+    let mut out = vec![0xa5; numbers.below(56)];
+    let theirs = reference::calls::encode(record, &blocks, out.len());
+    let ours = library::encode(record, &blocks, &mut out);
+    agree("encode", &blocks, ours, &out, &theirs);
+    ours.0
+}
+
+fn decode(numbers: &mut Numbers, record: &[u8], p: usize, q: usize) -> u64 {
+    let blocks: Vec<u8> = (0..numbers.below(40)).map(|_| numbers.below(1 << p) as u8).collect();
+    let mut words = reference::calls::encode(record, &blocks, 100).output;
+    words = damaged(numbers, &words);
+    if numbers.below(4) > 0 {
+        words.iter_mut().for_each(|w| *w &= ((1u16 << q) - 1) as u8);
+    }
+    let mut out = vec![0xa5; numbers.below(48)];
+    let theirs = reference::calls::decode(record, &words, out.len());
+    let ours = library::decode(record, &words, &mut out);
+    agree("decode", &words, ours, &out, &theirs);
+    ours.0
+}
+
+/// Compares for as long as it is told, and says how many calls agreed.
+pub fn for_seconds(seconds: u64) {
+    let records = records();
+    let mut numbers = Numbers::new();
+    let end = Instant::now() + Duration::from_secs(seconds);
+    let mut answers = [0u64; 14];
+    while Instant::now() < end {
+        let (record, p, q) = &records[numbers.below(records.len())];
+        let bytes = if numbers.below(8) == 0 { damaged(&mut numbers, record) } else { record.clone() };
+        let refusal = match numbers.below(3) {
+            0 => check(&damaged(&mut numbers, record)),
+            1 => encode(&mut numbers, &bytes, *p),
+            _ => decode(&mut numbers, &bytes, *p, *q),
+        };
+        answers[refusal as usize] += 1;
+    }
+    println!("{} calls, no difference; answers by number: {answers:?}", answers.iter().sum::<u64>());
+}

@@ -1,0 +1,18 @@
+//! Compares the proved library with the outside implementation, and measures both.
+mod chains;
+mod compare;
+mod library;
+mod plain;
+mod speed;
+
+fn main() {
+    let arguments: Vec<String> = std::env::args().collect();
+    match arguments.get(1).map(String::as_str) {
+        Some("speed") => speed::all(),
+        Some("compare") => {
+            let seconds = arguments.get(2).and_then(|s| s.parse().ok()).unwrap_or(10);
+            compare::for_seconds(seconds);
+        }
+        _ => eprintln!("usage: bench/run speed | bench/run compare SECONDS"),
+    }
+}

@@ -1,0 +1,103 @@
+//! Times of the proved library beside others: candidates interleaved in one run, 31 rounds, medians, outputs compared first.
+use crate::chains::Chains;
+use crate::compare::Numbers;
+use crate::{library, plain};
+use std::time::Instant;
+
+const ROUNDS: usize = 31;
+
+/// The record of a run-length job.
+fn record(job: [u8; 5]) -> Vec<u8> {
+    reference::calls::compile_run_length(&job, 65535).output
+}
+
+fn seconds(call: impl FnOnce()) -> f64 {
+    let start = Instant::now();
+    call();
+    start.elapsed().as_secs_f64()
+}
+
+fn median(mut times: Vec<f64>) -> f64 {
+    times.sort_by(f64::total_cmp);
+    times[times.len() / 2]
+}
+
+/// The medians of the candidates' times, each round trying every candidate in turn.
+fn medians(candidates: &mut [&mut dyn FnMut()]) -> Vec<f64> {
+    let mut times = vec![Vec::new(); candidates.len()];
+    for _ in 0..ROUNDS {
+        for (candidate, times) in candidates.iter_mut().zip(&mut times) {
+            times.push(seconds(candidate));
+        }
+    }
+    times.into_iter().map(median).collect()
+}
+
+fn check() {
+    println!("check, us a call");
+    for (name, job, calls) in [("E2", [0, 1, 1, 2, 1], 1000), ("2 7 4 8 16", [2, 7, 4, 8, 16], 20)] {
+        let record = record(job);
+        assert_eq!(library::check(&record), (0, 0), "the record of {name} is accepted");
+        let t = medians(&mut [
+            &mut || (0..calls).for_each(|_| assert_eq!(library::check(&record).0, 0)),
+            &mut || (0..calls).for_each(|_| assert_eq!(reference::calls::check(&record).refusal, 0)),
+        ]);
+        let us = |t: f64| t * 1e6 / f64::from(calls);
+        println!("  {name:12} proved {:9.2}   outside implementation {:9.2}", us(t[0]), us(t[1]));
+    }
+}
+
+fn encode() {
+    let record = record([0, 1, 2, 3, 2]);
+    let table = Chains::of(&reference::accept::load(&record).expect("accepted"));
+    let mut numbers = Numbers::new();
+    let blocks: Vec<u8> = (0..1 << 20).map(|_| numbers.below(4) as u8).collect();
+    let mut ours = vec![0; blocks.len() + table.lookahead];
+    let mut theirs = ours.clone();
+    assert_eq!(library::encode(&record, &blocks, &mut ours), (0, ours.len() as u64));
+    assert_eq!(plain::encode(&table, &blocks, &mut theirs), theirs.len());
+    assert_eq!(ours, theirs);
+    let t = medians(&mut [
+        &mut || assert_eq!(library::encode(&record, &blocks, &mut ours).0, 0),
+        &mut || assert_eq!(plain::encode(&table, &blocks, &mut theirs), blocks.len() + table.lookahead),
+        &mut || assert_eq!(library::check(&record).0, 0),
+    ]);
+    let loaded = t[0] - t[2];
+    println!("encode, listed code, 1 MiB of blocks, ms");
+    println!("  proved {:.3}, of which loading {:.3}; the same loop in C {:.3}", t[0] * 1e3, t[2] * 1e3, t[1] * 1e3);
+    println!("  ratio with a loaded table {:.2}, with loading {:.2}", t[1] / loaded, t[1] / t[0]);
+}
+
+fn decode(name: &str, job: [u8; 5]) {
+    let record = record(job);
+    let table = Chains::of(&reference::accept::load(&record).expect("accepted"));
+    let mut numbers = Numbers::new();
+    let blocks: Vec<u8> = (0..1 << 20).map(|_| numbers.below(1 << table.p) as u8).collect();
+    let words = reference::calls::encode(&record, &blocks, 1 << 21).output;
+    let few = &words[..(1 << 15) + table.lookahead];
+    let mut ours = vec![0; words.len()];
+    let mut theirs = ours.clone();
+    let mut slow = ours.clone();
+    assert_eq!(library::decode(&record, &words, &mut ours), (0, blocks.len() as u64));
+    assert_eq!(table.decode(&words, &mut theirs), blocks.len());
+    assert_eq!(plain::decode(&table, few, &mut slow), 1 << 15);
+    assert!(ours[..blocks.len()] == blocks && theirs[..blocks.len()] == blocks && slow[..1 << 15] == blocks[..1 << 15]);
+    let t = medians(&mut [
+        &mut || assert_eq!(library::decode(&record, &words, &mut ours).0, 0),
+        &mut || assert_eq!(table.decode(&words, &mut theirs), blocks.len()),
+        &mut || assert_eq!(plain::decode(&table, few, &mut slow), 1 << 15),
+        &mut || assert_eq!(library::check(&record).0, 0),
+    ]);
+    let ns = |t: f64, n: f64| t * 1e9 / n;
+    let (ours, rust, c) = (ns(t[0] - t[3], 1048576.0), ns(t[1], 1048576.0), ns(t[2], 32768.0));
+    println!("decode, {name}, ns a block with a loaded table (loading {:.3} ms)", t[3] * 1e3);
+    println!("  proved {ours:.1}; chains in Rust {rust:.1}, ratio {:.2}; plain loops in C {c:.1}, ratio {:.2}", rust / ours, c / ours);
+}
+
+/// Prints every figure.
+pub fn all() {
+    check();
+    encode();
+    decode("listed code", [0, 1, 2, 3, 2]);
+    decode("2 7 4 8 16", [2, 7, 4, 8, 16]);
+}

@@ -1,0 +1,14 @@
+-- An answer as one number of 64 bits.
+-- In order: held; wordOf.
+-- Assumes nothing.
+use Prim.Native.Nat.{ℕ, _+_, _*_, min}
+use Rattle.answer.specs.declared.Answer.{Answer}
+use Rattle.answer.specs.Answers.{answerNumber, answerValue}
+
+-- a value, held to 2^56 − 1
+abbrev pub held : ℕ → ℕ
+held v = min v 72057594037927935
+
+-- the refusal's number (0 for a result) times 2^56, plus the value: the bytes written, or the place that the refusal names
+unfoldable pub wordOf : Answer → ℕ
+wordOf a = answerNumber a * 72057594037927936 + held (answerValue a)

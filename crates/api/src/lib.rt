@@ -1,0 +1,68 @@
+// The functions exported for C and Rust. Each takes bytes as pointer and length, and answers one number.
+ghost use mathlib.Core.Path.{_≡_};
+ghost use Prim.Native.Nat.{ℕ, _≤_, min};
+ghost use Rattle.answer.specs.Outcomes.{answerOf, outputOf};
+ghost use lib.ListN.{length};
+ghost use Rattle.record.specs.Checks.{checkedOnly};
+ghost use Rattle.codec.specs.Answers.{encodeUnder, decodeUnder};
+ghost use Rattle.api.specs.Words.{held, wordOf};
+use answer::Answer;
+
+// A value, held to 2^56 - 1.
+fn hold(value: usize) -> u64
+    ensures answer { λ r. ⌜ r ≡ held value ⌝ }
+{
+    if value < 72057594037927936 {
+        return value as u64;
+    }
+    72057594037927935
+}
+
+// An answer as one number: the refusal's number times 2^56 plus the value.
+fn word(a: Answer) -> u64
+    ensures answer { λ r. ⌜ r ≡ wordOf a ⌝ }
+{
+    let number = answer::answer_number(a);
+    let value = hold(answer::answer_value(a));
+    number * 72057594037927936 + value
+}
+
+// Whether a record is accepted: refusals 8, 7, 8, 7, 9, 10 in this order, or 0.
+#[no_mangle]
+pub extern "C" fn sbc_check(bytes: &[u8]) -> u64
+    ensures answer { λ r. ⌜ r ≡ wordOf (answerOf (checkedOnly (now (bytes .entry)))) ⌝ }
+{
+    word(record::loading::check(bytes))
+}
+
+// Blocks recorded under a record: the record's refusals, 13, 11 with the place of the first bad block; otherwise how many
+// words were written. A refusal changes no byte of the output, and bytes past the words stay as lent.
+#[no_mangle]
+pub extern "C" fn sbc_encode(bytes: &[u8], blocks: &[u8], out: &mut [u8]) -> u64
+    ensures answer {
+        λ r. ⌜ r ≡ wordOf (answerOf
+        (encodeUnder (now (bytes .entry)) (length (now (out .entry))) (now (blocks .entry)))) ⌝
+    }
+    ensures written {
+        λ r. ⌜ now (out .exit) ≡ outputOf
+        (encodeUnder (now (bytes .entry)) (length (now (out .entry))) (now (blocks .entry))) (now (out .entry)) ⌝
+    }
+{
+    word(codec::encoding::encode(bytes, blocks, out))
+}
+
+// Words decoded under a record: the record's refusals, 12, 13, 11 with the place of the first bad word; otherwise how many
+// blocks were written. A refusal changes no byte of the output, and bytes past the blocks stay as lent.
+#[no_mangle]
+pub extern "C" fn sbc_decode(bytes: &[u8], words: &[u8], out: &mut [u8]) -> u64
+    ensures answer {
+        λ r. ⌜ r ≡ wordOf (answerOf
+        (decodeUnder (now (bytes .entry)) (length (now (out .entry))) (now (words .entry)))) ⌝
+    }
+    ensures written {
+        λ r. ⌜ now (out .exit) ≡ outputOf
+        (decodeUnder (now (bytes .entry)) (length (now (out .entry))) (now (words .entry))) (now (out .entry)) ⌝
+    }
+{
+    word(codec::decoding::decode(bytes, words, out))
+}

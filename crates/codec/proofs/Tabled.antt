@@ -1,0 +1,128 @@
+-- Encoding and decoding under a table by value, check by check.
+-- In order: declined, finished, an outcome as the code answers it; bad-le; encode-7 to encode-done; decode-7 to
+-- decode-done.
+-- Assumes nothing.
+use mathlib.Core.Path.{_≡_, refl, sym, ap, subst, _∙_}
+use mathlib.Core.Bool.{Bool, true, false}
+use mathlib.Core.List.{List, [], _∷_, _++_}
+use Prim.Native.Nat.{ℕ, suc, _+_, _-_, _^_, _≤_, _<_}
+use native.Mathlib.Omega.{arith}
+use borrow.Author.Tests.{lt-leb, le-leb, eq-eqb, ne-eqb}
+use lib.Dec.{T, ltb, leb, eqb}
+use lib.ListN.{length, drop}
+use Rattle.laws.specs.Lists.{if_then_else_}
+use Rattle.answer.specs.declared.Refusal.{Refusal}
+use Rattle.answer.specs.declared.Refusal.the-variants.{Field, BadByte, TooFewWords, ShortOutput}
+use Rattle.answer.specs.declared.Answer.the-variants.{Done, Refused}
+use Rattle.answer.specs.Outcomes.{Outcome, done, refused, unless, answerOf, outputOf}
+use Rattle.table.specs.declared.Table.{Table}
+use Rattle.table.specs.Paths.{recording}
+use Rattle.table.specs.Value.{codeIn, ready}
+use Rattle.codec.specs.Reading.{decode}
+use Rattle.codec.specs.Answers.{firstBad, allBelow, encoded, decoded}
+use Rattle.codec.specs.With.{encodedWith, decodedWith}
+
+-- ---- an outcome as the code answers it
+pub declined : (o : Outcome (List ℕ)) (r : Refusal) (out : List ℕ) → o ≡ refused r
+    → (Refused r ≡ answerOf o) × (out ≡ outputOf o out)
+declined o r out e = (sym (ap answerOf e), sym (ap (λ x. outputOf x out) e))
+
+pub finished : (o : Outcome (List ℕ)) (xs out out′ : List ℕ) (n : ℕ) → o ≡ done xs → n ≡ length xs
+    → out′ ≡ xs ++ drop n out → (Done n ≡ answerOf o) × (out′ ≡ outputOf o out)
+finished o xs out out′ n e q b =
+    (ap Done q ∙ sym (ap answerOf e), b ∙ ap (λ k. xs ++ drop k out) q ∙ sym (ap (λ x. outputOf x out) e))
+
+pub bad-le : (n : ℕ) (xs : List ℕ) → firstBad n xs ≤ length xs
+bad-le n [] = omega arith
+bad-le n (x ∷ xs) = go (ltb x n) (bad-le n xs)
+  where
+    go : (b : Bool) → firstBad n xs ≤ length xs → (if b then suc (firstBad n xs) else 0) ≤ suc (length xs)
+    go true h = omega arith
+    go false h = omega arith
+
+-- ---- the check of refusal 11
+module _ (n : ℕ) (xs result : List ℕ) where
+  below-bad : firstBad n xs < length xs → allBelow n xs result ≡ refused (BadByte (firstBad n xs))
+  below-bad h =
+      ap (λ b. unless (BadByte (firstBad n xs)) b (done result)) (ne-eqb (firstBad n xs) (length xs) (λ e. omega arith))
+
+  below-done : firstBad n xs ≡ length xs → allBelow n xs result ≡ done result
+  below-done e = ap (λ b. unless (BadByte (firstBad n xs)) b (done result)) (eq-eqb (firstBad n xs) (length xs) e)
+
+-- ---- encoding
+module _ (t : Table) (room : ℕ) (ds : List ℕ) where
+  pub encode-7 : ready t ≡ false → encodedWith t room ds ≡ refused Field
+  unfolding encodedWith
+  encode-7 e = ap (λ b. unless Field b (encoded (codeIn t) room ds)) e
+
+  module _ (r : ready t ≡ true) where
+    pub encode-13 : room < length ds + t .lookahead → encodedWith t room ds ≡ refused ShortOutput
+    unfolding encodedWith encoded
+    encode-13 h =
+        ap (λ b. unless Field b (encoded (codeIn t) room ds)) r
+        ∙ ap (λ b. unless ShortOutput b (allBelow (2 ^ t .p) ds (recording (codeIn t) ds)))
+        (lt-leb (length ds + t .lookahead) room h)
+
+    module _ (h : length ds + t .lookahead ≤ room) where
+      last : encodedWith t room ds ≡ allBelow (2 ^ t .p) ds (recording (codeIn t) ds)
+      unfolding encodedWith encoded
+      last =
+          ap (λ b. unless Field b (encoded (codeIn t) room ds)) r
+          ∙ ap (λ b. unless ShortOutput b (allBelow (2 ^ t .p) ds (recording (codeIn t) ds)))
+          (le-leb (length ds + t .lookahead) room h)
+
+      pub encode-11 : (n k : ℕ) → n ≡ 2 ^ t .p → k ≡ firstBad n ds → k < length ds
+          → encodedWith t room ds ≡ refused (BadByte k)
+      encode-11 n k e q l =
+          let f : firstBad (2 ^ t .p) ds ≡ k = sym (q ∙ ap (λ x. firstBad x ds) e) in
+          last ∙ below-bad (2 ^ t .p) ds (recording (codeIn t) ds) (rw f l) ∙ ap (λ x. refused (BadByte x)) f
+
+      pub encode-done : (n k : ℕ) → n ≡ 2 ^ t .p → k ≡ firstBad n ds → length ds ≤ k
+          → encodedWith t room ds ≡ done (recording (codeIn t) ds)
+      encode-done n k e q l =
+          let f : firstBad (2 ^ t .p) ds ≡ k = sym (q ∙ ap (λ x. firstBad x ds) e) in
+          last ∙ below-done (2 ^ t .p) ds (recording (codeIn t) ds) (omega (arith, bad-le (2 ^ t .p) ds))
+
+-- ---- decoding
+module _ (t : Table) (room : ℕ) (ws : List ℕ) where
+  pub decode-7 : ready t ≡ false → decodedWith t room ws ≡ refused Field
+  unfolding decodedWith
+  decode-7 e = ap (λ b. unless Field b (decoded (codeIn t) room ws)) e
+
+  module _ (r : ready t ≡ true) where
+    abbrev rest : Outcome (List ℕ)
+    rest = allBelow (2 ^ t .q) ws (decode (codeIn t) ws)
+
+    pub decode-12 : length ws < t .lookahead → decodedWith t room ws ≡ refused TooFewWords
+    unfolding decodedWith decoded
+    decode-12 h =
+        ap (λ b. unless Field b (decoded (codeIn t) room ws)) r
+        ∙ ap (λ b. unless TooFewWords b (unless ShortOutput (leb (length ws - t .lookahead) room) rest))
+        (lt-leb (t .lookahead) (length ws) h)
+
+    module _ (h : t .lookahead ≤ length ws) where
+      enough : decodedWith t room ws ≡ unless ShortOutput (leb (length ws - t .lookahead) room) rest
+      unfolding decodedWith decoded
+      enough =
+          ap (λ b. unless Field b (decoded (codeIn t) room ws)) r
+          ∙ ap (λ b. unless TooFewWords b (unless ShortOutput (leb (length ws - t .lookahead) room) rest))
+          (le-leb (t .lookahead) (length ws) h)
+
+      pub decode-13 : room < length ws - t .lookahead → decodedWith t room ws ≡ refused ShortOutput
+      decode-13 l = enough ∙ ap (λ b. unless ShortOutput b rest) (lt-leb (length ws - t .lookahead) room l)
+
+      module _ (l : length ws - t .lookahead ≤ room) where
+        fits : decodedWith t room ws ≡ rest
+        fits = enough ∙ ap (λ b. unless ShortOutput b rest) (le-leb (length ws - t .lookahead) room l)
+
+        pub decode-11 : (n k : ℕ) → n ≡ 2 ^ t .q → k ≡ firstBad n ws → k < length ws
+            → decodedWith t room ws ≡ refused (BadByte k)
+        decode-11 n k e q b =
+            let f : firstBad (2 ^ t .q) ws ≡ k = sym (q ∙ ap (λ x. firstBad x ws) e) in
+            fits ∙ below-bad (2 ^ t .q) ws (decode (codeIn t) ws) (rw f b) ∙ ap (λ x. refused (BadByte x)) f
+
+        pub decode-done : (n k : ℕ) → n ≡ 2 ^ t .q → k ≡ firstBad n ws → length ws ≤ k
+            → decodedWith t room ws ≡ done (decode (codeIn t) ws)
+        decode-done n k e q b =
+            let f : firstBad (2 ^ t .q) ws ≡ k = sym (q ∙ ap (λ x. firstBad x ws) e) in
+            fits ∙ below-done (2 ^ t .q) ws (decode (codeIn t) ws) (omega (arith, bad-le (2 ^ t .q) ws))

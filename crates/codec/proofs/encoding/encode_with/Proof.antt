@@ -1,0 +1,121 @@
+-- The checks in their order, then the words of the blocks and the closing words.
+use mathlib.Core.Path.{_≡_, refl, sym, ap, subst, _∙_}
+use mathlib.Core.Bool.{true}
+use Prim.Native.Nat.{ℕ, _+_, _-_, _^_, _≤_, _<_}
+use native.Mathlib.Omega.{arith}
+use borrow.Author.Tests.{not-true, not-false, ltb-true, ltb-false}
+use denote.Ref.{now}
+use lib.Dec.{T}
+use lib.Pow.{pow-pos}
+use lib.ListN.{length, replicate}
+use Rattle.laws.specs.Sums.{Below}
+use Rattle.answer.specs.declared.Refusal.the-variants.{Field, BadByte, ShortOutput}
+use Rattle.table.specs.Paths.{recording}
+use Rattle.table.specs.Value.{Ready, ready, codeIn, rowsIn}
+use Rattle.table.specs.Edges.{arrays, rowsOf, Fits}
+use Rattle.table.proofs.Paths.{length-recording}
+use Rattle.table.proofs.ReadyTables.{ready→}
+use Rattle.table.proofs.RowsOf.{fits-lent}
+use Rattle.codec.specs.With.{encodedWith}
+use Rattle.codec.proofs.Answers.{below-firstBad}
+use Rattle.codec.proofs.Writing.{recorded-in}
+use Rattle.codec.proofs.Tabled.{declined, finished, bad-le, encode-7, encode-13, encode-11, encode-done}
+use borrow.Author.Needs.{needs}
+use borrow.Author.Needs.{needs}
+use Rattle.codec.proofs.encoding.encode_with.Statement.{statement}
+use Rattle.codec.proofs.encoding.encode_with.Tie as tie
+
+is-ready : (c : tie.Else1) → ready (c .before .before .before .before .args .t) ≡ true
+is-ready c = sym (c .before .is-ready .ensures) ∙ not-false _ (c .if1 .left)
+
+ready-table : (c : tie.Else1) → Ready (c .before .before .before .before .args .t)
+ready-table c = ready→ (c .before .before .before .before .args .t) (subst T (sym (is-ready c)) tt)
+
+fits : (c : tie.After-ways)
+    → Fits (arrays (c .before .before .before .before .before .args .t .states) (c .ways .result) (c .before .before .before .before .before .args .t .word) (c .before .before .before .before .before .args .t .next))
+fits c = fits-lent (c .before .before .before .before .before .args .t) (c .ways .result) (ready-table (c .before)) (c .ways .ensures .0)
+
+room : (c : tie.Else2) → length (now (c .before .before .before .before .before .before .before .before .args .blocks)) + c .before .before .before .before .before .before .before .before .args .t .lookahead ≤ length (now (c .before .before .before .before .before .before .before .before .args .out))
+room c = ltb-false _ _ (sym (c .before .lacks-room .ensures) ∙ c .if2 .left)
+
+blocks-below : (c : tie.Else3) → Below (c .before .before .before .before .ways .result) (now (c .before .before .before .before .before .before .before .before .before .args .blocks))
+blocks-below c =
+    below-firstBad (c .before .before .before .before .ways .result) (now (c .before .before .before .before .before .before .before .before .before .args .blocks))
+    (omega (arith, c .before .before .before .first-bad .ensures, c .if3 .left, bad-le (c .before .before .before .before .ways .result) (now (c .before .before .before .before .before .before .before .before .before .args .blocks))))
+
+is-ready-requires : tie.Need-is-ready-requires
+is-ready-requires c κs = search needs
+
+returns : tie.Need-returns
+returns c =
+    let a = c .before .before .before .before .args in
+    declined (encodedWith (a .t) (length (now (a .out))) (now (a .blocks))) Field (now (a .out))
+    (encode-7 (a .t) (length (now (a .out))) (now (a .blocks)) (sym (c .before .is-ready .ensures) ∙ not-true _ (c .if1 .taken)))
+
+ways-requires : tie.Need-ways-requires
+ways-requires c κs = ready-table c .narrow
+
+first-bad-requires : tie.Need-first-bad-requires
+first-bad-requires c κs = search needs
+
+lacks-room-requires : tie.Need-lacks-room-requires
+lacks-room-requires c κs = search needs
+
+returns-2 : tie.Need-returns-2
+returns-2 c =
+    let a = c .before .before .before .before .before .before .before .before .args in
+    declined (encodedWith (a .t) (length (now (a .out))) (now (a .blocks))) ShortOutput (now (a .out))
+    (encode-13 (a .t) (length (now (a .out))) (now (a .blocks)) (is-ready (c .before .before .before .before))
+    (ltb-true _ _ (sym (c .before .lacks-room .ensures) ∙ c .if2 .taken)))
+
+returns-3 : tie.Need-returns-3
+returns-3 c =
+    let a = c .before .before .before .before .before .before .before .before .before .args in
+    declined (encodedWith (a .t) (length (now (a .out))) (now (a .blocks))) (BadByte (c .before .before .before .first-bad .result)) (now (a .out))
+    (encode-11 (a .t) (length (now (a .out))) (now (a .blocks)) (is-ready (c .before .before .before .before .before)) (room (c .before))
+    (c .before .before .before .before .ways .result) (c .before .before .before .first-bad .result) (c .before .before .before .before .ways .ensures .0) (c .before .before .before .first-bad .ensures) (c .if3 .taken))
+
+add-end : tie.Need-add-end
+add-end c = omega (arith, room (c .before .before .before .before))
+
+write-blocks-requires : tie.Need-write-blocks-requires
+write-blocks-requires c κs =
+    (fits (c .before .before .before .before .before .before .before .before .before .before), blocks-below (c .before .before .before .before .before .before), omega (arith, room (c .before .before .before .before .before .before .before)))
+
+write-closing-requires : tie.Need-write-closing-requires
+write-closing-requires c κs =
+    (fits (c .before .before .before .before .before .before .before .before .before .before .before .before .before .before .before .before), rw (c .before .before .before .before .before .before .before .before .before .before .before .before .before .before .before .before .ways .ensures .0) (pow-pos (c .before .before .before .before .before .before .before .before .before .before .before .before .before .before .before .before .before .before .before .before .before .args .t .p)), c .before .before .before .before .before .write-blocks .ensures .0 .1, omega arith,
+      omega (arith, room (c .before .before .before .before .before .before .before .before .before .before .before .before .before)))
+
+same-length : tie.Need-same-length
+same-length c = search needs
+
+returns-4 : tie.Need-returns-4
+returns-4 c =
+    let a = c .before .before .before .before .before .before .before .before .before .before .before .before .before .before .before .before .before .before .before .before .before .before .before .before .args in
+    let ds = now (a .blocks) in
+    let out = now (a .out) in
+    let n = c .before .before .before .before .before .before .before .before .before .before .before .before .before .before .before .before .before .before .before .ways .result in
+    finished (encodedWith (a .t) (length out) ds) (recording (codeIn (a .t)) ds) out _ (length ds + a .t .lookahead)
+    (encode-done (a .t) (length out) ds (is-ready (c .before .before .before .before .before .before .before .before .before .before .before .before .before .before .before .before .before .before .before .before)) (room (c .before .before .before .before .before .before .before .before .before .before .before .before .before .before .before .before)) n
+    (c .before .before .before .before .before .before .before .before .before .before .before .before .before .before .before .before .before .before .first-bad .result) (c .before .before .before .before .before .before .before .before .before .before .before .before .before .before .before .before .before .before .before .ways .ensures .0) (c .before .before .before .before .before .before .before .before .before .before .before .before .before .before .before .before .before .before .first-bad .ensures) (c .before .before .before .before .before .before .before .before .before .before .before .before .before .before .before .if3 .left))
+    (sym (length-recording (codeIn (a .t)) ds))
+    (recorded-in (a .t) n ds out _ _ (c .before .before .before .before .before .before .before .before .write-blocks .result) (c .before .before .before .before .before .before .before .before .before .before .before .before .before .before .before .before .before .before .before .ways .ensures .0) (c .before .before .before .before .before .before .before .before .write-blocks .ensures .0 .0)
+    (c .before .before .before .before .before .before .before .before .write-blocks .ensures .1) (c .before .before .write-closing .ensures))
+
+pub encode-with-spec : {M : Type 1} → statement M
+encode-with-spec =
+    tie.close
+    (tie.spec
+    is-ready-requires
+    returns
+    ways-requires
+    first-bad-requires
+    lacks-room-requires
+    returns-2
+    returns-3
+    add-end
+    write-blocks-requires
+    write-closing-requires
+    same-length
+    returns-4)

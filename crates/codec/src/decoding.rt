@@ -1,0 +1,104 @@
+// Decoding: "From W words come W − a blocks", each by the reading rule.
+ghost use mathlib.Core.Path.{_≡_};
+ghost use mathlib.Core.List.{_++_, map};
+ghost use Prim.Native.Nat.{_+_, _-_, _≤_, _<_};
+ghost use lib.ListN.{length, drop};
+ghost use Rattle.laws.specs.Lists.{range};
+ghost use Rattle.answer.specs.Outcomes.{answerOf, outputOf};
+ghost use Rattle.table.specs.Edges.{arrays, rowsOf, Linked};
+ghost use Rattle.codec.specs.Reading.{block};
+ghost use Rattle.codec.specs.StateSets.{under};
+ghost use Rattle.codec.specs.Answers.{decodeUnder};
+ghost use Rattle.codec.specs.With.{decodedWith};
+use answer::Answer;
+use answer::Refusal;
+use crate::blocks::read_block;
+use crate::bytes::first_bad;
+use record::Verdict;
+use record::loading::load;
+use table::Table;
+use table::chains::chain;
+use table::chains::ways;
+use table::ready::is_ready;
+
+// The first `count` blocks of the words in the output.
+fn read_blocks(
+    states: usize,
+    n: usize,
+    word: &[u8; 2048],
+    next: &[u8; 2048],
+    head: &[u16; 256],
+    link: &[u16; 2048],
+    words: &[u8],
+    m: usize,
+    a: usize,
+    count: usize,
+    out: &mut [u8],
+)
+    requires { ⌜
+        Linked (arrays states n (now word) (now next)) (now head) (now link) × (count + a ≤ length (now words))
+        × (count ≤ length (now out)) ⌝ }
+    ensures written { λ r. ⌜
+        now (out .exit)
+        ≡ map (block (under (rowsOf (arrays states n (now (word .entry)) (now (next .entry)))) m a) (now (words .entry)))
+        (range count) ++ drop count (now (out .entry)) ⌝ }
+{
+    let mut i = 0;
+    while i < count {
+        out[i] = read_block(states, n, word, next, head, link, words, i, m, a);
+        i += 1;
+    }
+}
+
+// The blocks of the words under the table, in the output. Declines with 7 for a value of the struct that no record gives,
+// then 12, 13, 11.
+pub fn decode_with(t: Table, words: &[u8], out: &mut [u8]) -> Answer
+    ensures answer { λ r. ⌜
+        r ≡ answerOf (decodedWith t (length (now (out .entry))) (now (words .entry))) ⌝ }
+    ensures written { λ r. ⌜
+        now (out .exit)
+        ≡ outputOf (decodedWith t (length (now (out .entry))) (now (words .entry))) (now (out .entry)) ⌝ }
+{
+    if !is_ready(t) {
+        return Answer::Refused(Refusal::Field);
+    }
+    let a = t.lookahead;
+    if words.len() < a {
+        return Answer::Refused(Refusal::TooFewWords);
+    }
+    let count = words.len() - a;
+    if out.len() < count {
+        return Answer::Refused(Refusal::ShortOutput);
+    }
+    let bad = first_bad(words, bits::power(t.q));
+    if bad < words.len() {
+        return Answer::Refused(Refusal::BadByte(bad));
+    }
+    let n = ways(t.p);
+    let word = t.word;
+    let next = t.next;
+    let c = chain(t.states, n, &word, &next);
+    let head = c.head;
+    let link = c.link;
+    read_blocks(t.states, n, &word, &next, &head, &link, words, t.memory, a, count, out);
+    Answer::Done(count)
+}
+
+// The blocks of the words under the record in the bytes, in the output. Declines with the record's refusal, then 12, 13,
+// 11.
+pub fn decode(bytes: &[u8], words: &[u8], out: &mut [u8]) -> Answer
+    ensures answer { λ r. ⌜
+        r ≡ answerOf (decodeUnder (now (bytes .entry)) (length (now (out .entry))) (now (words .entry))) ⌝ }
+    ensures written { λ r. ⌜
+        now (out .exit)
+        ≡ outputOf (decodeUnder (now (bytes .entry)) (length (now (out .entry))) (now (words .entry)))
+        (now (out .entry)) ⌝ }
+{
+    let r = load(bytes);
+    let v = r.verdict;
+    let t = r.table;
+    match v {
+        Verdict::Bad(x) => Answer::Refused(x),
+        Verdict::Read => decode_with(t, words, out),
+    }
+}

@@ -1,0 +1,171 @@
+-- The compiler's code passes the checker: its fields are in range, every recording obeys, its window works.
+-- In order: Made, made; made-formed; made-obeys; window-found; compiled-code; compile-parses.
+-- Assumes nothing.
+use mathlib.Core.Path.{_≡_, sym, ap, subst, _∙_}
+use mathlib.Core.Logic.{inl, inr}
+use mathlib.Core.Bool.{_&&_}
+use mathlib.Core.List.{[]}
+use Prim.Native.Nat.{ℕ, zero, _^_, _≤_, _<_}
+use native.Mathlib.Nat.{le-trans}
+use native.Mathlib.Omega.{arith}
+use lib.Dec.{T, ltb, leb, eqb, lt→ltb, le→leb, eqb-refl}
+use lib.ListN.{length, getD}
+use Rattle.laws.specs.Lists.{sum, all}
+use Rattle.laws.specs.Sums.{Each}
+use Rattle.laws.proofs.Tests.{→and, →orL, →orR, →all}
+use Rattle.laws.proofs.Elems.{each-at}
+use Rattle.answer.specs.Outcomes.{done}
+use Rattle.constraint.specs.Walking.{Constraint, none, nowhere, walk, Target}
+use Rattle.table.specs.Rows.{edge, Rows, edges, at, Code}
+use Rattle.table.specs.Works.{works}
+use Rattle.table.specs.Search.{window}
+use Rattle.table.specs.Obeys.{obeys}
+use Rattle.table.specs.Formed.{head, inRange, goodState, goodNext, goodEdge, goodRow, formed}
+use Rattle.table.proofs.WindowLeast.{window-least, Chosen}
+use Rattle.table.proofs.AnyClosure.{obeys-by}
+use Rattle.record.specs.Layout.{pack}
+use Rattle.record.specs.Parse.{parse}
+use Rattle.record.proofs.RecordWrite.{parse-pack-good}
+use Rattle.graph.specs.Arcs.{Reads}
+use Rattle.graph.proofs.TableOf.{Tabled}
+use Rattle.compiler.specs.Jobs.{Job, Allowed}
+use Rattle.compiler.specs.Compile.{ways, componentOf, startOf, finishedOf, tableFor, code, compile}
+use Rattle.compiler.proofs.Compiled.{live-some, states-few, table-coded}
+use Rattle.compiler.proofs.Compile.{ways-pos, Reason, reason, coded}
+
+-- what the table of a job is like: n edges a state, each a word that the constraint reads between the roots
+pub record Made (j : Job) : Type 0 where
+  pub root : ℕ → ℕ
+  pub table : Tabled (Reads (j .constraint) (j .q)) (ways j) (tableFor j) root
+  pub start : root 0 ≡ startOf j
+  pub few : length (tableFor j) ≤ 128
+
+pub made : (j : Job) → Allowed j → 0 < sum (componentOf j .weights) → sum (componentOf j .weights) ≤ 128
+    → length (finishedOf j .arcs) ≤ 2048 → Made j
+made j a h light few =
+    let n = ways j in
+    let (z, ez) = live-some (j .constraint) (a .well) n (j .q) (j .cap) (ways-pos j) h in
+    let (root, t, s) = table-coded (j .constraint) (a .well) n (j .q) (j .cap) (ways-pos j) z ez few in
+    record {
+      root = root;
+      table = t;
+      start = s;
+      few = le-trans (states-few (j .constraint) (a .well) n (j .q) (j .cap) (ways-pos j) z ez) light;
+    }
+
+-- ---- every recording obeys
+pub made-obeys : (j : Job) → Made j → T (obeys (code j (tableFor j)))
+made-obeys j m =
+    obeys-by (code j (tableFor j)) Root (m .table .some, sym (m .start)) step fails
+  where
+    t : Rows
+    t = tableFor j
+
+    Root : ℕ → ℕ → Type 0
+    Root s k = (s < length (tableFor j)) × (k ≡ m .root s)
+
+    datum : (s d : ℕ) → s < length t → d < length (edges t s) → d < ways j
+    datum s d hs hd = rw (m .table .full s hs) at hd
+
+    reads : (s k d : ℕ) → Root s k → d < length (edges t s)
+        → m .root (at t s d .next) ≡ walk (j .constraint) (j .q) (at t s d .word) k
+    reads s k d (hs, e) hd =
+        m .table .over s d hs (datum s d hs hd) .1 .0
+        ∙ ap (walk (j .constraint) (j .q) (at t s d .word)) (sym e)
+
+    step : (s k d : ℕ) → Root s k → d < length (edges t s)
+        → walk (j .constraint) (j .q) (at t s d .word) k < length (j .constraint)
+        → Root (at t s d .next) (walk (j .constraint) (j .q) (at t s d .word) k)
+    step s k d r hd l = (m .table .next s d (r .0) (datum s d (r .0) hd), sym (reads s k d r hd))
+
+    fails : (s k d : ℕ) → Root s k → d < length (edges t s)
+        → (walk (j .constraint) (j .q) (at t s d .word) k ≡ none) → ⊥
+    fails s k d r hd e = m .table .over s d (r .0) (datum s d (r .0) hd) .1 .1 (reads s k d r hd ∙ e)
+
+-- ---- its window works and is small
+pub window-found : (t : Rows) → window t .memory ≤ 15 → (window t .lookahead < 16) × T (works t (window t))
+window-found t h = go (window-least t)
+  where
+    go : Chosen t (window t) → (window t .lookahead < 16) × T (works t (window t))
+    go (inl (_, a, k, _)) = (a, k)
+    go (inr (e, _)) = let z : window t .memory ≡ 16 = ap (λ z. z .memory) e in absurd (omega arith)
+
+-- ---- its fields are in range
+good-state : (K s : ℕ) → Target K s → T (goodState K s)
+good-state K s (inl h) = →orR (eqb s none) (ltb s K) (lt→ltb s K h)
+good-state K s (inr e) = →orL (eqb s none) (ltb s K) (rw e tt)
+
+good-nexts : (c : Constraint) (K : ℕ) → Each (λ r. Target K (r .zero) × Target K (r .one)) c → T (all (goodNext K) c)
+good-nexts c K h =
+    →all (goodNext K) nowhere c
+    (λ i l.
+    let r = getD c i nowhere in
+    let (a, b) = each-at (λ r. Target K (r .zero) × Target K (r .one)) nowhere c h i l in
+    →and (goodState K (r .zero)) (goodState K (r .one)) (good-state K (r .zero) a) (good-state K (r .one) b))
+
+good-rows : (j : Job) (m : Made j) → T (all (goodRow (j .p) (j .q) (length (tableFor j))) (tableFor j))
+good-rows j m =
+    let t = tableFor j in
+    →all (goodRow (j .p) (j .q) (length t)) [] t
+    (λ s hs.
+    let full = m .table .full s hs in
+    →and (eqb (length (edges t s)) (2 ^ j .p)) (all (goodEdge (j .q) (length t)) (edges t s))
+    (rw full (eqb-refl (2 ^ j .p)))
+    (→all (goodEdge (j .q) (length t)) (edge 0 0) (edges t s)
+    (λ d hd.
+    let l : d < ways j = rw full at hd in
+    →and (ltb (at t s d .word) (2 ^ j .q)) (ltb (at t s d .next) (length t))
+    (lt→ltb (at t s d .word) (2 ^ j .q) (m .table .over s d hs l .1 .2))
+    (lt→ltb (at t s d .next) (length t) (m .table .next s d hs l)))))
+
+made-formed : (j : Job) → Allowed j → (m : Made j) → window (tableFor j) .memory ≤ 15
+    → T (formed (code j (tableFor j)))
+unfolding formed
+made-formed j a m w =
+    let t = tableFor j in
+    let h = head (code j t) in
+    let first : startOf j < length (j .constraint) =
+    rw (← (m .start)) (m .table .over 0 0 (m .table .some) (ways-pos j) .0) in
+    →and (inRange h) (all (goodNext (length (j .constraint))) (j .constraint)
+    && all (goodRow (j .p) (j .q) (length t)) t)
+    (→and (leb 1 (j .p) && leb (j .p) 4) _
+    (→and (leb 1 (j .p)) (leb (j .p) 4) (le→leb 1 (j .p) (a .p₁)) (le→leb (j .p) 4 (a .p₂)))
+    (→and (leb 1 (j .q) && leb (j .q) 8) _
+    (→and (leb 1 (j .q)) (leb (j .q) 8) (le→leb 1 (j .q) (a .q₁)) (le→leb (j .q) 8 (a .q₂)))
+    (→and (leb 1 (length t) && leb (length t) 128) _
+    (→and (leb 1 (length t)) (leb (length t) 128) (le→leb 1 (length t) (m .table .some))
+    (le→leb (length t) 128 (m .few)))
+    (→and (ltb (window t .memory) 16) _ (lt→ltb (window t .memory) 16 (omega arith))
+    (→and (ltb (window t .lookahead) 16) _ (lt→ltb (window t .lookahead) 16 (window-found t w .0))
+    (→and (leb 1 (length (j .constraint)) && leb (length (j .constraint)) 16)
+    (ltb (startOf j) (length (j .constraint)))
+    (→and (leb 1 (length (j .constraint))) (leb (length (j .constraint)) 16) (le→leb 1 (length (j .constraint)) (a .k₁))
+    (le→leb (length (j .constraint)) 16 (a .k₂)))
+    (lt→ltb (startOf j) (length (j .constraint)) first)))))))
+    (→and (all (goodNext (length (j .constraint))) (j .constraint)) (all (goodRow (j .p) (j .q) (length t)) t)
+    (good-nexts (j .constraint) (length (j .constraint)) (a .well)) (good-rows j m))
+
+-- ---- the code of a job
+-- what holds of the code that compiling gives
+pub record Passes (c : Code) : Type 0 where
+  pub formed : T (formed c)
+  pub obeys : T (obeys c)
+  pub works : T (works (c .table) (c .window))
+
+pub compiled-passes : (j : Job) → Allowed j → (c : Code) → compile j ≡ done c → Passes c
+compiled-passes j a c e = go c (subst (Reason j) e (reason j))
+  where
+    go : (c : Code) → Reason j (done c) → Passes c
+    go c (coded h light few w) =
+        let m : Made j = made j a h light few in
+        record {
+          formed = made-formed j a m w;
+          obeys = made-obeys j m;
+          works = window-found (tableFor j) w .1;
+        }
+
+-- the compiler's record always passes the checker, and loads as the code
+pub compile-parses : (j : Job) → Allowed j → (c : Code) → compile j ≡ done c → parse (pack c) ≡ done c
+compile-parses j a c e =
+    let p : Passes c = compiled-passes j a c e in
+    parse-pack-good c (p .formed) (p .obeys) (p .works)

@@ -1,0 +1,13 @@
+-- `bad` meets its contract: the verdict is the refusal.
+-- Assumes nothing.
+use mathlib.Core.Path.{_≡_, refl}
+use Prim.Native.Nat.{ℕ}
+use native.Mathlib.Omega.{arith}
+use Rattle.compiler.proofs.reading.bad.Statement.{statement}
+use Rattle.compiler.proofs.reading.bad.Tie as tie
+
+returns : tie.Need-returns
+returns c = (refl, λ e. let z : _≡_ {A = ℕ} 0 1 = cc in omega arith)
+
+pub bad-spec : {M : Type 1} → statement M
+bad-spec = tie.close (tie.spec returns)

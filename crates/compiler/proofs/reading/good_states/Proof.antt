@@ -1,0 +1,66 @@
+-- `good_states` meets its contract. The loop's invariant: the next states of every state passed are states or none.
+-- The measure is what is left.
+-- Assumes nothing.
+use mathlib.Core.Path.{_≡_, sym, _∙_}
+use mathlib.Core.Bool.{true}
+use Prim.Native.Nat.{ℕ, _-_, _≤_, _<_}
+use native.Mathlib.Omega.{arith}
+use borrow.Author.Count.{below-more}
+use borrow.Author.Tests.{not-true, not-false}
+use denote.Ref.{now}
+use Rattle.record.proofs.Alls.{all-yes, all-not}
+use Rattle.compiler.specs.JobValues.{goodStateAt}
+use borrow.Author.Needs.{needs}
+use Rattle.compiler.proofs.reading.good_states.Statement.{statement}
+use Rattle.compiler.proofs.reading.good_states.Tie as tie
+
+abbrev Inv-loop : tie.InvT-loop
+Inv-loop bytes count s₀ s = (s ≤ count) × ((k : ℕ) → k < s → goodStateAt bytes count k ≡ true)
+
+abbrev μ-loop : tie.MeasureT-loop
+μ-loop bytes count s₀ s = count - s
+
+loop-holds : tie.Need-loop-holds Inv-loop μ-loop
+loop-holds c = (omega arith, λ k h. absurd (omega arith))
+
+good-next-requires : tie.Need-good-next-requires Inv-loop μ-loop
+good-next-requires c κs = (omega arith, omega arith)
+
+returns : tie.Need-returns Inv-loop μ-loop
+returns c =
+    let g = c .before .good-next in
+    let l = c .before .before .before in
+    let a = l .before .before .args in
+    all-not (goodStateAt (now (a .bytes)) (a .count)) (a .count) (l .loop .s) (omega arith)
+    (sym (g .ensures) ∙ not-true (g .result) (c .if1 .taken))
+
+add-s : tie.Need-add-s Inv-loop μ-loop
+add-s c = search needs
+
+loop-less : tie.Need-loop-less Inv-loop μ-loop
+loop-less c = search needs
+
+loop-again : tie.Need-loop-again Inv-loop μ-loop
+loop-again c =
+    let g = c .before .good-next in
+    (omega arith, below-more _ _ (c .before .before .before .loop .inv .1)
+        (sym (g .ensures) ∙ not-false (g .result) (c .if1 .left)))
+
+returns-2 : tie.Need-returns-2 Inv-loop μ-loop
+returns-2 c =
+    let a = c .before .before .before .args in
+    all-yes (goodStateAt (now (a .bytes)) (a .count)) (a .count) (λ k h. c .before .loop .inv .1 k (omega arith))
+
+pub good-states-spec : {M : Type 1} → statement M
+good-states-spec =
+    tie.close
+    (tie.spec
+    Inv-loop
+    μ-loop
+    loop-holds
+    good-next-requires
+    returns
+    add-s
+    loop-less
+    loop-again
+    returns-2)

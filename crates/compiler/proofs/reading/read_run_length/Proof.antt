@@ -1,0 +1,145 @@
+-- `read_run_length` meets its contract: each return follows the checks before it, in document 01's order.
+-- Assumes nothing.
+use mathlib.Core.Path.{_≡_, sym, _∙_}
+use mathlib.Core.Bool.{_&&_, true}
+use mathlib.Core.List.{List}
+use Prim.Native.Nat.{ℕ}
+use native.Mathlib.Omega.{arith}
+use borrow.Author.Tests.{not-true, not-false, eq-eqb, ne-eqb}
+use denote.Ref.{now}
+use lib.Dec.{leb, eqb}
+use lib.ListN.{length, getD}
+use Rattle.compiler.specs.Jobs.{goodParameters}
+use Rattle.compiler.proofs.JobSteps.{in-range, jobOf, run-length-size, run-length-parameters, run-length-range}
+use Rattle.compiler.proofs.JobSteps.{run-length-good, run-length-ready}
+use borrow.Author.Needs.{needs}
+use borrow.Author.Needs.{needs}
+use Rattle.compiler.proofs.reading.read_run_length.Statement.{statement}
+use Rattle.compiler.proofs.reading.read_run_length.Tie as tie
+
+-- the bytes are five
+abbrev in₁ : tie.Else1 → List ℕ
+in₁ c = now (c .before .before .args .bytes)
+
+sized : (c : tie.Else1) → eqb (length (in₁ c)) 5 ≡ true
+sized c = eq-eqb _ _ (c .if1 .left)
+
+-- the parameters are in range
+abbrev in₂ : tie.Else2 → List ℕ
+in₂ c = in₁ (c .before .before .before .before .before)
+
+good : (c : tie.Else2) → goodParameters (getD (in₂ c) 2 0) (getD (in₂ c) 3 0) (getD (in₂ c) 4 0) ≡ true
+good c = sym (c .before .good-parameters .ensures) ∙ not-false (c .before .good-parameters .result) (c .if2 .left)
+
+-- so are d and k
+abbrev in₃ : tie.Else3 → List ℕ
+in₃ c = in₂ (c .before .before .before .before)
+
+ranged : (c : tie.Else3) → (leb (getD (in₃ c) 0 0) (getD (in₃ c) 1 0) && leb (getD (in₃ c) 1 0) 15) ≡ true
+ranged c = sym (c .before .between .ensures) ∙ not-false (c .before .between .result) (c .if3 .left)
+
+bad-requires : tie.Need-bad-requires
+bad-requires c κs = search needs
+
+returns : tie.Need-returns
+returns c =
+    (c .bad .ensures .0 ∙ sym (run-length-size (now (c .before .before .before .args .bytes))
+        (ne-eqb _ _ (c .before .if1 .taken))),
+    λ e. absurd (c .bad .ensures .1 e))
+
+shared-slice-read-p : tie.Need-shared-slice-read-p
+shared-slice-read-p c = search needs
+
+cast-p : tie.Need-cast-p
+cast-p c = omega (arith, c .shared-slice-known2 .given 2)
+
+shared-slice-read-q : tie.Need-shared-slice-read-q
+shared-slice-read-q c = search needs
+
+cast-q : tie.Need-cast-q
+cast-q c = omega (arith, c .shared-slice-known3 .given 3)
+
+shared-slice-read-cap : tie.Need-shared-slice-read-cap
+shared-slice-read-cap c = search needs
+
+cast-cap : tie.Need-cast-cap
+cast-cap c = omega (arith, c .shared-slice-known4 .given 4)
+
+good-parameters-requires : tie.Need-good-parameters-requires
+good-parameters-requires c κs = search needs
+
+bad-requires-2 : tie.Need-bad-requires-2
+bad-requires-2 c κs = search needs
+
+returns-2 : tie.Need-returns-2
+returns-2 c =
+    let g = c .before .before in
+    let b = g .before .before .before .before in
+    (c .bad2 .ensures .0
+    ∙ sym (run-length-parameters (in₁ b) (sized b)
+    (sym (g .good-parameters .ensures) ∙ not-true (g .good-parameters .result) (c .before .if2 .taken))),
+    λ e. absurd (c .bad2 .ensures .1 e))
+
+shared-slice-read-d : tie.Need-shared-slice-read-d
+shared-slice-read-d c = search needs
+
+cast-d : tie.Need-cast-d
+cast-d c = omega (arith, c .shared-slice-known5 .given 0)
+
+shared-slice-read-k : tie.Need-shared-slice-read-k
+shared-slice-read-k c = search needs
+
+cast-k : tie.Need-cast-k
+cast-k c = omega (arith, c .shared-slice-known6 .given 1)
+
+between-requires : tie.Need-between-requires
+between-requires c κs = search needs
+
+bad-requires-3 : tie.Need-bad-requires-3
+bad-requires-3 c κs = search needs
+
+returns-3 : tie.Need-returns-3
+returns-3 c =
+    let g = c .before .before in
+    let p = g .before .before .before in
+    (c .bad3 .ensures .0
+    ∙ sym (run-length-range (in₂ p) (sized (p .before .before .before .before .before)) (good p)
+    (sym (g .between .ensures) ∙ not-true (g .between .result) (c .before .if3 .taken))),
+    λ e. absurd (c .bad3 .ensures .1 e))
+
+run-length-requires : tie.Need-run-length-requires
+run-length-requires c κs = in-range _ _ 15 (ranged c) .1
+
+returns-4 : tie.Need-returns-4
+returns-4 c =
+    let p = c .before .before .before .before .before in
+    let xs = in₂ p in
+    let k = c .run-length .result in
+    let r = run-length-good xs (sized (p .before .before .before .before .before)) (good p) (ranged (c .before)) k
+        (c .run-length .ensures) in
+    (sym r, λ e. run-length-ready xs (jobOf (getD xs 2 0) (getD xs 3 0) (getD xs 4 0) k) r)
+
+pub read-run-length-spec : {M : Type 1} → statement M
+read-run-length-spec =
+    tie.close
+    (tie.spec
+    bad-requires
+    returns
+    shared-slice-read-p
+    cast-p
+    shared-slice-read-q
+    cast-q
+    shared-slice-read-cap
+    cast-cap
+    good-parameters-requires
+    bad-requires-2
+    returns-2
+    shared-slice-read-d
+    cast-d
+    shared-slice-read-k
+    cast-k
+    between-requires
+    bad-requires-3
+    returns-3
+    run-length-requires
+    returns-4)

@@ -1,0 +1,175 @@
+-- The parts of a record one behind the other are its bits, and bytes with these bits in front are the record in lent
+-- bytes.
+-- In order: length-front, length-states, length-table; parts-are, length-parts; bytes-are.
+-- Assumes nothing.
+use mathlib.Core.Path.{_≡_, refl, sym, ap, ap₂, subst, _∙_}
+use mathlib.Core.List.{List, [], _∷_, _++_, map, append-assoc, append-nil}
+use Prim.Native.Nat.{ℕ, suc, _+_, _*_, _-_, _^_, _≤_}
+use native.Mathlib.Nat.{le-refl}
+use native.Mathlib.Omega.{arith}
+use lib.ListN.{length, drop, replicate, length-append, length-drop}
+use Rattle.laws.specs.Lists.{concat, repeat, sum}
+use Rattle.laws.specs.Sums.{Each, Below}
+use Rattle.laws.proofs.Lists.{sum-repeat, sum-replicate, below-append, below-drop}
+use Rattle.bits.specs.Fields.{bits, write, read, bitsOf}
+use Rattle.bits.specs.Bytes.{spliced}
+use Rattle.bits.proofs.Fields.{write-read, read-back, below-write, fits-read, fits-bytes, fits-below}
+use Rattle.bits.proofs.Places.{drop-bytes}
+use Rattle.bits.proofs.Puts.{bitsOf-append}
+use Rattle.constraint.specs.Walking.{Constraint}
+use Rattle.table.specs.Rows.{Edge, Rows, Code}
+use Rattle.table.specs.Formed.{Head, head}
+use Rattle.record.specs.Layout.{header, size, fill, widths, nexts, pairs, rows, values, pack}
+use Rattle.record.specs.Parts.{frontValues, frontBits, nextBits, stateBits, edgeBits, statesBits, rowsBits}
+use Rattle.record.proofs.RecordFits.{sum-widths}
+use Rattle.record.proofs.RecordParts.{length-fields, write-append}
+use Rattle.record.proofs.RecordWrite.{length-pack}
+
+-- ---- the constraint
+length-nexts : (c : Constraint) → length {A = ℕ} (repeat (length c) (1 ∷ 4 ∷ 1 ∷ 4 ∷ [])) ≡ length (nexts c)
+length-nexts [] = refl
+length-nexts (r ∷ c) = ap (λ n. suc (suc (suc (suc n)))) (length-nexts c)
+
+states-write : (c : Constraint) → write (repeat (length c) (1 ∷ 4 ∷ 1 ∷ 4 ∷ [])) (nexts c) ≡ statesBits c
+unfolding statesBits stateBits nextBits
+states-write [] = refl
+states-write (r ∷ c) = ap (λ l. stateBits r ++ l) (states-write c)
+
+-- ---- the table
+module _ (q : ℕ) where
+  length-pairs : (es : List Edge) → length (repeat (length es) (q ∷ 7 ∷ [])) ≡ length (pairs es)
+  length-pairs [] = refl
+  length-pairs (e ∷ es) = ap (λ n. suc (suc n)) (length-pairs es)
+
+  pairs-write : (es : List Edge) → write (repeat (length es) (q ∷ 7 ∷ [])) (pairs es) ≡ concat (map (edgeBits q) es)
+  unfolding edgeBits
+  pairs-write [] = refl
+  pairs-write (e ∷ es) =
+      ap (λ l. bits q (e .word) ++ (bits 7 (e .next) ++ l)) (pairs-write es)
+      ∙ sym (append-assoc (bits q (e .word)) (bits 7 (e .next)) (concat (map (edgeBits q) es)))
+
+  pieces : (es fs : List Edge)
+      → concat (map (edgeBits q) (es ++ fs)) ≡ concat (map (edgeBits q) es) ++ concat (map (edgeBits q) fs)
+  pieces [] fs = refl
+  pieces (e ∷ es) fs =
+      ap (λ l. edgeBits q e ++ l) (pieces es fs)
+      ∙ sym (append-assoc (edgeBits q e) (concat (map (edgeBits q) es)) (concat (map (edgeBits q) fs)))
+
+  length-rows : (n : ℕ) (t : Rows) → Each (λ es. length es ≡ n) t
+      → length (repeat (length t) (repeat n (q ∷ 7 ∷ []))) ≡ length (rows t)
+  length-rows n [] h = refl
+  length-rows n (es ∷ t) (e, h) =
+      length-append (repeat n (q ∷ 7 ∷ [])) (repeat (length t) (repeat n (q ∷ 7 ∷ [])))
+      ∙ ap₂ _+_ (ap (λ m. length (repeat m (q ∷ 7 ∷ []))) (sym e) ∙ length-pairs es) (length-rows n t h)
+      ∙ sym (length-append (pairs es) (rows t))
+
+  rows-write : (n : ℕ) (t : Rows) → Each (λ es. length es ≡ n) t
+      → write (repeat (length t) (repeat n (q ∷ 7 ∷ []))) (rows t) ≡ rowsBits q t
+  unfolding rowsBits
+  rows-write n [] h = refl
+  rows-write n (es ∷ t) (e, h) =
+      let R = repeat (length t) (repeat n (q ∷ 7 ∷ [])) in
+      write-append (repeat n (q ∷ 7 ∷ [])) R (pairs es) (rows t)
+      (ap (λ m. length (repeat m (q ∷ 7 ∷ []))) (sym e) ∙ length-pairs es)
+      ∙ ap₂ _++_ (ap (λ m. write (repeat m (q ∷ 7 ∷ [])) (pairs es)) (sym e) ∙ pairs-write es) (rows-write n t h)
+      ∙ sym (pieces es (concat t))
+
+-- how long the parts are
+pub length-front : (h : Head) → length (frontBits h) ≡ 30
+unfolding frontBits
+length-front h = length-fields header (frontValues h) refl
+
+pub length-states : (c : Constraint) → length (statesBits c) ≡ length c * 10
+length-states c =
+    ap length (sym (states-write c)) ∙ length-fields (repeat (length c) (1 ∷ 4 ∷ 1 ∷ 4 ∷ [])) (nexts c)
+    (length-nexts c)
+    ∙ sum-repeat (length c) (1 ∷ 4 ∷ 1 ∷ 4 ∷ [])
+
+pub length-table : (q n : ℕ) (t : Rows) → Each (λ es. length es ≡ n) t
+    → length (rowsBits q t) ≡ length t * (n * (q + 7))
+length-table q n t h =
+    ap length (sym (rows-write q n t h))
+    ∙ length-fields (repeat (length t) (repeat n (q ∷ 7 ∷ []))) (rows t) (length-rows q n t h)
+    ∙ sum-repeat (length t) (repeat n (q ∷ 7 ∷ [])) ∙ ap (λ m. length t * m) (sum-repeat n (q ∷ 7 ∷ []))
+
+-- the parts are the record's bits
+module _ (c : Code) (even : Each (λ es. length es ≡ 2 ^ c .p) (c .table)) where
+  abbrev wide : List ℕ
+  wide = repeat (length (c .table)) (repeat (2 ^ c .p) (c .q ∷ 7 ∷ []))
+
+  behind-states : write (wide ++ (fill (head c) ∷ [])) (rows (c .table) ++ (0 ∷ []))
+      ≡ rowsBits (c .q) (c .table) ++ bits (fill (head c)) 0
+  behind-states =
+      write-append wide (fill (head c) ∷ []) (rows (c .table)) (0 ∷ []) (length-rows (c .q) (2 ^ c .p) (c .table) even)
+      ∙ ap₂ _++_ (rows-write (c .q) (2 ^ c .p) (c .table) even) (append-nil (bits (fill (head c)) 0))
+
+  pub parts-are : ((frontBits (head c) ++ statesBits (c .constraint)) ++ rowsBits (c .q) (c .table))
+      ++ bits (fill (head c)) 0 ≡ write (widths (head c)) (values c)
+  unfolding frontBits
+  parts-are =
+      let ks = repeat {A = ℕ} (length (c .constraint)) (1 ∷ 4 ∷ 1 ∷ 4 ∷ []) in
+      let tail = rowsBits (c .q) (c .table) ++ bits (fill (head c)) 0 in
+      append-assoc (frontBits (head c) ++ statesBits (c .constraint)) (rowsBits (c .q) (c .table))
+      (bits (fill (head c)) 0)
+      ∙ append-assoc (frontBits (head c)) (statesBits (c .constraint)) tail
+      ∙ sym (write-append header (ks ++ (wide ++ (fill (head c) ∷ []))) (frontValues (head c))
+      (nexts (c .constraint) ++ (rows (c .table) ++ (0 ∷ []))) refl
+      ∙ ap (λ l. frontBits (head c) ++ l) (write-append ks (wide ++ (fill (head c) ∷ [])) (nexts (c .constraint))
+      (rows (c .table) ++ (0 ∷ [])) (length-nexts (c .constraint))
+      ∙ ap₂ _++_ (states-write (c .constraint)) behind-states))
+
+  -- there are as many fields as widths
+  length-values : length (widths (head c)) ≡ length (values c)
+  length-values =
+      let ks = repeat {A = ℕ} (length (c .constraint)) (1 ∷ 4 ∷ 1 ∷ 4 ∷ []) in
+      let a = length-append ks (wide ++ (fill (head c) ∷ [])) in
+      let b = length-append wide (fill (head c) ∷ []) in
+      let d = length-append (nexts (c .constraint)) (rows (c .table) ++ (0 ∷ [])) in
+      let e = length-append (rows (c .table)) (0 ∷ []) in
+      let f = length-nexts (c .constraint) in
+      let g = length-rows (c .q) (2 ^ c .p) (c .table) even in
+      omega arith
+
+  pub length-parts : length (write (widths (head c)) (values c)) ≡ size (head c) * 8
+  length-parts = length-fields (widths (head c)) (values c) length-values ∙ sum-widths (head c)
+      ∙ sum-replicate (size (head c)) 8
+
+-- bytes are known by their bits
+same-bytes : (xs ys : List ℕ) → Below 256 xs → Below 256 ys → length xs ≡ length ys → bitsOf xs ≡ bitsOf ys → xs ≡ ys
+same-bytes xs ys b d l e =
+    sym (read-back (replicate (length xs) 8) xs (fits-bytes xs b))
+    ∙ ap₂ (λ n t. read (replicate n 8) t) l e ∙ read-back (replicate (length ys) 8) ys (fits-bytes ys d)
+
+-- bytes that hold the record's bits in front, and are as lent behind them
+module _ (c : Code) (long : length (write (widths (head c)) (values c)) ≡ size (head c) * 8) where
+  abbrev W : List ℕ
+  W = write (widths (head c)) (values c)
+
+  filled : length W ≡ sum (replicate (size (head c)) 8)
+  filled = long ∙ sym (sum-replicate (size (head c)) 8)
+
+  pack-bits : bitsOf (pack c) ≡ W
+  unfolding pack
+  pack-bits =
+      ap (λ n. write (replicate n 8) (pack c)) (length-pack c)
+      ∙ write-read (replicate (size (head c)) 8) W (below-write (widths (head c)) (values c)) filled
+
+  pack-below : Below 256 (pack c)
+  unfolding pack
+  pack-below =
+      fits-below (size (head c)) (pack c) (fits-read (replicate (size (head c)) 8) W
+      (below-write (widths (head c)) (values c))
+      (subst (λ n. sum (replicate (size (head c)) 8) ≤ n) (sym filled) (le-refl (sum (replicate (size (head c)) 8)))))
+
+  pub bytes-are : (out new : List ℕ) → Below 256 out → Below 256 new → size (head c) ≤ length out
+      → length new ≡ length out → bitsOf new ≡ spliced 0 W (bitsOf out) → new ≡ pack c ++ drop (length (pack c)) out
+  bytes-are out new b d h l e =
+      let k = length (pack c) in
+      let ek : k ≡ size (head c) = length-pack c in
+      let ln : length new ≡ length (pack c ++ drop k out) =
+      l ∙ sym (length-append (pack c) (drop k out) ∙ ap (λ n. k + n) (length-drop k out) ∙ omega arith) in
+      let lw : k * 8 ≡ 0 + length W = omega arith in
+      same-bytes new (pack c ++ drop k out) d
+      (below-append 256 (pack c) (drop k out) pack-below (below-drop 256 k out b)) ln
+      (e ∙ sym (bitsOf-append (pack c) (drop k out) ∙ ap₂ _++_ pack-bits
+      (sym (drop-bytes k out) ∙ ap (λ n. drop n (bitsOf out)) lw)))

@@ -1,0 +1,115 @@
+-- A record read check by check: the header's numbers are in range, and the whole chain of checks is the reading
+-- followed by the two checks of the table.
+-- In order: below-bytes, ranges-of, ranges-in; parse-fields; checked-short, checked-front, checked-length,
+-- checked-rest, checked-good.
+-- Assumes nothing.
+use mathlib.Core.Path.{_≡_, refl, sym, ap, subst, _∙_}
+use mathlib.Core.Bool.{Bool, true, false, _&&_}
+use mathlib.Core.List.{List}
+use Prim.Native.Nat.{ℕ, _<_}
+use native.Mathlib.Omega.{arith}
+use lib.Dec.{T, leb, ltb, eqb, leb→le, ltb→lt, lit<}
+use lib.ListN.{length, getD, replicate}
+use Rattle.laws.specs.Sums.{Below}
+use Rattle.laws.proofs.Tests.{and→}
+use Rattle.answer.specs.declared.Refusal.{Refusal}
+use Rattle.answer.specs.declared.Refusal.the-variants.{Field, Length}
+use Rattle.answer.specs.Outcomes.{Outcome, done, refused, unless, onward}
+use Rattle.bits.specs.Fields.{read, bitsOf}
+use Rattle.bits.proofs.Fields.{read-at, below-write}
+use Rattle.table.specs.Formed.{Head, Ranges}
+use Rattle.record.specs.Layout.{header, headOf, size}
+use Rattle.record.specs.Parse.{goodHead, judged, parse}
+use Rattle.record.specs.Checks.{codeAt, restGood, fieldsGood, fieldsChecked}
+use Rattle.record.proofs.RecordReady.{field-lt}
+
+pub below-bytes : (xs : List ℕ) → Below 2 (bitsOf xs)
+below-bytes xs = below-write (replicate (length xs) 8) xs
+
+-- what the header's widths and its check leave
+pub ranges-of : (bs : List ℕ) → Below 2 bs → T (goodHead (headOf (read header bs))) → Ranges (headOf (read header bs))
+ranges-of bs b g =
+    let h = headOf (read header bs) in
+    let (gp, g₁) = and→ (leb 1 (h .p) && leb (h .p) 4) _ g in
+    let (gq, gz) = and→ (leb 1 (h .q) && leb (h .q) 8) (ltb (h .start) (h .count)) g₁ in
+    let (p₁, p₂) = and→ (leb 1 (h .p)) (leb (h .p) 4) gp in
+    let (q₁, q₂) = and→ (leb 1 (h .q)) (leb (h .q) 8) gq in
+    let s : getD (read header bs) 2 0 < 128 = rw (read-at header bs 2 (lit< tt)) (field-lt bs b 7 7) in
+    let m : getD (read header bs) 3 0 < 16 = rw (read-at header bs 3 (lit< tt)) (field-lt bs b 14 4) in
+    let a : getD (read header bs) 4 0 < 16 = rw (read-at header bs 4 (lit< tt)) (field-lt bs b 18 4) in
+    let k : getD (read header bs) 5 0 < 16 = rw (read-at header bs 5 (lit< tt)) (field-lt bs b 22 4) in
+    record {
+      p₁ = leb→le _ _ p₁;
+      p₂ = leb→le _ _ p₂;
+      q₁ = leb→le _ _ q₁;
+      q₂ = leb→le _ _ q₂;
+      s₁ = omega arith;
+      s₂ = omega arith;
+      m = m;
+      a = a;
+      k₁ = omega arith;
+      k₂ = omega arith;
+      start = ltb→lt _ _ gz;
+    }
+
+-- the same of the header of bytes
+pub ranges-in : (xs : List ℕ) (h : Head) → h ≡ headOf (read header (bitsOf xs)) → goodHead h ≡ true → Ranges h
+ranges-in xs h e g =
+    subst Ranges (sym e) (ranges-of (bitsOf xs) (below-bytes xs) (subst T (sym (ap goodHead (sym e) ∙ g)) tt))
+
+unless-onward : {A B : Type 0} (r : Refusal) (b : Bool) (x : Outcome A) (f : A → Outcome B)
+    → onward (unless r b x) f ≡ unless r b (onward x f)
+unless-onward r true x f = refl
+unless-onward r false x f = refl
+
+unless-no : {A : Type 0} (r : Refusal) (b : Bool) (x : Outcome A) → b ≡ false → unless r b x ≡ refused r
+unless-no r b x e = ap (λ c. unless r c x) e
+
+unless-yes : {A : Type 0} (r : Refusal) (b : Bool) (x : Outcome A) → b ≡ true → unless r b x ≡ x
+unless-yes r b x e = ap (λ c. unless r c x) e
+
+-- the checks of the fields, and then those of the table
+pub parse-fields : (xs : List ℕ) → parse xs ≡ onward (fieldsChecked xs) judged
+unfolding parse fieldsChecked
+parse-fields xs =
+    let bs = bitsOf xs in
+    let h = headOf (read header bs) in
+    let c = done (codeAt h bs) in
+    let rest = unless Field (restGood h bs) c in
+    let sized = unless Length (eqb (length xs) (size h)) rest in
+    sym (unless-onward Length (leb 4 (length xs)) (fieldsGood (length xs) h bs) judged
+    ∙ ap (unless Length (leb 4 (length xs))) (unless-onward Field (goodHead h) sized judged
+    ∙ ap (unless Field (goodHead h)) (unless-onward Length (eqb (length xs) (size h)) rest judged
+    ∙ ap (unless Length (eqb (length xs) (size h))) (unless-onward Field (restGood h bs) c judged))))
+
+-- ---- the outcome at each return of the code
+module _ (xs : List ℕ) where
+  pub checked-short : leb 4 (length xs) ≡ false → fieldsChecked xs ≡ refused Length
+  unfolding fieldsChecked
+  checked-short e = rw e
+
+  module _ (h : Head) (front : h ≡ headOf (read header (bitsOf xs))) (e₀ : leb 4 (length xs) ≡ true) where
+    step : fieldsChecked xs ≡ fieldsGood (length xs) h (bitsOf xs)
+    unfolding fieldsChecked
+    step = rw (e₀, front)
+
+    pub checked-front : goodHead h ≡ false → fieldsChecked xs ≡ refused Field
+    checked-front e = step ∙ unless-no Field (goodHead h) _ e
+
+    module _ (e₁ : goodHead h ≡ true) where
+      step₁ : fieldsChecked xs ≡ unless Length (eqb (length xs) (size h))
+          (unless Field (restGood h (bitsOf xs)) (done (codeAt h (bitsOf xs))))
+      step₁ = step ∙ unless-yes Field (goodHead h) _ e₁
+
+      pub checked-length : eqb (length xs) (size h) ≡ false → fieldsChecked xs ≡ refused Length
+      checked-length e = step₁ ∙ unless-no Length (eqb (length xs) (size h)) _ e
+
+      module _ (e₂ : eqb (length xs) (size h) ≡ true) where
+        step₂ : fieldsChecked xs ≡ unless Field (restGood h (bitsOf xs)) (done (codeAt h (bitsOf xs)))
+        step₂ = step₁ ∙ unless-yes Length (eqb (length xs) (size h)) _ e₂
+
+        pub checked-rest : restGood h (bitsOf xs) ≡ false → fieldsChecked xs ≡ refused Field
+        checked-rest e = step₂ ∙ unless-no Field (restGood h (bitsOf xs)) _ e
+
+        pub checked-good : restGood h (bitsOf xs) ≡ true → fieldsChecked xs ≡ done (codeAt h (bitsOf xs))
+        checked-good e = step₂ ∙ unless-yes Field (restGood h (bitsOf xs)) _ e

@@ -1,0 +1,100 @@
+-- How large the numbers of a record get, and which fields the header has.
+-- In order: small-of; power-le, row-le, edges-le, bitCount-le; front-is; place-le, product-le; edge-count-le,
+-- size-holds, edges-end; reach-words, reach-nexts.
+-- Assumes nothing.
+use mathlib.Core.Path.{_≡_}
+use mathlib.Core.List.{List}
+use Prim.Native.Nat.{ℕ, _+_, _*_, _/_, _^_, _≤_, _<_}
+use native.Mathlib.Nat.{mul-le-mul, mul-le-mul-right, mul-assoc}
+use native.Mathlib.Omega.{arith}
+use lib.Dec.{lit<, lit≤}
+use lib.Pow.{pow-mono, pow-pos}
+use Rattle.bits.specs.Fields.{field, read}
+use Rattle.bits.proofs.Fields.{read-at}
+use Rattle.table.specs.Formed.{Head, Ranges}
+use Rattle.record.specs.Layout.{header, headOf, bitCount, size}
+use Rattle.record.specs.Places.{Small, edgesPlace, Reach}
+
+-- numbers in range are small
+pub small-of : (h : Head) → Ranges h → Small h
+small-of h r = record { p₂ = r .p₂; q₂ = r .q₂; s₂ = r .s₂; k₂ = r .k₂ }
+
+pub power-le : (h : Head) → Small h → 2 ^ h .p ≤ 16
+power-le h r = pow-mono {i = h .p} {j = 4} (r .p₂)
+
+pub row-le : (h : Head) → Small h → 2 ^ h .p * (h .q + 7) ≤ 240
+row-le h r =
+    let q : h .q + 7 ≤ 15 = omega (arith, r .q₂) in
+    mul-le-mul {n₁ = 2 ^ h .p} {m₁ = h .q + 7} {n₂ = 16} {m₂ = 15} (power-le h r) q
+
+pub edges-le : (h : Head) → Small h → h .states * (2 ^ h .p * (h .q + 7)) ≤ 30720
+edges-le h r =
+    mul-le-mul {n₁ = h .states} {m₁ = 2 ^ h .p * (h .q + 7)} {n₂ = 128} {m₂ = 240} (r .s₂) (row-le h r)
+
+pub bitCount-le : (h : Head) → Small h → bitCount h ≤ 30910
+bitCount-le h r = omega (arith, edges-le h r, r .k₂)
+
+-- the numbers in front, by bit places
+pub front-is : (bs : List ℕ) (p q s m a k z : ℕ) → p ≡ field bs 0 3 → q ≡ field bs 3 4 → s ≡ field bs 7 7
+    → m ≡ field bs 14 4 → a ≡ field bs 18 4 → k ≡ field bs 22 4 → z ≡ field bs 26 4
+    → record { p = p; q = q; states = s + 1; memory = m; lookahead = a; count = k + 1; start = z }
+    ≡ headOf (read header bs)
+front-is bs p q s m a k z ep eq es em ea ek ez =
+    let e₀ = read-at header bs 0 (lit< tt) in
+    let e₁ = read-at header bs 1 (lit< tt) in
+    let e₂ = read-at header bs 2 (lit< tt) in
+    let e₃ = read-at header bs 3 (lit< tt) in
+    let e₄ = read-at header bs 4 (lit< tt) in
+    let e₅ = read-at header bs 5 (lit< tt) in
+    let e₆ = read-at header bs 6 (lit< tt) in
+    cc
+
+-- the e-th of k fields of w bits, d bits apart
+pub place-le : (o k d w l e : ℕ) → e < k → o + k * d + w ≤ l + d → o + e * d + w ≤ l
+place-le o k d w l e h g = omega (arith, mul-le-mul-right {m = e + 1} {n = k} d (omega arith))
+
+-- a product of small numbers
+pub product-le : (e d k m : ℕ) → e ≤ k → d ≤ m → e * d ≤ k * m
+product-le e d k m h g = mul-le-mul {n₁ = e} {m₁ = d} {n₂ = k} {m₂ = m} h g
+
+-- the edges of all states
+pub edge-count-le : (h : Head) (n : ℕ) → Small h → n ≡ 2 ^ h .p → h .states * n ≤ 2048
+edge-count-le h n r e = rw e (product-le (h .states) (2 ^ h .p) 128 16 (r .s₂) (power-le h r))
+
+-- the record holds all its fields
+pub size-holds : (h : Head) → bitCount h ≤ 8 * size h
+size-holds h = go (bitCount h)
+  where
+    go : (b : ℕ) → b ≤ 8 * ((b + 7) / 8)
+    go b = omega arith
+
+pub edges-end : (h : Head) (n l : ℕ) → n ≡ 2 ^ h .p → l ≡ size h → edgesPlace h + h .states * n * (h .q + 7) ≤ 8 * l
+edges-end h n l e f =
+    let g : bitCount h ≤ 8 * l = rw f (size-holds h) in
+    let m : h .states * n * (h .q + 7) ≡ h .states * (2 ^ h .p * (h .q + 7)) = rw e
+    (mul-assoc (h .states) (2 ^ h .p) (h .q + 7)) in
+    omega arith
+
+-- the words and the next states of all edges lie within the record
+module _ (h : Head) (n l : ℕ) (r : Small h) (e : n ≡ 2 ^ h .p) (f : l ≡ size h) where
+  pub reach-words : Reach (8 * l) n (h .states * n) (edgesPlace h) (h .q + 7) (h .q)
+  reach-words = record {
+    some = rw e (pow-pos (h .p));
+    few = rw e (power-le h r);
+    states = mul-le-mul-right n (r .s₂);
+    width = r .q₂;
+    apart = omega (arith, r .q₂);
+    first = omega (arith, r .k₂);
+    last = omega (arith, edges-end h n l e f);
+  }
+
+  pub reach-nexts : Reach (8 * l) n (h .states * n) (edgesPlace h + h .q) (h .q + 7) 7
+  reach-nexts = record {
+    some = rw e (pow-pos (h .p));
+    few = rw e (power-le h r);
+    states = mul-le-mul-right n (r .s₂);
+    width = lit≤ tt;
+    apart = omega (arith, r .q₂);
+    first = omega (arith, r .k₂, r .q₂);
+    last = omega (arith, edges-end h n l e f);
+  }

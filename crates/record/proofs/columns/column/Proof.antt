@@ -1,0 +1,109 @@
+-- `column` meets its contract. The loop's invariant: the array holds the field of every edge passed. The measure is
+-- what is left.
+-- Assumes nothing.
+use mathlib.Core.Path.{_≡_, subst}
+use Prim.Native.Nat.{ℕ, _*_, _-_, _≤_, _<_}
+use native.Mathlib.Omega.{arith}
+use denote.Ref.{now}
+use lib.ListN.{length, length-replicate}
+use Rattle.bits.specs.Fields.{bitsOf}
+use Rattle.record.proofs.Fills.{reach-spot, reach-step, reach-end, column-more}
+use Rattle.record.specs.Places.{spot, Column}
+use Rattle.record.proofs.columns.column.Statement.{statement}
+use Rattle.record.proofs.columns.column.Tie as tie
+
+abbrev Inv-loop : tie.InvT-loop
+Inv-loop bytes n edges first step width a₀ e₀ a e = (e ≤ edges) × Column (bitsOf bytes) n e first step width a
+
+abbrev μ-loop : tie.MeasureT-loop
+μ-loop bytes n edges first step width a₀ e₀ a e = edges - e
+
+loop-holds : tie.Need-loop-holds Inv-loop μ-loop
+loop-holds c = (omega arith, record { whole = length-replicate {A = ℕ} 2048 0; filled = λ k h. absurd (omega arith) })
+
+-- the edge's place in the array
+within : (c : tie.In-loop Inv-loop μ-loop) → spot (c .before .before .before .args .n) (c .before .loop .e) < 2048
+within c =
+    let a = c .before .before .before .args in
+    reach-spot (8 * length (now (a .bytes))) (a .n) (a .edges) (a .first) (a .step) (a .width) (c .before .loop .e)
+    (c .before .before .before .pre) (c .loop-test .taken)
+
+-- its field's place is small
+small : (c : tie.In-loop Inv-loop μ-loop) → c .before .loop .e * c .before .before .before .args .step ≤ 30720
+small c =
+    let a = c .before .before .before .args in
+    reach-step (8 * length (now (a .bytes))) (a .n) (a .edges) (a .first) (a .step) (a .width) (c .before .loop .e)
+    (c .before .before .before .pre) (c .loop-test .taken)
+
+mul-get : tie.Need-mul-get Inv-loop μ-loop
+mul-get c = record { fits = omega (arith, small c) }
+
+add-get : tie.Need-add-get Inv-loop μ-loop
+add-get c = record { fits = omega (arith, small c, c .before .before .before .pre .first) }
+
+get-requires : tie.Need-get-requires Inv-loop μ-loop
+get-requires c κs =
+    let a = c .before .before .before .args in (
+      c .before .before .before .pre .width,
+      reach-end (8 * length (now (a .bytes))) (a .n) (a .edges) (a .first) (a .step) (a .width) (c .before .loop .e)
+          (c .before .before .before .pre) (c .loop-test .taken),
+    )
+
+div-a : tie.Need-div-a Inv-loop μ-loop
+div-a c = c .before .before .before .before .pre .some
+
+mul-a : tie.Need-mul-a Inv-loop μ-loop
+mul-a c = record { fits = omega (arith, within (c .before)) }
+
+rem-a : tie.Need-rem-a Inv-loop μ-loop
+rem-a c = c .before .before .before .before .pre .some
+
+add-a : tie.Need-add-a Inv-loop μ-loop
+add-a c = record { fits = omega (arith, within (c .before)) }
+
+array-write-a : tie.Need-array-write-a Inv-loop μ-loop
+array-write-a c = within (c .before)
+
+add-e : tie.Need-add-e Inv-loop μ-loop
+add-e c = omega arith
+
+loop-less : tie.Need-loop-less Inv-loop μ-loop
+loop-less c = omega arith
+
+loop-again : tie.Need-loop-again Inv-loop μ-loop
+loop-again c =
+    let l = c .before .before in
+    let a = l .before .before .args in (
+      omega arith,
+      column-more (8 * length (now (a .bytes))) (a .n) (a .edges) (a .first) (a .step) (a .width) (l .loop .e)
+          (l .before .before .pre) (c .before .loop-test .taken) (bitsOf (now (a .bytes))) (l .loop .a) (c .get .result)
+          (c .get .ensures) (l .loop .inv .1),
+    )
+
+returns : tie.Need-returns Inv-loop μ-loop
+returns c =
+    let l = c .before in
+    let a = l .before .before .args in
+    let e : l .loop .e ≡ a .edges = omega arith in
+    subst (λ k. Column (bitsOf (now (a .bytes))) (a .n) k (a .first) (a .step) (a .width) (l .loop .a)) e
+    (l .loop .inv .1)
+
+pub column-spec : {M : Type 1} → statement M
+column-spec =
+    tie.close
+    (tie.spec
+    Inv-loop
+    μ-loop
+    loop-holds
+    mul-get
+    add-get
+    get-requires
+    div-a
+    mul-a
+    rem-a
+    add-a
+    array-write-a
+    add-e
+    loop-less
+    loop-again
+    returns)

@@ -1,0 +1,98 @@
+-- `states_of` meets its contract. The loop's invariant: the arrays hold the next states of every state passed. The
+-- measure is what is left.
+-- Assumes nothing.
+use mathlib.Core.Path.{_≡_, ap₂, refl}
+use Prim.Native.Nat.{ℕ, _+_, _*_, _-_, _≤_, _<_}
+use native.Mathlib.Omega.{arith}
+use denote.Ref.{now}
+use lib.ListN.{length, getD, length-set}
+use Rattle.bits.specs.Fields.{bitsOf}
+use Rattle.record.specs.Places.{nextIn}
+use Rattle.record.proofs.Fills.{fill-more, map-range}
+use Rattle.record.proofs.columns.states_of.Statement.{statement}
+use Rattle.record.proofs.columns.states_of.Tie as tie
+
+abbrev Inv-loop : tie.InvT-loop
+Inv-loop bytes count zero₀ one₀ s₀ zero one s =
+    (s ≤ count) × (length zero ≡ 16) × (length one ≡ 16)
+    × ((k : ℕ) → k < s → getD zero k 0 ≡ nextIn (bitsOf bytes) (30 + k * 10))
+    × ((k : ℕ) → k < s → getD one k 0 ≡ nextIn (bitsOf bytes) (35 + k * 10))
+
+abbrev μ-loop : tie.MeasureT-loop
+μ-loop bytes count zero₀ one₀ s₀ zero one s = count - s
+
+loop-holds : tie.Need-loop-holds Inv-loop μ-loop
+loop-holds c = (omega arith, refl, refl, λ k h. absurd (omega arith), λ k h. absurd (omega arith))
+
+mul-next-of : tie.Need-mul-next-of Inv-loop μ-loop
+mul-next-of c = omega arith
+
+add-next-of : tie.Need-add-next-of Inv-loop μ-loop
+add-next-of c = omega arith
+
+next-of-requires : tie.Need-next-of-requires Inv-loop μ-loop
+next-of-requires c κs = (omega arith, omega arith)
+
+array-write-zero : tie.Need-array-write-zero Inv-loop μ-loop
+array-write-zero c = omega arith
+
+mul-next-of-2 : tie.Need-mul-next-of-2 Inv-loop μ-loop
+mul-next-of-2 c = omega arith
+
+add-next-of-2 : tie.Need-add-next-of-2 Inv-loop μ-loop
+add-next-of-2 c = omega arith
+
+next-of-requires-2 : tie.Need-next-of-requires-2 Inv-loop μ-loop
+next-of-requires-2 c κs = (omega arith, omega arith)
+
+array-write-one : tie.Need-array-write-one Inv-loop μ-loop
+array-write-one c = omega arith
+
+add-s : tie.Need-add-s Inv-loop μ-loop
+add-s c = omega arith
+
+loop-less : tie.Need-loop-less Inv-loop μ-loop
+loop-less c = omega arith
+
+loop-again : tie.Need-loop-again Inv-loop μ-loop
+loop-again c =
+    let b = c .before .before .before in
+    let bs = bitsOf (now (b .before .before .args .bytes)) in
+    let s = b .loop .s in (
+      omega arith,
+      simp length-set (b .loop .inv .1),
+      simp length-set (b .loop .inv .2),
+      fill-more (λ k. k) (λ k. nextIn bs (30 + k * 10)) (b .loop .zero) s (c .before .next-of .result) (λ k h q. q)
+          (omega arith) (c .before .next-of .ensures) (b .loop .inv .3),
+      fill-more (λ k. k) (λ k. nextIn bs (35 + k * 10)) (b .loop .one) s (c .next-of2 .result) (λ k h q. q)
+          (omega arith) (c .next-of2 .ensures) (b .loop .inv .4),
+    )
+
+returns : tie.Need-returns Inv-loop μ-loop
+returns c =
+    let b = c .before in
+    let a = b .before .before .args in (
+      map-range _ _ (a .count) (λ k h. ap₂ (λ x y. record { zero = x; one = y }) (b .loop .inv .3 k (omega arith))
+          (b .loop .inv .4 k (omega arith))),
+      refl,
+    )
+
+pub states-of-spec : {M : Type 1} → statement M
+states-of-spec =
+    tie.close
+    (tie.spec
+    Inv-loop
+    μ-loop
+    loop-holds
+    mul-next-of
+    add-next-of
+    next-of-requires
+    array-write-zero
+    mul-next-of-2
+    add-next-of-2
+    next-of-requires-2
+    array-write-one
+    add-s
+    loop-less
+    loop-again
+    returns)

@@ -1,0 +1,79 @@
+-- `table_of` meets its contract: the constraint and both arrays are read from the places where their fields stand.
+-- Assumes nothing.
+use native.Mathlib.Omega.{arith}
+use borrow.Author.Needs.{needs}
+use denote.Ref.{now}
+use lib.ListN.{length}
+use Rattle.bits.specs.Fields.{bitsOf}
+use Rattle.record.specs.Checks.{headIn}
+use Rattle.record.proofs.Sizes.{edge-count-le, reach-words, reach-nexts}
+use Rattle.record.proofs.RecordTables.{code-is}
+use Rattle.record.proofs.columns.table_of.Statement.{statement}
+use Rattle.record.proofs.columns.table_of.Tie as tie
+
+power-requires : tie.Need-power-requires
+power-requires c κs = search needs
+
+mul-edges : tie.Need-mul-edges
+mul-edges c =
+    let b = c .before .before .before in
+    record {
+      fits = omega (
+        arith,
+        edge-count-le (headIn (b .args .f)) (c .before .power .result) (b .pre .0)
+            (c .before .power .ensures),
+      );
+    }
+
+mul-first : tie.Need-mul-first
+mul-first c = search needs
+
+add-first : tie.Need-add-first
+add-first c = search needs
+
+add-step : tie.Need-add-step
+add-step c = search needs
+
+states-of-requires : tie.Need-states-of-requires
+states-of-requires c κs = search needs
+
+column-requires : tie.Need-column-requires
+column-requires c κs =
+    let b = c .before .before .before .before in
+    let a = b .before .before in
+    reach-words (headIn (a .args .f)) (b .power .result) (length (now (a .args .bytes))) (a .pre .0)
+    (b .power .ensures) (a .pre .1)
+
+add-column : tie.Need-add-column
+add-column c = search needs
+
+column-requires-2 : tie.Need-column-requires-2
+column-requires-2 c κs =
+    let b = c .before .before .before .before .before .before in
+    let a = b .before .before in
+    reach-nexts (headIn (a .args .f)) (b .power .result) (length (now (a .args .bytes))) (a .pre .0)
+    (b .power .ensures) (a .pre .1)
+
+returns : tie.Need-returns
+returns c =
+    let s = c .before .before .before in
+    let b = s .before .before .before .before in
+    let a = b .before .before .args in
+    code-is (headIn (a .f)) (bitsOf (now (a .bytes))) (c .before .before .column .result) (c .column2 .result) _
+    (b .power .result)
+    (b .power .ensures) (s .states-of .ensures .0) (c .before .before .column .ensures) (c .column2 .ensures)
+
+pub table-of-spec : {M : Type 1} → statement M
+table-of-spec =
+    tie.close
+    (tie.spec
+    power-requires
+    mul-edges
+    mul-first
+    add-first
+    add-step
+    states-of-requires
+    column-requires
+    add-column
+    column-requires-2
+    returns)

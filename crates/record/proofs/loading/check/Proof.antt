@@ -1,0 +1,29 @@
+-- `check` meets its contract: its answer is what loading comes to, with no byte written.
+-- Assumes nothing.
+use borrow.Author.Needs.{needs}
+use denote.Ref.{now}
+use Rattle.record.proofs.RecordFollow.{check-bad, check-read}
+use Rattle.record.proofs.loading.check.Statement.{statement}
+use Rattle.record.proofs.loading.check.Tie as tie
+
+load-requires : tie.Need-load-requires
+load-requires c κs = search needs
+
+enum-known-v : tie.Need-enum-known-v
+enum-known-v c = search needs
+
+enum-told : tie.Need-enum-told
+enum-told c = search needs
+
+returns : tie.Need-returns
+returns c =
+    let r = c .before .before .before in
+    check-bad (now (r .before .before .args .bytes)) (r .load .result) _ (r .load .ensures .0) (c .before .v .given .1)
+
+returns-2 : tie.Need-returns-2
+returns-2 c =
+    let r = c .before .before in
+    check-read (now (r .before .before .args .bytes)) (r .load .result) (r .load .ensures .0) (c .enum-told .given .1)
+
+pub check-spec : {M : Type 1} → statement M
+check-spec = tie.close (tie.spec load-requires enum-known-v enum-told returns returns-2)

@@ -1,0 +1,47 @@
+-- `load` meets its contract: the refusal of a field, or what the two checks of the table come to.
+-- Assumes nothing.
+use mathlib.Core.Path.{sym, _∙_}
+use borrow.Author.Needs.{needs}
+use denote.Ref.{now}
+use Rattle.record.proofs.RecordFollow.{judgeable, fields-read, parse-read, parse-bad}
+use Rattle.record.proofs.loading.load.Statement.{statement}
+use Rattle.record.proofs.loading.load.Tie as tie
+
+read-requires : tie.Need-read-requires
+read-requires c κs = search needs
+
+enum-known-v : tie.Need-enum-known-v
+enum-known-v c = search needs
+
+bad-requires : tie.Need-bad-requires
+bad-requires c κs = search needs
+
+enum-told : tie.Need-enum-told
+enum-told c = search needs
+
+judge-requires : tie.Need-judge-requires
+judge-requires c κs =
+    let r = c .before .before .before in
+    let xs = now (r .before .before .args .bytes) in
+    judgeable xs (r .read .result .table) (r .read .ensures .1 (c .enum-told .given .1))
+    (fields-read xs (r .read .result) (r .read .ensures .0) (c .enum-told .given .1))
+
+returns : tie.Need-returns
+returns c =
+    let v = c .before .before in
+    let r = v .before .before .before in
+    let xs = now (r .before .before .args .bytes) in
+    (c .bad .ensures .0 ∙ sym (parse-bad xs (r .read .result) _ (r .read .ensures .0) (v .v .given .1)),
+    λ e. absurd (c .bad .ensures .1 e))
+
+returns-2 : tie.Need-returns-2
+returns-2 c =
+    let r = c .before .before .before .before in
+    let xs = now (r .before .before .args .bytes) in
+    (c .judge .ensures .0 ∙ sym (parse-read xs (r .read .result) (r .read .ensures .0) (c .before .enum-told .given .1)),
+    c .judge .ensures .1)
+
+pub load-spec : {M : Type 1} → statement M
+load-spec =
+    tie.close
+    (tie.spec read-requires enum-known-v bad-requires enum-told judge-requires returns returns-2)

@@ -1,0 +1,65 @@
+-- `bit_count` meets its contract: the numbers are small, so nothing wraps.
+-- Assumes nothing.
+use mathlib.Core.Path.{ap}
+use Prim.Native.Nat.{_+_, _*_}
+use native.Mathlib.Omega.{arith}
+use borrow.Author.Needs.{needs}
+use Rattle.record.specs.Checks.{headIn}
+use Rattle.record.proofs.Sizes.{row-le, edges-le}
+use Rattle.record.proofs.numbers.bit_count.Statement.{statement}
+use Rattle.record.proofs.numbers.bit_count.Tie as tie
+
+power-requires : tie.Need-power-requires
+power-requires c κs = search needs
+
+mul-result : tie.Need-mul-result
+mul-result c = search needs
+
+add-result : tie.Need-add-result
+add-result c = search needs
+
+add-result-2 : tie.Need-add-result-2
+add-result-2 c = search needs
+
+mul-result-2 : tie.Need-mul-result-2
+mul-result-2 c =
+    let f = headIn (c .before .before .before .args .f) in
+    record { fits = rw (c .before .before .power .ensures) (omega (arith, row-le f (c .before .before .before .pre))) }
+
+mul-result-3 : tie.Need-mul-result-3
+mul-result-3 c =
+    let f = headIn (c .before .before .before .before .args .f) in
+    record {
+      fits = rw (c .before .before .before .power .ensures)
+          (omega (arith, edges-le f (c .before .before .before .before .pre)));
+    }
+
+add-result-3 : tie.Need-add-result-3
+add-result-3 c =
+    let f = headIn (c .before .before .before .before .args .f) in
+    record {
+      fits = rw (c .before .before .before .power .ensures)
+          (omega (
+            arith,
+            edges-le f (c .before .before .before .before .pre),
+            c .before .before .before .before .pre .k₂,
+          ));
+    }
+
+returns : tie.Need-returns
+returns c =
+    let f = c .before .before .before .before .args .f in
+    ap (λ n. 30 + 10 * f .count + f .states * (n * (f .q + 7))) (c .before .before .before .power .ensures)
+
+pub bit-count-spec : {M : Type 1} → statement M
+bit-count-spec =
+    tie.close
+    (tie.spec
+    power-requires
+    mul-result
+    add-result
+    add-result-2
+    mul-result-2
+    mul-result-3
+    add-result-3
+    returns)

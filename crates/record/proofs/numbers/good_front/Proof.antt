@@ -1,0 +1,39 @@
+-- `good_front` meets its contract: each return follows the first test that fails, or the last test.
+-- Assumes nothing.
+use borrow.Author.Tests.{not-true, not-false}
+use borrow.Author.Needs.{needs}
+use Rattle.record.proofs.numbers.good_front.Statement.{statement}
+use Rattle.record.proofs.numbers.good_front.Tie as tie
+
+between-requires : tie.Need-between-requires
+between-requires c κs = search needs
+
+returns : tie.Need-returns
+returns c = rw (← c .before .between .ensures, not-true (c .before .between .result) (c .if1 .taken))
+
+between-requires-2 : tie.Need-between-requires-2
+between-requires-2 c κs = search needs
+
+returns-2 : tie.Need-returns-2
+returns-2 c =
+    let b = c .before .before in
+    rw (
+      ← b .before .between .ensures,
+      not-false (b .before .between .result) (b .if1 .left),
+      ← c .before .between2 .ensures,
+      not-true (c .before .between2 .result) (c .if2 .taken),
+    )
+
+returns-3 : tie.Need-returns-3
+returns-3 c =
+    let b = c .before .before .before in
+    rw (
+      ← b .before .between .ensures,
+      not-false (b .before .between .result) (b .if1 .left),
+      ← c .before .before .between2 .ensures,
+      not-false (c .before .before .between2 .result) (c .before .if2 .left),
+    )
+
+pub good-front-spec : {M : Type 1} → statement M
+good-front-spec =
+    tie.close (tie.spec between-requires returns between-requires-2 returns-2 returns-3)

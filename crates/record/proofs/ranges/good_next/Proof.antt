@@ -1,0 +1,39 @@
+-- `good_next` meets its contract: the field "present" says which test is made of the other.
+-- Assumes nothing.
+use native.Mathlib.Omega.{arith}
+use borrow.Author.Tests.{eq-eqb, ne-eqb}
+use borrow.Author.Needs.{needs}
+use Rattle.record.proofs.ranges.good_next.Statement.{statement}
+use Rattle.record.proofs.ranges.good_next.Tie as tie
+
+add-get : tie.Need-add-get
+add-get c = search needs
+
+get-requires : tie.Need-get-requires
+get-requires c κs = search needs
+
+cast-next : tie.Need-cast-next
+cast-next c = search needs
+
+get-requires-2 : tie.Need-get-requires-2
+get-requires-2 c κs = search needs
+
+returns : tie.Need-returns
+returns c = rw (
+  ← c .before .before .get .ensures,
+  ← c .before .get2 .ensures,
+  eq-eqb (c .before .get2 .result) 0
+      (c .if1 .taken),
+)
+
+returns-2 : tie.Need-returns-2
+returns-2 c = rw (
+  ← c .before .before .get .ensures,
+  ← c .before .get2 .ensures,
+  ne-eqb (c .before .get2 .result) 0
+      (λ e. omega arith),
+)
+
+pub good-next-spec : {M : Type 1} → statement M
+good-next-spec =
+    tie.close (tie.spec add-get get-requires cast-next get-requires-2 returns returns-2)

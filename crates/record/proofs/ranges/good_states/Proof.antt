@@ -1,0 +1,79 @@
+-- `good_states` meets its contract. The loop's invariant: every next state passed is in range. The measure is what is
+-- left.
+-- Assumes nothing.
+use mathlib.Core.Path.{_≡_, sym, _∙_}
+use mathlib.Core.Bool.{true}
+use Prim.Native.Nat.{ℕ, _*_, _-_, _≤_, _<_}
+use native.Mathlib.Omega.{arith}
+use borrow.Author.Count.{below-more}
+use borrow.Author.Tests.{not-true, not-false}
+use denote.Ref.{now}
+use Rattle.bits.specs.Fields.{bitsOf}
+use Rattle.record.specs.Places.{goodAt}
+use Rattle.record.proofs.Alls.{all-yes, all-not}
+use Rattle.record.proofs.ranges.good_states.Statement.{statement}
+use Rattle.record.proofs.ranges.good_states.Tie as tie
+
+abbrev Inv-loop : tie.InvT-loop
+Inv-loop bytes count i₀ i = (i ≤ 2 * count) × ((k : ℕ) → k < i → goodAt (bitsOf bytes) count k ≡ true)
+
+abbrev μ-loop : tie.MeasureT-loop
+μ-loop bytes count i₀ i = 2 * count - i
+
+loop-holds : tie.Need-loop-holds Inv-loop μ-loop
+loop-holds c = (omega arith, λ k h. absurd (omega arith))
+
+mul-loop : tie.Need-mul-loop Inv-loop μ-loop
+mul-loop c = omega arith
+
+mul-good-next : tie.Need-mul-good-next Inv-loop μ-loop
+mul-good-next c = omega arith
+
+add-good-next : tie.Need-add-good-next Inv-loop μ-loop
+add-good-next c = omega arith
+
+good-next-requires : tie.Need-good-next-requires Inv-loop μ-loop
+good-next-requires c κs = (omega arith, omega arith)
+
+returns : tie.Need-returns Inv-loop μ-loop
+returns c =
+    let a = c .before .before .before .before .before .args in
+    all-not (goodAt (bitsOf (now (a .bytes))) (a .count)) (2 * a .count) (c .before .before .before .loop .i)
+    (omega arith)
+    (sym (c .before .good-next .ensures) ∙ not-true (c .before .good-next .result) (c .if1 .taken))
+
+add-i : tie.Need-add-i Inv-loop μ-loop
+add-i c = omega arith
+
+loop-less : tie.Need-loop-less Inv-loop μ-loop
+loop-less c = omega arith
+
+loop-again : tie.Need-loop-again Inv-loop μ-loop
+loop-again c = (
+  omega arith,
+  below-more _ _ (c .before .before .before .loop .inv .1)
+      (sym (c .before .good-next .ensures) ∙ not-false (c .before .good-next .result) (c .if1 .left)),
+)
+
+returns-2 : tie.Need-returns-2 Inv-loop μ-loop
+returns-2 c =
+    let a = c .before .before .before .args in
+    all-yes (goodAt (bitsOf (now (a .bytes))) (a .count)) (2 * a .count)
+    (λ k h. c .before .loop .inv .1 k (omega arith))
+
+pub good-states-spec : {M : Type 1} → statement M
+good-states-spec =
+    tie.close
+    (tie.spec
+    Inv-loop
+    μ-loop
+    loop-holds
+    mul-loop
+    mul-good-next
+    add-good-next
+    good-next-requires
+    returns
+    add-i
+    loop-less
+    loop-again
+    returns-2)

@@ -1,0 +1,77 @@
+-- `put_front` meets its contract: the seven fields stand one behind the other.
+-- Assumes nothing.
+use mathlib.Core.Path.{_∙_}
+use native.Mathlib.Omega.{arith}
+use borrow.Author.Needs.{needs}
+use denote.Ref.{now}
+use Rattle.bits.specs.Fields.{bitsOf}
+use Rattle.bits.proofs.Puts.{length-bitsOf}
+use Rattle.record.specs.Checks.{headIn}
+use Rattle.record.proofs.RecordParts.{front-spliced}
+use Rattle.record.proofs.writing.put_front.Statement.{statement}
+use Rattle.record.proofs.writing.put_front.Tie as tie
+
+put-low-requires : tie.Need-put-low-requires
+put-low-requires c κs = search needs
+
+put-low-requires-2 : tie.Need-put-low-requires-2
+put-low-requires-2 c κs = search needs
+
+less-one-requires : tie.Need-less-one-requires
+less-one-requires c κs = search needs
+
+put-low-requires-3 : tie.Need-put-low-requires-3
+put-low-requires-3 c κs = search needs
+
+put-low-requires-4 : tie.Need-put-low-requires-4
+put-low-requires-4 c κs = search needs
+
+put-low-requires-5 : tie.Need-put-low-requires-5
+put-low-requires-5 c κs = search needs
+
+less-one-requires-2 : tie.Need-less-one-requires-2
+less-one-requires-2 c κs = search needs
+
+put-low-requires-6 : tie.Need-put-low-requires-6
+put-low-requires-6 c κs = search needs
+
+put-low-requires-7 : tie.Need-put-low-requires-7
+put-low-requires-7 c κs = search needs
+
+same-length : tie.Need-same-length
+same-length c = search needs
+
+returns : tie.Need-returns
+returns c =
+    let p7 = c .before .before in
+    let p6 = p7 .before .before .before .before in
+    let p5 = p6 .before .before .before .before .before in
+    let p4 = p5 .before .before .before .before in
+    let p3 = p4 .before .before .before .before in
+    let p2 = p3 .before .before .before .before .before in
+    let p1 = p2 .before .before .before .before in
+    let a = p1 .before .before .before in (
+      front-spliced (headIn (a .args .f)) _ _ (bitsOf (now (a .args .out))) _ _ _ _ _ _ _
+          (omega (arith, length-bitsOf (now (a .args .out)), a .pre)) (p3 .before .less-one .ensures)
+          (p6 .before .less-one2 .ensures)
+          (p1 .put-low .ensures .0) (p2 .put-low2 .ensures .0) (p3 .put-low3 .ensures .0) (p4 .put-low4 .ensures .0)
+          (p5 .put-low5 .ensures .0) (p6 .put-low6 .ensures .0) (p7 .put-low7 .ensures .0),
+      p7 .put-low7 .ensures .1 ∙ p6 .put-low6 .ensures .1 ∙ p5 .put-low5 .ensures .1 ∙ p4 .put-low4 .ensures .1
+          ∙ p3 .put-low3 .ensures .1 ∙ p2 .put-low2 .ensures .1 ∙ p1 .put-low .ensures .1,
+    )
+
+pub put-front-spec : {M : Type 1} → statement M
+put-front-spec =
+    tie.close
+    (tie.spec
+    put-low-requires
+    put-low-requires-2
+    less-one-requires
+    put-low-requires-3
+    put-low-requires-4
+    put-low-requires-5
+    less-one-requires-2
+    put-low-requires-6
+    put-low-requires-7
+    same-length
+    returns)

@@ -1,0 +1,57 @@
+-- `put_next` meets its contract: the five bits of an absent next state are 0, those of a present one begin with 1.
+-- Assumes nothing.
+use mathlib.Core.Path.{_∙_}
+use borrow.Author.Needs.{needs}
+use denote.Ref.{now}
+use Rattle.bits.specs.Fields.{bitsOf}
+use Rattle.record.proofs.RecordParts.{put-absent, put-present}
+use Rattle.record.proofs.writing.put_next.Statement.{statement}
+use Rattle.record.proofs.writing.put_next.Tie as tie
+
+put-requires : tie.Need-put-requires
+put-requires c κs = search needs
+
+same-length : tie.Need-same-length
+same-length c = search needs
+
+returns : tie.Need-returns
+returns c =
+    let b = c .before .before in
+    let t = b .before .before in
+    let a = t .before .before .args in
+    (b .put .ensures .0 ∙ put-absent (bitsOf (now (a .out))) (a .at) (a .next) (t .if1 .taken), b .put .ensures .1)
+
+low-bits-requires : tie.Need-low-bits-requires
+low-bits-requires c κs = search needs
+
+add-put : tie.Need-add-put
+add-put c = search needs
+
+put-requires-2 : tie.Need-put-requires-2
+put-requires-2 c κs = search needs
+
+same-length-2 : tie.Need-same-length-2
+same-length-2 c = search needs
+
+returns-2 : tie.Need-returns-2
+returns-2 c =
+    let b = c .before .before in
+    let t = b .before .before .before in
+    let a = t .before .before .args in (
+      b .put2 .ensures .0 ∙ put-present (bitsOf (now (a .out))) (a .at) (a .next) _ (t .if1 .left)
+          (b .before .low-bits .ensures),
+      b .put2 .ensures .1,
+    )
+
+pub put-next-spec : {M : Type 1} → statement M
+put-next-spec =
+    tie.close
+    (tie.spec
+    put-requires
+    same-length
+    returns
+    low-bits-requires
+    add-put
+    put-requires-2
+    same-length-2
+    returns-2)

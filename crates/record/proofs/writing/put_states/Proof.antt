@@ -1,0 +1,113 @@
+-- `put_states` meets its contract. The loop's invariant: the states passed stand behind the numbers in front, and all
+-- other bits are as lent. The measure is what is left.
+-- Assumes nothing.
+use mathlib.Core.Path.{_≡_, refl, ap, _∙_}
+use mathlib.Core.List.{map}
+use Prim.Native.Nat.{_-_, _≤_}
+use native.Mathlib.Omega.{arith}
+use borrow.Author.Needs.{needs}
+use denote.Ref.{now}
+use lib.ListN.{length}
+use Rattle.laws.specs.Lists.{range}
+use Rattle.bits.specs.Bytes.{spliced}
+use Rattle.bits.specs.Fields.{bitsOf}
+use Rattle.bits.proofs.Puts.{length-bitsOf}
+use Rattle.constraint.specs.Value.{nextStatesAt}
+use Rattle.record.specs.Parts.{statesBits}
+use Rattle.record.proofs.RecordRuns.{states-begin, states-next}
+use Rattle.record.proofs.writing.put_states.Statement.{statement}
+use Rattle.record.proofs.writing.put_states.Tie as tie
+
+abbrev Inv-loop : tie.InvT-loop
+Inv-loop out₀ constraint count s₀ out s =
+    (s ≤ count) × (length out ≡ length out₀)
+    × (bitsOf out ≡ spliced 30 (statesBits (map (nextStatesAt constraint) (range s))) (bitsOf out₀))
+
+abbrev μ-loop : tie.MeasureT-loop
+μ-loop out₀ constraint count s₀ out s = count - s
+
+loop-holds : tie.Need-loop-holds Inv-loop μ-loop
+loop-holds c =
+    let a = c .before .args in
+    (omega arith, refl, states-begin (a .t2) (bitsOf (now (a .out))) 30)
+
+mul-put-next : tie.Need-mul-put-next Inv-loop μ-loop
+mul-put-next c = search needs
+
+add-put-next : tie.Need-add-put-next Inv-loop μ-loop
+add-put-next c = search needs
+
+element-copy-out-put-next : tie.Need-element-copy-out-put-next Inv-loop μ-loop
+element-copy-out-put-next c = omega arith
+
+put-next-requires : tie.Need-put-next-requires Inv-loop μ-loop
+put-next-requires c κs = omega arith
+
+mul-put-next-2 : tie.Need-mul-put-next-2 Inv-loop μ-loop
+mul-put-next-2 c = search needs
+
+add-put-next-2 : tie.Need-add-put-next-2 Inv-loop μ-loop
+add-put-next-2 c = search needs
+
+element-copy-out-put-next-2 : tie.Need-element-copy-out-put-next-2 Inv-loop μ-loop
+element-copy-out-put-next-2 c = omega arith
+
+put-next-requires-2 : tie.Need-put-next-requires-2 Inv-loop μ-loop
+put-next-requires-2 c κs =
+    let b = c .before .before .before .before in
+    omega (arith, b .put-next .ensures .1)
+
+add-s : tie.Need-add-s Inv-loop μ-loop
+add-s c = search needs
+
+loop-less : tie.Need-loop-less Inv-loop μ-loop
+loop-less c = search needs
+
+loop-again : tie.Need-loop-again Inv-loop μ-loop
+loop-again c =
+    let d = c .before .before in
+    let b = d .before .before .before .before .before in
+    let l = b .before .before .before .before in
+    let a = l .before .before in
+    let o = now (a .args .out) in (
+      omega arith,
+      d .put-next2 .ensures .1 ∙ b .put-next .ensures .1 ∙ l .loop .inv .1,
+      states-next (a .args .t2) (l .loop .s) (bitsOf o) (bitsOf (l .loop .out)) _ _
+          (omega (arith, length-bitsOf o))
+          (omega (arith, length-bitsOf o, length-bitsOf (l .loop .out), l .loop .inv .1))
+          (l .loop .inv .2) (b .put-next .ensures .0) (d .put-next2 .ensures .0),
+    )
+
+same-length : tie.Need-same-length Inv-loop μ-loop
+same-length c = c .before .loop .inv .1
+
+returns : tie.Need-returns Inv-loop μ-loop
+returns c =
+    let l = c .before in
+    let a = l .before .before .args in
+    let e : l .loop .s ≡ a .t2 .states = omega arith in (
+      l .loop .inv .2 ∙ ap (λ k. spliced 30 (statesBits (map (nextStatesAt (a .t2)) (range k)))
+          (bitsOf (now (a .out)))) e,
+      l .loop .inv .1,
+    )
+
+pub put-states-spec : {M : Type 1} → statement M
+put-states-spec =
+    tie.close
+    (tie.spec
+    Inv-loop
+    μ-loop
+    loop-holds
+    mul-put-next
+    add-put-next
+    element-copy-out-put-next
+    put-next-requires
+    mul-put-next-2
+    add-put-next-2
+    element-copy-out-put-next-2
+    put-next-requires-2
+    add-s
+    loop-less
+    loop-again
+    same-length
+    returns)

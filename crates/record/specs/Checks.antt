@@ -1,0 +1,73 @@
+-- A record's fields read and checked, before the two checks of the table: "8 below four bytes, header by 7, 8, the
+-- rest by 7"; and what values of the code's structs stand for.
+-- In order: headIn; codeAt, restGood, fieldsGood, fieldsChecked; verdictOf, outcomeIn; Judgeable, what the two
+-- checks of the table need; checkedOnly, what the checker answers.
+-- Assumes nothing.
+use mathlib.Core.Bool.{Bool}
+use mathlib.Core.List.{List, []}
+use Prim.Native.Nat.{ℕ, _≤_}
+use lib.Dec.{leb, eqb}
+use lib.ListN.{length}
+use Rattle.answer.specs.declared.Refusal.the-variants.{Field, Length}
+use Rattle.answer.specs.Outcomes.{Outcome, done, refused, unless, onward}
+use Rattle.bits.specs.Fields.{read, bitsOf}
+use Rattle.table.specs.Rows.{Code}
+use Rattle.table.specs.Formed.{Head}
+use Rattle.table.specs.declared.Table.{Table}
+use Rattle.table.specs.Value.{codeIn}
+use Rattle.table.specs.Obeying.{Followable}
+use Rattle.record.specs.declared.Front.{Front}
+use Rattle.record.specs.declared.Verdict.{Verdict}
+use Rattle.record.specs.declared.Verdict.the-variants.{Read, Bad}
+use Rattle.record.specs.declared.Reading.{Reading}
+use Rattle.record.specs.Layout.{header, headOf, size, widths, codeOf}
+use Rattle.record.specs.Parse.{goodHead, goodRest, parse}
+
+-- the numbers in front
+abbrev pub headIn : Front → Head
+headIn f = record {
+  p = f .p;
+  q = f .q;
+  states = f .states;
+  memory = f .memory;
+  lookahead = f .lookahead;
+  count = f .count;
+  start = f .start;
+}
+
+-- the code that the bits bs hold under the header h
+abbrev pub codeAt : Head → List ℕ → Code
+codeAt h bs = codeOf h (read (widths h) bs)
+
+-- the fields behind the header h are in range
+abbrev pub restGood : Head → List ℕ → Bool
+restGood h bs = goodRest h (read (widths h) bs) (codeAt h bs)
+
+-- l bytes with the header h and the bits bs: "header by 7, 8, the rest by 7"
+abbrev pub fieldsGood : ℕ → Head → List ℕ → Outcome Code
+fieldsGood l h bs =
+    unless Field (goodHead h) (unless Length (eqb l (size h)) (unless Field (restGood h bs) (done (codeAt h bs))))
+
+-- the code that the bytes' fields name, or the refusal: "8 below four bytes" first
+unfoldable pub fieldsChecked : List ℕ → Outcome Code
+fieldsChecked xs =
+    unless Length (leb 4 (length xs))
+    (let bs = bitsOf xs in fieldsGood (length xs) (headOf (read header bs)) bs)
+
+-- a verdict on the code c
+abbrev pub verdictOf : Verdict → Code → Outcome Code
+verdictOf Read c = done c
+verdictOf (Bad r) c = refused r
+
+-- what a reading comes to
+abbrev pub outcomeIn : Reading → Outcome Code
+outcomeIn r = verdictOf (r .verdict) (codeIn (r .table))
+
+-- a table whose fields are in range: its constraint can be followed, and its lookahead is at most 15
+pub record Judgeable (t : Table) : Type 0 where
+  pub follow : Followable t
+  pub ahead : t .lookahead ≤ 15
+
+-- the checker's outcome: a record that is accepted gives no bytes
+unfoldable pub checkedOnly : List ℕ → Outcome (List ℕ)
+checkedOnly xs = onward (parse xs) (λ c. done [])

@@ -1,0 +1,62 @@
+-- Where each field stands among the bits bs of a record, as the code finds it.
+-- In order: Small, numbers in front; nextIn, stateIn, the constraint; goodAt, its fields; edgesPlace, goodTargetAt,
+-- the edges; spot, an edge's place in a table's arrays; Column, an array of one field of every edge; Reach, its
+-- limits.
+-- Assumes nothing.
+use mathlib.Core.Bool.{Bool}
+use mathlib.Core.Path.{_≡_}
+use mathlib.Core.List.{List}
+use Prim.Native.Nat.{ℕ, _+_, _*_, _/_, _%_, _≤_, _<_}
+use lib.Dec.{ltb}
+use lib.ListN.{length, getD}
+use Rattle.bits.specs.Fields.{field}
+use Rattle.constraint.specs.Walking.{NextStates}
+use Rattle.table.specs.Formed.{Head}
+use Rattle.record.specs.Layout.{opened}
+use Rattle.record.specs.Parse.{goodField}
+
+-- numbers in front that fit a table's arrays
+pub record Small (h : Head) : Type 0 where
+  pub p₂ : h .p ≤ 4
+  pub q₂ : h .q ≤ 8
+  pub s₂ : h .states ≤ 128
+  pub k₂ : h .count ≤ 16
+
+-- the next state whose fields "present" and "next state" stand at the place o
+abbrev pub nextIn : List ℕ → ℕ → ℕ
+nextIn bs o = opened (field bs o 1) (field bs (o + 1) 4)
+
+-- the next states of constraint state s
+abbrev pub stateIn : List ℕ → ℕ → NextStates
+stateIn bs s = record { zero = nextIn bs (30 + s * 10); one = nextIn bs (35 + s * 10) }
+
+-- the i-th next state, two a constraint state of K, is in range
+abbrev pub goodAt : List ℕ → ℕ → ℕ → Bool
+goodAt bs K i = goodField K (field bs (30 + i * 5) 1) (field bs (30 + i * 5 + 1) 4)
+
+-- the place of the first edge
+abbrev pub edgesPlace : Head → ℕ
+edgesPlace h = 30 + h .count * 10
+
+-- the e-th edge, of those of all states, leads to a state
+abbrev pub goodTargetAt : List ℕ → Head → ℕ → Bool
+goodTargetAt bs h e = ltb (field bs (edgesPlace h + h .q + e * (h .q + 7)) 7) (h .states)
+
+-- where the e-th edge, n a state, stands in a table's arrays
+abbrev pub spot : ℕ → ℕ → ℕ
+spot n e = e / n * 16 + e % n
+
+-- the array holds the fields of w bits, one for each of k edges, the first at the place o and the others d bits apart
+pub record Column (bs : List ℕ) (n k o d w : ℕ) (a : List ℕ) : Type 0 where
+  pub whole : length a ≡ 2048
+  pub filled : (e : ℕ) → e < k → getD a (spot n e) 0 ≡ field bs (o + e * d) w
+
+-- k edges, n a state, that fit a table's arrays, with fields of w bits that end within l bits
+pub record Reach (l n k o d w : ℕ) : Type 0 where
+  pub some : 1 ≤ n
+  pub few : n ≤ 16
+  pub states : k ≤ 128 * n
+  pub width : w ≤ 8
+  pub apart : d ≤ 15
+  pub first : o ≤ 256
+  pub last : o + k * d + w ≤ l + d

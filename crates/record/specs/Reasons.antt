@@ -1,0 +1,47 @@
+-- Why a record's bytes come to an outcome: each refusal with the check that fails and those before it that pass.
+-- In order: headerOf, codeFrom, restOf; Reason.
+-- Assumes nothing.
+use mathlib.Core.Path.{_≡_}
+use mathlib.Core.Logic.{_≢_}
+use mathlib.Core.Bool.{Bool, true, false}
+use mathlib.Core.List.{List}
+use Prim.Native.Nat.{ℕ, _≤_, _<_}
+use lib.Dec.{T}
+use lib.ListN.{length}
+use Rattle.answer.specs.declared.Refusal.the-variants.{Field, Length, Disobeys, WindowFails}
+use Rattle.answer.specs.Outcomes.{Outcome, done, refused}
+use Rattle.bits.specs.Fields.{read, bitsOf}
+use Rattle.table.specs.Rows.{Code}
+use Rattle.table.specs.Works.{works}
+use Rattle.table.specs.Obeys.{obeys}
+use Rattle.table.specs.Formed.{Head}
+use Rattle.record.specs.Layout.{header, headOf, size}
+use Rattle.record.specs.Parse.{goodHead}
+use Rattle.record.specs.Checks.{codeAt, restGood}
+
+-- the numbers in front of the bytes
+abbrev pub headerOf : List ℕ → Head
+headerOf xs = headOf (read header (bitsOf xs))
+
+-- the code that the bytes' fields name
+abbrev pub codeFrom : List ℕ → Code
+codeFrom xs = codeAt (headerOf xs) (bitsOf xs)
+
+-- the bytes have a header in range and the length that it says
+pub record Sized (xs : List ℕ) : Type 0 where
+  pub long : 4 ≤ length xs
+  pub headed : T (goodHead (headerOf xs))
+  pub exact : length xs ≡ size (headerOf xs)
+
+-- "Record: 8 below four bytes, header by 7, 8, the rest by 7, 9, 10"
+pub data Reason (xs : List ℕ) : Outcome Code → Type 0 where
+  short : length xs < 4 → Reason xs (refused Length)
+  headless : 4 ≤ length xs → goodHead (headerOf xs) ≡ false → Reason xs (refused Field)
+  misfit : 4 ≤ length xs → T (goodHead (headerOf xs)) → length xs ≢ size (headerOf xs) → Reason xs (refused Length)
+  unranged : Sized xs → restGood (headerOf xs) (bitsOf xs) ≡ false → Reason xs (refused Field)
+  disobedient : Sized xs → T (restGood (headerOf xs) (bitsOf xs)) → obeys (codeFrom xs) ≡ false
+      → Reason xs (refused Disobeys)
+  windowless : Sized xs → T (restGood (headerOf xs) (bitsOf xs)) → T (obeys (codeFrom xs))
+      → works (codeFrom xs .table) (codeFrom xs .window) ≡ false → Reason xs (refused WindowFails)
+  accepted : Sized xs → T (restGood (headerOf xs) (bitsOf xs)) → T (obeys (codeFrom xs))
+      → T (works (codeFrom xs .table) (codeFrom xs .window)) → Reason xs (done (codeFrom xs))

@@ -1,0 +1,94 @@
+// The fields behind the header, read into a table's arrays.
+ghost use mathlib.Core.Path.{_≡_};
+ghost use mathlib.Core.List.{map};
+ghost use Prim.Native.Nat.{_+_, _*_, _≤_};
+ghost use lib.ListN.{length};
+ghost use Rattle.laws.specs.Lists.{range};
+ghost use Rattle.bits.specs.Fields.{bitsOf};
+ghost use Rattle.constraint.specs.Value.{constraintOf};
+ghost use Rattle.table.specs.Value.{codeIn};
+ghost use Rattle.record.specs.Layout.{size};
+ghost use Rattle.record.specs.Checks.{headIn, codeAt};
+ghost use Rattle.record.specs.Places.{nextIn, stateIn, Column, Reach, Small};
+use crate::Front;
+use constraint::Constraint;
+use table::Table;
+
+// The next state at the bit place `at`, 255 for none.
+fn next_of(bytes: &[u8], at: usize) -> u8
+    requires { ⌜ (at ≤ 65536) × (at + 5 ≤ 8 * length (now bytes)) ⌝ }
+    ensures answer { λ r. ⌜ r ≡ nextIn (bitsOf (now (bytes .entry))) at ⌝ }
+{
+    if bits::get(bytes, at, 1) == 0 {
+        return 255;
+    }
+    bits::get(bytes, at + 1, 4)
+}
+
+// The constraint of `count` states.
+pub fn states_of(bytes: &[u8], count: usize) -> Constraint
+    requires { ⌜ (count ≤ 16) × (30 + count * 10 ≤ 8 * length (now bytes)) ⌝ }
+    ensures answer { λ r. ⌜ constraintOf r ≡ map (stateIn (bitsOf (now (bytes .entry)))) (range count) ⌝ }
+    ensures kept { λ r. ⌜ r .states ≡ count ⌝ }
+{
+    let mut zero = [0u8; 16];
+    let mut one = [0u8; 16];
+    let mut s = 0;
+    while s < count {
+        zero[s] = next_of(bytes, 30 + s * 10);
+        one[s] = next_of(bytes, 35 + s * 10);
+        s += 1;
+    }
+    Constraint {
+        states: count,
+        zero: zero,
+        one: one,
+    }
+}
+
+// For each of `edges` edges, n a state, the field of `width` bits: the first at the bit place `first`, each of the
+// others `step` bits behind the one before.
+pub fn column(
+    bytes: &[u8],
+    n: usize,
+    edges: usize,
+    first: usize,
+    step: usize,
+    width: usize,
+) -> [u8; 2048]
+    requires { ⌜ Reach (8 * length (now bytes)) n edges first step width ⌝ }
+    ensures answer { λ r. ⌜ Column (bitsOf (now (bytes .entry))) n edges first step width r ⌝ }
+{
+    let mut a = [0u8; 2048];
+    let mut e = 0;
+    while e < edges {
+        a[e / n * 16 + e % n] = bits::get(bytes, first + e * step, width);
+        e += 1;
+    }
+    a
+}
+
+// The table of a record with the numbers f in front.
+pub fn table_of(bytes: &[u8], f: Front) -> Table
+    requires { ⌜ Small (headIn f) × (length (now bytes) ≡ size (headIn f)) ⌝ }
+    ensures answer { λ r. ⌜ codeIn r ≡ codeAt (headIn f) (bitsOf (now (bytes .entry))) ⌝ }
+{
+    let n = bits::power(f.p);
+    let edges = f.states * n;
+    let first = 30 + f.count * 10;
+    let step = f.q + 7;
+    let constraint = states_of(bytes, f.count);
+    let word = column(bytes, n, edges, first, step, f.q);
+    let next = column(bytes, n, edges, first + f.q, step, 7);
+    Table {
+        p: f.p,
+        q: f.q,
+        states: f.states,
+        memory: f.memory,
+        lookahead: f.lookahead,
+        constraint: constraint,
+        start: f.start,
+        word: word,
+        next: next,
+    }
+}

@@ -1,0 +1,88 @@
+//! Every call as a function from bytes to an answer.
+
+use crate::accept::load;
+use crate::answer::{Answer, Refusal, BAD_BYTE, FEW_WORDS, ROOM};
+use crate::compile::compile;
+use crate::job::Job;
+use crate::record::Record;
+use crate::{decode, encode, listing, sets};
+
+/// Compiles a job to a record. Order: 8, 1, K by 2, 8, next states by 2, 3, 4, 5, 6, 13.
+pub fn compile_job(job: &[u8], room: usize) -> Answer {
+    compiled(Job::general(job), room)
+}
+
+/// Compiles a run-length job to a record. Order: 8, 1, 2, 3, 4, 5, 6, 13.
+pub fn compile_run_length(job: &[u8], room: usize) -> Answer {
+    compiled(Job::run_length(job), room)
+}
+
+fn compiled(job: Result<Job, Refusal>, room: usize) -> Answer {
+    match job.and_then(|job| compile(&job)) {
+        Ok(record) => Answer::fitted(record.pack(), room),
+        Err(refusal) => Answer::refused(refusal, 0),
+    }
+}
+
+/// Checks a record. Order: 8, header by 7, 8, the rest by 7, 9, 10.
+pub fn check(record: &[u8]) -> Answer {
+    match load(record) {
+        Ok(_) => Answer::number(0),
+        Err(refusal) => Answer::refused(refusal, 0),
+    }
+}
+
+/// Records data blocks. Order: record, 13, 11.
+pub fn encode(record: &[u8], blocks: &[u8], room: usize) -> Answer {
+    match load(record) {
+        Ok(record) => encode_loaded(&record, blocks, room),
+        Err(refusal) => Answer::refused(refusal, 0),
+    }
+}
+
+/// Records data blocks under a record that is known to be good. Order: 13, 11.
+pub fn encode_loaded(record: &Record, blocks: &[u8], room: usize) -> Answer {
+    if blocks.len() + record.a > room {
+        return Answer::refused(ROOM, 0);
+    }
+    if let Some(place) = encode::first_bad(record, blocks) {
+        return Answer::refused(BAD_BYTE, place);
+    }
+    Answer::written(encode::words(record, blocks))
+}
+
+/// Decodes words. Order: record, 12, 13, 11.
+pub fn decode(record: &[u8], words: &[u8], room: usize) -> Answer {
+    match load(record) {
+        Ok(record) => decode_loaded(&record, words, room),
+        Err(refusal) => Answer::refused(refusal, 0),
+    }
+}
+
+/// Decodes words under a record that is known to be good. Order: 12, 13, 11.
+pub fn decode_loaded(record: &Record, words: &[u8], room: usize) -> Answer {
+    if words.len() < record.a {
+        return Answer::refused(FEW_WORDS, 0);
+    }
+    if words.len() - record.a > room {
+        return Answer::refused(ROOM, 0);
+    }
+    if let Some(place) = decode::first_bad(record, words) {
+        return Answer::refused(BAD_BYTE, place);
+    }
+    Answer::written(decode::blocks(record, words))
+}
+
+/// Walks a set: its count, or the refusal with the number of the record at which the walk ends.
+pub fn set(bytes: &[u8]) -> Answer {
+    match sets::walk(bytes) {
+        Ok(count) => Answer::number(count),
+        Err((refusal, number)) => Answer::refused(refusal, number),
+    }
+}
+
+/// The listing program's text for five bytes. A refused job has a text too, `refused` and the number, so that the
+/// only refusal of this call is 13, when the text does not fit.
+pub fn listing(job: &[u8], room: usize) -> Answer {
+    Answer::fitted(listing::text(job).into_bytes(), room)
+}

@@ -1,0 +1,28 @@
+//! An outside implementation of the sliding-block code workshop.
+//!
+//! It is written from the scope document ("the document" in all comments) and from the table of readings of its
+//! unclear places ("the readings"). It shares no code with the proved crates. `calls` holds every call as a
+//! function from bytes to an answer; the other modules follow the sections of the document.
+
+#![forbid(unsafe_code)]
+
+pub mod accept;
+pub mod answer;
+pub mod bits;
+pub mod calls;
+pub mod checksum;
+pub mod compile;
+pub mod component;
+pub mod constraint;
+pub mod decode;
+pub mod edges;
+pub mod encode;
+pub mod job;
+pub mod listing;
+pub mod record;
+pub mod sets;
+pub mod split;
+pub mod table;
+pub mod vectors;
+pub mod weights;
+pub mod window;

@@ -1,0 +1,137 @@
+//! The format of the file: writing it, and walking it again.
+
+use crate::answer::Answer;
+use crate::calls;
+
+pub const COMPILE_JOB: u8 = 1;
+pub const COMPILE_RUN_LENGTH: u8 = 2;
+pub const CHECK: u8 = 3;
+pub const ENCODE: u8 = 4;
+pub const DECODE: u8 = 5;
+pub const SET: u8 = 6;
+pub const LISTING: u8 = 7;
+
+/// Room enough for every record.
+pub const RECORD_ROOM: usize = 4096;
+
+/// Makes one call.
+pub fn call(kind: u8, room: usize, first: &[u8], second: &[u8]) -> Answer {
+    match kind {
+        COMPILE_JOB => calls::compile_job(first, room),
+        COMPILE_RUN_LENGTH => calls::compile_run_length(first, room),
+        CHECK => calls::check(first),
+        ENCODE => calls::encode(first, second, room),
+        DECODE => calls::decode(first, second, room),
+        SET => calls::set(first),
+        LISTING => calls::listing(first, room),
+        _ => panic!("no such kind"),
+    }
+}
+
+/// A file in the making.
+#[derive(Default)]
+pub struct File {
+    bytes: Vec<u8>,
+}
+
+impl File {
+    /// Adds one case with its answer, and hands the answer back.
+    pub fn add(&mut self, kind: u8, room: usize, first: &[u8], second: &[u8]) -> Answer {
+        let answer = call(kind, room, first, second);
+        self.bytes.push(kind);
+        self.two(room);
+        self.counted(first);
+        self.counted(second);
+        self.bytes.push(answer.refusal);
+        self.bytes.extend_from_slice(&answer.value.to_be_bytes());
+        self.counted(&answer.output);
+        answer
+    }
+
+    /// Adds a case whose output fits exactly and, if it writes anything, the same with one byte too few.
+    pub fn add_exact(&mut self, kind: u8, first: &[u8], second: &[u8]) -> Answer {
+        let length = call(kind, usize::from(u16::MAX), first, second).output.len();
+        let answer = self.add(kind, length, first, second);
+        if length > 0 {
+            self.add(kind, length - 1, first, second);
+        }
+        answer
+    }
+
+    pub fn check(&mut self, record: &[u8]) -> Answer {
+        self.add(CHECK, 0, record, &[])
+    }
+
+    pub fn set(&mut self, set: &[u8]) -> Answer {
+        self.add(SET, 0, set, &[])
+    }
+
+    /// The bytes so far.
+    pub fn len(&self) -> usize {
+        self.bytes.len()
+    }
+
+    pub fn is_empty(&self) -> bool {
+        self.bytes.is_empty()
+    }
+
+    /// The whole file, ended by a kind byte 0.
+    pub fn ended(mut self) -> Vec<u8> {
+        self.bytes.push(0);
+        self.bytes
+    }
+
+    fn two(&mut self, number: usize) {
+        let number = u16::try_from(number).expect("a number of two bytes");
+        self.bytes.extend_from_slice(&number.to_be_bytes());
+    }
+
+    fn counted(&mut self, bytes: &[u8]) {
+        self.two(bytes.len());
+        self.bytes.extend_from_slice(bytes);
+    }
+}
+
+/// One case read from a file.
+#[derive(Debug, PartialEq, Eq)]
+pub struct Case {
+    pub kind: u8,
+    pub room: usize,
+    pub first: Vec<u8>,
+    pub second: Vec<u8>,
+    pub answer: Answer,
+}
+
+/// Walks a file from its first byte to the kind byte 0.
+pub struct Walk<'a>(pub &'a [u8]);
+
+impl Walk<'_> {
+    fn number(&mut self, bytes: usize) -> usize {
+        let (taken, rest) = self.0.split_at(bytes);
+        self.0 = rest;
+        taken.iter().fold(0, |number, byte| number << 8 | usize::from(*byte))
+    }
+
+    fn counted(&mut self) -> Vec<u8> {
+        let length = self.number(2);
+        let (taken, rest) = self.0.split_at(length);
+        self.0 = rest;
+        taken.to_vec()
+    }
+}
+
+impl Iterator for Walk<'_> {
+    type Item = Case;
+
+    fn next(&mut self) -> Option<Case> {
+        let kind = self.number(1) as u8;
+        if kind == 0 {
+            return None;
+        }
+        let room = self.number(2);
+        let (first, second) = (self.counted(), self.counted());
+        let (refusal, value) = (self.number(1) as u8, self.number(4) as u32);
+        let answer = Answer { refusal, value, output: self.counted() };
+        Some(Case { kind, room, first, second, answer })
+    }
+}

@@ -1,0 +1,34 @@
+//! The file of test vectors: a deterministic choice of inputs with the answers of this implementation.
+
+pub mod coding;
+pub mod damage;
+pub mod file;
+pub mod fixed;
+pub mod foreign;
+pub mod groups;
+pub mod jobs;
+pub mod pool;
+pub mod random;
+pub mod records;
+
+use file::File;
+use random::Random;
+
+/// The bytes of the whole file. Scale 1 is the default size; the random parts grow with the scale.
+pub fn generate(scale: usize) -> Vec<u8> {
+    let mut file = File::default();
+    let mut random = Random::seeded(1);
+    fixed::add(&mut file);
+    jobs::add(&mut file, &mut random, scale);
+    let pool = pool::Pool::gather(&mut random, scale);
+    records::add(&mut file, &mut random, &pool, scale);
+    coding::add(&mut file, &mut random, &pool, scale);
+    groups::add(&mut file, &mut random, &pool, scale);
+    file.ended()
+}
+
+/// Bytes written in hexadecimal, blanks between them left out of account.
+pub fn hex(text: &str) -> Vec<u8> {
+    let digits: Vec<u8> = text.chars().filter_map(|c| c.to_digit(16)).map(|digit| digit as u8).collect();
+    digits.chunks_exact(2).map(|pair| pair[0] << 4 | pair[1]).collect()
+}
