@@ -54,3 +54,4 @@ pub mod CodeClosure
 pub mod CodeRank
 pub mod CodePut
 pub mod CodeTable
+pub mod CodeChain
