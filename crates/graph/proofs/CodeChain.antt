@@ -12,7 +12,7 @@ use Rattle.laws.specs.Lists.{sum}
 use Rattle.graph.specs.declared.Graph.{Graph}
 use Rattle.graph.specs.declared.split_graph.NextGraph.{NextGraph}
 use Rattle.graph.specs.declared.component_graph.ComponentAnswer.{ComponentAnswer}
-use Rattle.graph.specs.Arcs.{Arc, Work, out}
+use Rattle.graph.specs.Arcs.{Arc, out}
 use Rattle.graph.specs.Component.{componentGraph}
 use Rattle.graph.specs.Splitting.{splitAll}
 use Rattle.graph.specs.Invariant.{Inv}
@@ -48,9 +48,9 @@ finished-from n g p h r a e =
     let w : workIn (r .graph) ≡ splitAll n (workIn g) = a .work e in
     let i = splitted-end n (sum (weightsIn g)) (p .some) (workIn g) (p .inv) .0 in
     let k : length (splitAll n (workIn g) .weights) ≡ r .graph .states =
-        ap (λ x. length (x .weights)) (sym w) ∙ length-map-range (weightAt (r .graph)) (r .graph .states) in
+    ap (λ x. length (x .weights)) (sym w) ∙ length-map-range (weightAt (r .graph)) (r .graph .states) in
     let m : length (splitAll n (workIn g) .arcs) ≤ 2048 =
-        ltb-false 2048 (length (splitAll n (workIn g) .arcs)) (sym (a .crowds) ∙ e) in
+    ltb-false 2048 (length (splitAll n (workIn g) .arcs)) (sym (a .crowds) ∙ e) in
     record {
       fits = a .fits e;
       some = omega (arith, k, some-states (splitAll n (workIn g) .weights) (omega (arith, i .whole)));
