@@ -1,4 +1,5 @@
 pub mod CodeKeys
+pub mod CodePast
 pub mod CodeCarry
 pub mod Arcs
 pub mod Exchange
