@@ -1,7 +1,6 @@
 -- All splits: counting edges of states, and the loop.
 -- In order: Counted, counted-none, counted-more; unfinished-yes, unfinished-no; Going, going-start, going-splits,
--- going-on,
--- going-crowded, going-end.
+-- going-on, going-crowded, going-end.
 -- Assumes nothing.
 use mathlib.Core.Path.{_≡_, refl, sym, ap, ap₂, subst, _∙_}
 use mathlib.Core.Bool.{Bool, true, false, not, _&&_}

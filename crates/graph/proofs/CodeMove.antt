@@ -1,7 +1,6 @@
 -- Moving the edges of a state that the run does not keep.
 -- In order: map-map-range; Resourced, sources as f says below i; withSource; resource-none, resource-put,
--- resource-stay;
--- newSource, new-off, new-kept, new-moved; resource-end.
+-- resource-stay; newSource, new-off, new-kept, new-moved; resource-end.
 -- Assumes nothing.
 use mathlib.Core.Path.{_≡_, refl, sym, ap, ap₂, _∙_}
 use mathlib.Core.Bool.{Bool, true, false, not, _&&_}

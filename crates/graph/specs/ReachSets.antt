@@ -1,4 +1,5 @@
--- Sets of at most 16 states, one beside the other in a list of 256 places: place t * 16 + s says whether s can reach t.
+-- Sets of at most 16 states, one beside the other in a list of 256 places: place t * 16 + s says whether s can reach
+-- t.
 -- In order: rowOf, rowsOf; linksInto, Linked, edges as such a list; Members, the states of the component and their
 -- numbers.
 -- Assumes nothing.

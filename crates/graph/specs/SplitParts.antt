@@ -1,7 +1,6 @@
 -- What the parts of a split answer.
 -- In order: lowerSource; runIn, RunTo, FirstRun, what a search for a run finds; keptArcs; Moved, Doubled, Weighed,
--- the steps
--- of a split; entering, PartedInto, SplitInto, the answer of a split; Splits, SplitAllInto, all splits.
+-- the steps of a split; entering, PartedInto, SplitInto, the answer of a split; Splits, SplitAllInto, all splits.
 -- Assumes nothing.
 use mathlib.Core.Path.{_≡_}
 use mathlib.Core.Bool.{true, false, _&&_}

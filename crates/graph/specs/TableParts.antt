@@ -1,5 +1,6 @@
 -- What the parts of making the table answer.
--- In order: Finished; Open; enteredBy; rank; rowEdge, rowsOfTable, the rows of a value of `TableRows`; TableIn; RowPut.
+-- In order: Finished; Open; enteredBy; rank; rowEdge, rowsOfTable, the rows of a value of `TableRows`; TableIn;
+-- RowPut.
 -- Assumes nothing.
 use mathlib.Core.Path.{_≡_}
 use mathlib.Core.Bool.{Bool, true, false, not, _&&_}

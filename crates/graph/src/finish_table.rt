@@ -1,6 +1,5 @@
 // "Table. Each state keeps its first n edges in order of word, then target; they carry data 0 to n − 1. States not
-// reachable
-// from the start are removed, the others renumbered in order."
+// reachable from the start are removed, the others renumbered in order."
 use crate::Graph;
 use crate::keys::Keys;
 use crate::keys::first_edges;

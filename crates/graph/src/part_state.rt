@@ -1,6 +1,5 @@
 // "s keeps the run's edges and weight w; a new last state takes all other edges of s and weight M − w. Then every
-// edge into s
-// becomes two, to s and to the new state."
+// edge into s becomes two, to s and to the new state."
 use crate::Graph;
 use crate::choose::candidate_keys;
 use crate::find_run::Run;
