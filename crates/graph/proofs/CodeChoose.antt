@@ -1,24 +1,23 @@
 -- The greatest weight and the state to split, each by one loop.
 -- In order: greatest-more; Lowest, the lowest source of an edge that passes; lowest-none, lowest-more; choose-is.
 -- Assumes nothing.
-use mathlib.Core.Path.{_≡_, refl, sym, ap, ap₂, subst, _∙_}
+use mathlib.Core.Path.{_≡_, refl, sym, ap, subst, _∙_}
 use mathlib.Core.Logic.{_⊎_, inl, inr}
 use mathlib.Core.Bool.{Bool, true, false, _&&_}
 use mathlib.Core.List.{List, [], _∷_, _++_, map}
-use Prim.Native.Nat.{ℕ, zero, suc, _+_, _≤_, _<_, max, min}
+use Prim.Native.Nat.{ℕ, _+_, _≤_, _<_, max, min}
 use native.Mathlib.Omega.{arith}
 use native.Mathlib.Decide.{ℕ-discrete}
 use lib.Dec.{T, ltb, eqb, eqb→eq, eqb-refl}
 use lib.ListN.{length, getD}
-use Rattle.laws.specs.Lists.{if_then_else_, range, any, first}
+use Rattle.laws.specs.Lists.{if_then_else_, range, any}
 use Rattle.laws.proofs.Tests.{and→, →and, any→, →any, any-below→, T→true, map-range-at}
 use Rattle.laws.proofs.Anys.{any-filter}
 use Rattle.graph.specs.declared.Graph.{Graph}
-use Rattle.graph.specs.Arcs.{Arc, arc, leaves, out}
+use Rattle.graph.specs.Arcs.{arc, leaves, out}
 use Rattle.graph.specs.Splitting.{greatest, lighter, splittable, chosen}
 use Rattle.graph.specs.Value.{arcAt, arcsIn, weightAt, weightsIn}
 use Rattle.graph.specs.EdgeKeys.{Fits}
-use Rattle.graph.specs.SplitParts.{lowerSource}
 use Rattle.graph.proofs.CodeLists.{length-map-range, map-range-more}
 use Rattle.graph.proofs.CodeFind.{first-least}
 
@@ -140,8 +139,10 @@ module _ (g : Graph) (M : ℕ) where
             absurd (omega (arith, w .low k hk u, f .few, f .source k hk))
         go (i, h, u) (inr (k, hk, y, q)) =
             let l : best < g .states = subst (λ x. x < g .states) q (f .source k hk) in
-            let z : T (splittable v (arcsIn g) best) = subst (λ x. T (splittable v (arcsIn g) x)) q (→splits k hk y) in (
-              sym (first-least (splittable v (arcsIn g)) 0 (length v) best (λ s b. none s b l (splittable v (arcsIn g) s) refl)
+            let z : T (splittable v (arcsIn g) best) = subst (λ x. T (splittable v (arcsIn g) x)) q
+            (→splits k hk y) in (
+              sym (first-least (splittable v (arcsIn g)) 0 (length v) best
+                  (λ s b. none s b l (splittable v (arcsIn g) s) refl)
                   (rw K l) (T→true (splittable v (arcsIn g) best) z)),
               l,
             )

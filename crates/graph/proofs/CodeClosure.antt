@@ -1,24 +1,24 @@
--- The states reachable from the start by the first edges of each state, by following the edges of one state after the other.
--- In order: put-member, any-take-more; row-keys; opens, opens-less; Forward, forward-start, forward-step, forward-end.
+-- The states reachable from the start by the first edges of each state, by following the edges of one state after the
+-- other.
+-- In order: row-keys, row-inside; Forward, forward-start, forward-step, forward-end; row-stays.
 -- Assumes nothing.
-use mathlib.Core.Path.{_≡_, refl, sym, ap, ap₂, subst, _∙_}
+use mathlib.Core.Path.{_≡_, refl, sym, ap, subst, _∙_}
 use mathlib.Core.Logic.{_⊎_, inl, inr}
-use mathlib.Core.Bool.{Bool, true, false, not, _&&_, _||_, or-true, or-false, or-assoc}
-use mathlib.Core.List.{List, [], _∷_, _++_, map}
-use Prim.Native.Nat.{ℕ, zero, suc, _+_, _-_, _*_, _%_, _≤_, _<_}
-use native.Mathlib.Numerals.{add-one}
+use mathlib.Core.Bool.{Bool, true, false, not, _&&_, _||_}
+use mathlib.Core.List.{List, [], _∷_, map}
+use Prim.Native.Nat.{ℕ, _-_, _%_, _<_}
 use native.Mathlib.Omega.{arith}
 use native.Mathlib.Decide.{ℕ-discrete}
-use borrow.Author.Tests.{lt-ltb, eq-eqb, ne-eqb}
-use lib.Dec.{T, ltb, eqb, eqb→eq, eqb-refl}
-use lib.ListN.{length, getD, take, set, length-set, replicate, length-replicate, getD-replicate}
-use lib.Seq.{take-suc, getD-set-same, getD-set-other}
-use Rattle.laws.specs.Lists.{if_then_else_, range, filter, any, concat}
+use borrow.Author.Tests.{lt-ltb, ne-eqb}
+use lib.Dec.{T, eqb, eqb→eq, eqb-refl}
+use lib.ListN.{length, getD, take, set, length-set}
+use lib.Seq.{getD-set-other}
+use Rattle.laws.specs.Lists.{range, filter, any, concat}
 use Rattle.laws.specs.Sets.{member}
 use Rattle.laws.specs.Sums.{Each}
-use Rattle.laws.proofs.Tests.{or→, →orL, →orR, bool-eq, T→true, range-at, length-from}
+use Rattle.laws.proofs.Tests.{or→, →orL, →orR, bool-eq, range-at, length-from}
 use Rattle.laws.proofs.Sums.{each-map, each-both, each-filter, each-take, each-any, any-each}
-use Rattle.laws.proofs.Anys.{any-map, any-append, each-union, each-range}
+use Rattle.laws.proofs.Anys.{any-map, each-union, each-range}
 use Rattle.laws.proofs.Elems.{each-at}
 use Rattle.graph.specs.declared.Graph.{Graph}
 use Rattle.graph.specs.Arcs.{Arc, leaves, enters, out}
@@ -26,41 +26,16 @@ use Rattle.graph.specs.Splitting.{sort}
 use Rattle.graph.specs.Component.{reachings, reaches}
 use Rattle.graph.specs.TableOf.{row, firstEdges}
 use Rattle.graph.specs.Invariant.{Inside, Stays}
-use Rattle.graph.specs.Value.{arcAt, arcsIn, weightAt, weightsIn, workIn}
+use Rattle.graph.specs.Value.{arcsIn, weightAt, weightsIn, workIn}
 use Rattle.graph.specs.EdgeKeys.{arcOf, keysFrom, admitted, firstKeys}
-use Rattle.graph.specs.TableParts.{Finished, Open, enteredBy}
+use Rattle.graph.specs.TableParts.{Finished, enteredBy}
 use Rattle.graph.proofs.Reach.{Reaching, reaches-is, reach-trans, reach-edge}
 use Rattle.graph.proofs.Candidates.{each-sort}
 use Rattle.graph.proofs.TableOf.{union-each}
 use Rattle.graph.proofs.CodeLists.{length-map-range}
 use Rattle.graph.proofs.CodeCandidates.{filter-same, sort-keys, keys-small, weights-small}
 use Rattle.graph.proofs.CodeRun.{map-take}
-use Rattle.graph.proofs.CodeState.{fits-arcs, Bounded}
-
--- ---- marking
-pub put-member : (R : List Bool) (y x : ℕ) → y < length R → member (set R y true) x ≡ (member R x || eqb y x)
-put-member R y x h = go (ℕ-discrete x y)
-  where
-    go : Dec (x ≡ y) → member (set R y true) x ≡ (member R x || eqb y x)
-    go (yes q) =
-        rw q (getD-set-same R y true false h ∙ sym (ap (λ b. member R y || b) (eq-eqb y y refl) ∙ or-true (member R y)))
-    go (no q) =
-        getD-set-other R y x true false q
-        ∙ sym (ap (λ b. member R x || b) (ne-eqb y x (λ e. q (sym e))) ∙ or-false (member R x))
-
-pub any-take-more : (p : ℕ → Bool) (L : List ℕ) (i : ℕ) → i < length L
-    → any p (take (i + 1) L) ≡ (any p (take i L) || p (getD L i 0))
-any-take-more p L i h =
-    ap (any p) (ap (λ n. take n L) (add-one i) ∙ take-suc L i 0 h) ∙ any-append p (take i L) (getD L i 0 ∷ [])
-    ∙ ap (λ b. any p (take i L) || b) (or-false (p (getD L i 0)))
-
-pub mark-more : (S R : List Bool) (K : List ℕ) (i : ℕ) → length R ≡ 128 → i < length K → getD K i 0 % 128 < 128
-    → ((x : ℕ) → member R x ≡ (member S x || any (enteredBy x) (take i K)))
-    → (x : ℕ) → member (set R (getD K i 0 % 128) true) x ≡ (member S x || any (enteredBy x) (take (i + 1) K))
-mark-more S R K i l h b f x =
-    put-member R (getD K i 0 % 128) x (rw l b) ∙ ap (λ c. c || eqb (getD K i 0 % 128) x) (f x)
-    ∙ or-assoc (member S x) (any (enteredBy x) (take i K)) (enteredBy x (getD K i 0))
-    ∙ ap (λ c. member S x || c) (sym (any-take-more (enteredBy x) K i h))
+use Rattle.graph.proofs.CodeFits.{fits-arcs, Bounded}
 
 -- ---- the first edges of a state, by their keys
 filter-all : {A : Type 0} (l : List A) → filter (λ x. true) l ≡ l
@@ -74,13 +49,15 @@ module _ (n : ℕ) (g : Graph) (F : Finished n g) where
       let ks = keysFrom (arcsIn g) s in
       map-take (arcOf s) n (filter (admitted (weightsIn g) 256 65535) ks)
       ∙ ap (take n) (ap (map (arcOf s)) (filter-same (admitted (weightsIn g) 256 65535) (λ k. true) ks
-          (each-map (λ k. k < 32768) _ passes ks (keys-small g s (F .fits))) ∙ filter-all ks)
+      (each-map (λ k. k < 32768) _ passes ks (keys-small g s (F .fits))) ∙ filter-all ks)
       ∙ sym (sort-keys g s (F .fits)))
     where
       passes : (k : ℕ) → k < 32768 → admitted (weightsIn g) 256 65535 k ≡ true
       passes k h =
-          rw (lt-ltb (getD (weightsIn g) (k % 128) 0) 256 (weights-small g s (F .fits) (k % 128)),
-          ne-eqb k 65535 (λ e. omega arith))
+          rw (
+            lt-ltb (getD (weightsIn g) (k % 128) 0) 256 (weights-small g s (F .fits) (k % 128)),
+            ne-eqb k 65535 (λ e. omega arith),
+          )
 
   abbrev K : ℕ
   K = g .states
@@ -107,7 +84,8 @@ module _ (n : ℕ) (g : Graph) (F : Finished n g) where
   inside : Each (Inside K) es
   inside =
       subst (Each (Inside K)) (sym es-rows) (each-union (Inside K) (row n (arcsIn g)) (range K)
-      (each-map (λ s. s < K) _ (λ s h. each-map _ (Inside K) (λ e b. b .0) (row n (arcsIn g) s) (row-inside s)) (range K)
+      (each-map (λ s. s < K) _ (λ s h. each-map _ (Inside K) (λ e b. b .0) (row n (arcsIn g) s) (row-inside s))
+      (range K)
       (each-range K)))
 
   R : Reaching K es reach
@@ -118,7 +96,7 @@ module _ (n : ℕ) (g : Graph) (F : Finished n g) where
       subst (λ x. Each (λ e. T (reach (e .source) (e .target))) (row n (arcsIn g) x)) (range-at K s h)
       (each-at (λ s. Each (λ e. T (reach (e .source) (e .target))) (row n (arcsIn g) s)) 0 (range K)
       (union-each (λ e. T (reach (e .source) (e .target))) (row n (arcsIn g)) (range K)
-          (subst (Each (λ e. T (reach (e .source) (e .target)))) es-rows (reach-edge K es reach R inside)))
+      (subst (Each (λ e. T (reach (e .source) (e .target)))) es-rows (reach-edge K es reach R inside)))
       s (rw (length-from 0 K) h))
 
   pub record Forward (S D : List Bool) : Type 0 where
@@ -131,7 +109,9 @@ module _ (n : ℕ) (g : Graph) (F : Finished n g) where
   pub forward-start : (S D : List Bool) → length S ≡ 128 → length D ≡ 128 → ((x : ℕ) → member S x ≡ (false || eqb 0 x))
       → ((x : ℕ) → member D x ≡ false) → Forward S D
   forward-start S D a b f d = record {
-    longS = a; longD = b; zeroth = rw (f 0) tt;
+    longS = a;
+    longD = b;
+    zeroth = rw (f 0) tt;
     closed = λ s h t. absurd (subst T (d s) t);
     sound = λ t h u. subst (λ x. T (reach 0 x)) (eqb→eq 0 t (subst T (f t) u)) (R .self 0 (F .some));
   }
@@ -147,7 +127,8 @@ module _ (n : ℕ) (g : Graph) (F : Finished n g) where
     grows : (x : ℕ) → T (member S x) → T (member S′ x)
     grows x t = rw (marks-row x) (→orL (member S x) (any (enters x) (row n (arcsIn g) s)) t)
 
-    each-entered : (r : List Arc) → ((e : Arc) → Each (λ f. T (enters (e .target) f) → T (any (enters (e .target)) r)) r)
+    each-entered : (r : List Arc) → ((e : Arc)
+        → Each (λ f. T (enters (e .target) f) → T (any (enters (e .target)) r)) r)
         → Each (λ e. T (any (enters (e .target)) r)) r
     each-entered r f = go r (λ e. f e)
       where
@@ -160,7 +141,7 @@ module _ (n : ℕ) (g : Graph) (F : Finished n g) where
     own =
         each-map (λ e. T (any (enters (e .target)) (row n (arcsIn g) s))) (λ e. T (member S′ (e .target)))
         (λ e t. rw (marks-row (e .target))
-            (→orR (member S (e .target)) (any (enters (e .target)) (row n (arcsIn g) s)) t))
+        (→orR (member S (e .target)) (any (enters (e .target)) (row n (arcsIn g) s)) t))
         (row n (arcsIn g) s)
         (each-entered (row n (arcsIn g) s) (λ e. each-any (enters (e .target)) (row n (arcsIn g) s)))
 
@@ -179,13 +160,15 @@ module _ (n : ℕ) (g : Graph) (F : Finished n g) where
         go x h (no q) t =
             each-map (λ e. T (member S (e .target))) (λ e. T (member S′ (e .target))) (λ e u. grows (e .target) u)
             (row n (arcsIn g) x) (c .closed x h (subst T (getD-set-other D s x true false q) t))
+
         found : (t : ℕ) → t < K → T (member S t) ⊎ T (any (enters t) (row n (arcsIn g) s)) → T (reach 0 t)
         found t h (inl u) = c .sound t h u
         found t h (inr u) =
-            let (e, q, (a, b)) = any-each (enters t) (λ e. T (reach (e .source) (e .target)) × (Inside K e × (e .source ≡ s)))
-                (row n (arcsIn g) s) u
-                (each-both (λ e. T (reach (e .source) (e .target))) (λ e. Inside K e × (e .source ≡ s)) (row n (arcsIn g) s)
-                (row-reach s hs) (row-inside s)) in
+            let (e, q, (a, b)) = any-each (enters t)
+            (λ e. T (reach (e .source) (e .target)) × (Inside K e × (e .source ≡ s)))
+            (row n (arcsIn g) s) u
+            (each-both (λ e. T (reach (e .source) (e .target))) (λ e. Inside K e × (e .source ≡ s)) (row n (arcsIn g) s)
+            (row-reach s hs) (row-inside s)) in
             let p : e .target ≡ t = eqb→eq (e .target) t q in
             reach-trans K es reach R inside 0 s t hs h (c .sound s hs in-S)
             (subst (λ y. T (reach y t)) (b .1) (subst (λ y. T (reach (e .source) y)) p a))
@@ -202,6 +185,7 @@ module _ (n : ℕ) (g : Graph) (F : Finished n g) where
           go true true u e = tt
           go true false u e = absurd (subst T e tt)
           go false b u e = absurd u
+
       one : (s : ℕ) → s < K → (b : Bool) → member S s ≡ b → Each (Stays (member S)) (row n (arcsIn g) s)
       one s h true e =
           each-map (λ a. T (member S (a .target))) (Stays (member S)) (λ a u v. u) (row n (arcsIn g) s)
@@ -209,6 +193,7 @@ module _ (n : ℕ) (g : Graph) (F : Finished n g) where
       one s h false e =
           each-map (λ a. Inside K a × (a .source ≡ s)) (Stays (member S))
           (λ a b v. absurd (subst T (ap (member S) (b .1) ∙ e) v)) (row n (arcsIn g) s) (row-inside s)
+
       stays : Each (Stays (member S)) es
       stays =
           subst (Each (Stays (member S))) (sym es-rows) (each-union (Stays (member S)) (row n (arcsIn g)) (range K)
@@ -221,57 +206,13 @@ module _ (n : ℕ) (g : Graph) (F : Finished n g) (S : List Bool)
       → Each (λ e. T (member S (e .target)) × (e .target < g .states)) (row n (arcsIn g) s)
   row-stays s h u =
       each-map _ (λ e. T (member S (e .target)) × (e .target < g .states))
-      (λ e b. (rw (is (e .target) (b .1 .0 .1))
-          (reach-trans (g .states) (es n g F) (reach n g F) (R n g F) (inside n g F) 0 s (e .target) h (b .1 .0 .1)
-          (rw (is s h) at u) (subst (λ y. T (reach n g F y (e .target))) (b .1 .1) (b .0))), b .1 .0 .1))
+      (λ e b. (
+        rw (is (e .target) (b .1 .0 .1))
+            (reach-trans (g .states) (es n g F) (reach n g F) (R n g F) (inside n g F) 0 s (e .target) h (b .1 .0 .1)
+            (rw (is s h) at u) (subst (λ y. T (reach n g F y (e .target))) (b .1 .1) (b .0))),
+        b .1 .0 .1,
+      ))
       (row n (arcsIn g) s)
-      (each-both (λ e. T (reach n g F (e .source) (e .target))) (λ e. Inside (g .states) e × (e .source ≡ s)) (row n (arcsIn g) s)
+      (each-both (λ e. T (reach n g F (e .source) (e .target))) (λ e. Inside (g .states) e × (e .source ≡ s))
+      (row n (arcsIn g) s)
       (row-reach n g F s h) (row-inside n g F s))
-
--- ---- how many of the first k are not done
-abbrev unit : Bool → ℕ
-unit true = 0
-unit false = 1
-
-pub opens : List Bool → ℕ → ℕ
-opens D zero = 0
-opens D (suc k) = unit (member D k) + opens D k
-
-opens-same : (D : List Bool) (s k : ℕ) → k ≤ s → opens (set D s true) k ≡ opens D k
-unfolding opens
-opens-same D s zero h = refl
-opens-same D s (suc k) h =
-    ap₂ (λ b m. unit b + m) (getD-set-other D s k true false (λ e. omega arith)) (opens-same D s k (omega arith))
-
-pub opens-less : (D : List Bool) (s k : ℕ) → s < k → s < length D → member D s ≡ false → opens (set D s true) k < opens D k
-unfolding opens
-opens-less D s zero h l e = absurd (omega arith)
-opens-less D s (suc k) h l e = go (ℕ-discrete k s) (λ b. opens-less D s k b l e)
-  where
-    go : Dec (k ≡ s) → (s < k → opens (set D s true) k < opens D k)
-        → unit (member (set D s true) k) + opens (set D s true) k < unit (member D k) + opens D k
-    go (yes q) r =
-        let a : unit (member (set D s true) k) ≡ 0 =
-            ap unit (ap (member (set D s true)) q ∙ getD-set-same D s true false l) in
-        let b : unit (member D k) ≡ 1 = ap unit (ap (member D) q ∙ e) in
-        let d = opens-same D s k (omega arith) in
-        omega arith
-    go (no q) r =
-        let a : unit (member (set D s true) k) ≡ unit (member D k) =
-            ap unit (getD-set-other D s k true false q) in
-        omega (arith, r (omega arith))
-
--- a set without members
-pub blank-none : (k x : ℕ) → member (replicate k false) x ≡ false
-blank-none zero x = refl
-blank-none (suc k) zero = refl
-blank-none (suc k) (suc x) = blank-none k x
-
-pub open-set : (a b : Bool) → (a && not b) ≡ true → T a
-open-set true b e = tt
-open-set false b e = absurd (let z : _≡_ {A = ℕ} 0 1 = cc in omega arith)
-
-pub open-done : (a b : Bool) → (a && not b) ≡ true → b ≡ false
-open-done true false e = refl
-open-done true true e = absurd (let z : _≡_ {A = ℕ} 0 1 = cc in omega arith)
-open-done false b e = absurd (let z : _≡_ {A = ℕ} 0 1 = cc in omega arith)

@@ -1,13 +1,13 @@
 -- The first that passes, of a list made of the numbers below a bound.
 -- In order: first-least, first-at; first-front, first-back, first-part, first-none.
 -- Assumes nothing.
-use mathlib.Core.Path.{_≡_, refl, sym, ap, ap₂, subst, _∙_}
-use mathlib.Core.Bool.{Bool, true, false, _||_}
+use mathlib.Core.Path.{_≡_, refl, sym, ap, subst, _∙_}
+use mathlib.Core.Bool.{Bool, true, false}
 use mathlib.Core.List.{List, [], _∷_, _++_, map}
-use Prim.Native.Nat.{ℕ, zero, suc, _+_, _≤_, _<_}
+use Prim.Native.Nat.{ℕ, zero, suc, _+_, _<_}
 use native.Mathlib.Nat.{add-zero, zero-add, not-suc-le-zero}
 use native.Mathlib.Omega.{arith}
-use Rattle.laws.specs.Lists.{if_then_else_, from, range, any, first, concat}
+use Rattle.laws.specs.Lists.{from, range, any, first, concat}
 
 module _ {A : Type 0} (p : A → Bool) (d : A) where
   pub first-yes : (x : A) (l : List A) → p x ≡ true → first p d (x ∷ l) ≡ x
@@ -37,7 +37,8 @@ module _ {A : Type 0} (p : A → Bool) (d : A) where
     where
       go : (b : Bool) → p x ≡ b → (any p k ≡ false → first p d (k ++ l) ≡ first p d l)
           → first p d (x ∷ k ++ l) ≡ first p d l
-      go true q r = absurd (let y : true ≡ false = sym (any-yes x k q) ∙ e in let z : _≡_ {A = ℕ} 0 1 = cc in omega arith)
+      go true q r = absurd (let y : true ≡ false = sym (any-yes x k q) ∙ e in let z : _≡_ {A = ℕ} 0 1 = cc in
+          omega arith)
       go false q r = first-no x (k ++ l) q ∙ r (sym (any-no x k q) ∙ e)
 
   -- ---- f i is the first of f 0, f 1, .. that passes

@@ -1,20 +1,20 @@
 -- The component by value.
--- In order: filter-concat, map-concat; the module of one component: component-states, state-low, keep-is, place-is, row-is,
--- arcs-are, found-in.
+-- In order: the module of one component: component-states, state-low, keep-is, place-is, row-is, arcs-are, bounded,
+-- graph-is, found-in.
 -- Assumes nothing.
 use mathlib.Core.Path.{_≡_, refl, sym, ap, ap₂, subst, _∙_}
-use mathlib.Core.Logic.{_⊎_, inl, inr}
-use mathlib.Core.Bool.{Bool, true, false, not, _&&_, _||_}
-use mathlib.Core.List.{List, [], _∷_, _++_, map}
-use Prim.Native.Nat.{ℕ, zero, suc, _+_, _*_, _/_, _%_, _≤_, _<_}
+use mathlib.Core.Logic.{inl, inr}
+use mathlib.Core.Bool.{Bool, true, false, _&&_}
+use mathlib.Core.List.{List, [], _++_, map}
+use Prim.Native.Nat.{ℕ, _+_, _≤_, _<_}
 use native.Mathlib.Omega.{arith}
-use borrow.Author.Tests.{lt-ltb, le-ltb, ltb-false, eq-eqb, ne-eqb}
-use lib.Dec.{T, ltb, eqb}
-use lib.ListN.{length, getD, take, length-take, length-map}
+use borrow.Author.Tests.{lt-ltb, le-ltb, ltb-false, ne-eqb}
+use lib.Dec.{T, ltb}
+use lib.ListN.{length, getD, take, length-take}
 use lib.Seq.{length-take-le, getD-take}
-use Rattle.laws.specs.Lists.{if_then_else_, range, filter, any, first, elem, indexOf, sum, concat}
+use Rattle.laws.specs.Lists.{if_then_else_, range, filter, first, elem, indexOf, sum, concat}
 use Rattle.laws.specs.Sums.{Each}
-use Rattle.laws.proofs.Tests.{and→, T→true, map-range-at}
+use Rattle.laws.proofs.Tests.{and→, T→true}
 use Rattle.laws.proofs.Sums.{each-map, each-always, each-filter, each-image}
 use Rattle.laws.proofs.Anys.{each-range, each-union}
 use Rattle.laws.proofs.Elems.{each-elem, elem-filter, index-lt, each-at}
@@ -25,40 +25,28 @@ use Rattle.graph.specs.declared.find_component.Members.{Members}
 use Rattle.graph.specs.Arcs.{Arc, arc, leadsOn}
 use Rattle.graph.specs.Splitting.{crowded}
 use Rattle.graph.specs.Component.{
-  both, within, renamed, renumbered, reachings, reaches, returning, live, weightOf, componentStates, componentGraph
+  both,
+  within,
+  renamed,
+  renumbered,
+  reachings,
+  reaches,
+  returning,
+  live,
+  weightOf,
+  componentStates,
+  componentGraph,
 }
-use Rattle.graph.specs.Value.{arcAt, arcsIn, weightAt, weightsIn, workIn}
-use Rattle.graph.specs.EdgeKeys.{Fits}
+use Rattle.graph.specs.Value.{arcAt, arcsIn, weightsIn, workIn}
 use Rattle.graph.specs.PowerTable.{entryAt, wordAt, wordsAt, tabled, Powers}
 use Rattle.graph.specs.ReachSets.{rowsOf, Listed}
 use Rattle.graph.specs.ComponentParts.{placeOf, rowKeeps, rowArc, rowArcs, rowOfState, Added, FoundIn}
-use Rattle.graph.proofs.CodeLists.{length-map-range, map-range-same, filter-append, map-append}
+use Rattle.graph.proofs.CodeLists.{length-map-range, map-range-same}
 use Rattle.graph.proofs.CodeCandidates.{filter-same, filter-map}
 use Rattle.graph.proofs.CodeTabled.{filter-both}
-use Rattle.graph.proofs.CodeState.{fits-from, Bounded, Low}
+use Rattle.graph.proofs.CodeFits.{fits-from, Bounded, Low}
 use Rattle.graph.proofs.CodeLinked.{live-lt}
-
-filter-concat : {A B : Type 0} (p : B → Bool) (f : A → List B) (l : List A)
-    → filter p (concat (map f l)) ≡ concat (map (λ x. filter p (f x)) l)
-filter-concat p f [] = refl
-filter-concat p f (x ∷ l) = filter-append p (f x) (concat (map f l)) ∙ ap (λ y. filter p (f x) ++ y) (filter-concat p f l)
-
-map-concat : {A B C : Type 0} (h : B → C) (f : A → List B) (l : List A)
-    → map h (concat (map f l)) ≡ concat (map (λ x. map h (f x)) l)
-map-concat h f [] = refl
-map-concat h f (x ∷ l) = map-append h (f x) (concat (map f l)) ∙ ap (λ y. map h (f x) ++ y) (map-concat h f l)
-
-filter-never : {A : Type 0} (p : A → Bool) (l : List A) → Each (λ x. p x ≡ false) l → filter p l ≡ []
-filter-never p [] h = refl
-filter-never p (x ∷ l) h = ap (λ b. if b then x ∷ filter p l else filter p l) (h .0) ∙ filter-never p l (h .1)
-
-map-each : {A B : Type 0} (f g : A → B) (l : List A) → Each (λ x. f x ≡ g x) l → map f l ≡ map g l
-map-each f g [] h = refl
-map-each f g (x ∷ l) h = ap₂ (λ a b. a ∷ b) (h .0) (map-each f g l (h .1))
-
-map-map : {A B C : Type 0} (f : B → C) (g : A → B) (l : List A) → map f (map g l) ≡ map (λ x. f (g x)) l
-map-map f g [] = refl
-map-map f g (x ∷ l) = ap (λ y. f (g x) ∷ y) (map-map f g l)
+use Rattle.graph.proofs.CodeJoin.{filter-concat, filter-never, map-concat, map-each, map-map}
 
 module _ (P : List ℕ) (words k : ℕ) (pw : Powers P words k) (v : List ℕ) (long : length v ≡ 16)
     (low : (s : ℕ) → s < k → getD v s 0 ≤ 128) (M : List Bool) (s : ℕ)
@@ -77,8 +65,8 @@ module _ (P : List ℕ) (words k : ℕ) (pw : Powers P words k) (v : List ℕ) (
   unfolding componentStates
   component-states =
       ap (λ n. let R = reachings n (within (live weight) g) in
-          filter (reaches R (first (returning R (live weight)) 0 (live weight))) (live weight))
-          (length-take-le k v (let h = pw .states in omega arith))
+      filter (reaches R (first (returning R (live weight)) 0 (live weight))) (live weight))
+      (length-take-le k v (let h = pw .states in omega arith))
       ∙ ap (λ R. filter (reaches R (first (returning R (live weight)) 0 (live weight))) (live weight)) (sym reach)
       ∙ ap (λ x. filter (reaches (rowsOf M k) x) (live weight)) (sym lowest)
 
@@ -100,12 +88,13 @@ module _ (P : List ℕ) (words k : ℕ) (pw : Powers P words k) (v : List ℕ) (
     C-count : length C ≡ list .count
     C-count = ap length (sym (is .states)) ∙ length-take-le (list .count) (list .state) (omega (arith, is .few))
 
-    pub state-low : (i : ℕ) → i < list .count → (getD (list .state) i 0 < 16) × (getD v (getD (list .state) i 0) 0 ≤ 128)
+    pub state-low : (i : ℕ) → i < list .count → (getD (list .state) i 0 < 16)
+        × (getD v (getD (list .state) i 0) 0 ≤ 128)
     state-low i h =
         let e : getD C i 0 ≡ getD (list .state) i 0 =
-            ap (λ l. getD l i 0) (sym (is .states)) ∙ getD-take (list .count) (list .state) i 0 h in
+        ap (λ l. getD l i 0) (sym (is .states)) ∙ getD-take (list .count) (list .state) i 0 h in
         let b : getD (list .state) i 0 < k =
-            subst (λ x. x < k) e (each-at (λ t. t < k) 0 C C-each i (rw C-count h)) in
+        subst (λ x. x < k) e (each-at (λ t. t < k) 0 C C-each i (rw C-count h)) in
         (let f = pw .states in omega arith, low (getD (list .state) i 0) b)
 
     abbrev I : List ℕ
@@ -133,6 +122,7 @@ module _ (P : List ℕ) (words k : ℕ) (pw : Powers P words k) (v : List ℕ) (
       where
         big : placeOf I t ≡ 16
         big = ap (λ b. if b then getD I t 0 else 16) (le-ltb t 16 (omega arith))
+
         go : (b : Bool) → elem t C ≡ b → b ≡ ltb (placeOf I t) 16
         go true e = absurd (omega (arith, C-lt t (rw e tt), pw .states))
         go false e = sym (le-ltb (placeOf I t) 16 (omega (arith, big)))
@@ -150,15 +140,16 @@ module _ (P : List ℕ) (words k : ℕ) (pw : Powers P words k) (v : List ℕ) (
         go true e =
             ap (map (renamed C)) (filter-map (both C) (wordAt P x) (range words))
             ∙ map-map (renamed C) (wordAt P x) (filter (λ w. both C (wordAt P x w)) (range words))
-            ∙ ap (map (λ w. renamed C (wordAt P x w))) (filter-same (λ w. both C (wordAt P x w)) (rowKeeps P I x) (range words)
-                (each-map (λ w. w < words) _
-                    (λ w l. ap (λ b. b && elem (entryAt P x w) C) e ∙ keep-is (entryAt P x w) (pw .leads x w h l)) (range words)
-                    (each-range words)))
+            ∙ ap (map (λ w. renamed C (wordAt P x w)))
+            (filter-same (λ w. both C (wordAt P x w)) (rowKeeps P I x) (range words)
+            (each-map (λ w. w < words) _
+            (λ w l. ap (λ b. b && elem (entryAt P x w) C) e ∙ keep-is (entryAt P x w) (pw .leads x w h l)) (range words)
+            (each-range words)))
             ∙ map-each (λ w. renamed C (wordAt P x w)) (rowArc P I x) (filter (rowKeeps P I x) (range words))
-                (each-filter (λ w. renamed C (wordAt P x w) ≡ rowArc P I x w) (rowKeeps P I x) (range words)
-                (each-map (λ w. w < words) _ (λ w l u. named w l u) (range words) (each-range words)))
+            (each-filter (λ w. renamed C (wordAt P x w) ≡ rowArc P I x w) (rowKeeps P I x) (range words)
+            (each-map (λ w. w < words) _ (λ w l u. named w l u) (range words) (each-range words)))
             ∙ sym (ap (λ b. if b then rowArcs P I x words else [])
-                (lt-ltb (getD I x 0) 16 (rw (at-yes x e h) (small-index x e))))
+            (lt-ltb (getD I x 0) 16 (rw (at-yes x e h) (small-index x e))))
           where
             named : (w : ℕ) → w < words → T (rowKeeps P I x w) → renamed C (wordAt P x w) ≡ rowArc P I x w
             named w l u =
@@ -166,18 +157,19 @@ module _ (P : List ℕ) (words k : ℕ) (pw : Powers P words k) (v : List ℕ) (
                 (place-is (entryAt P x w) (rw (keep-is (entryAt P x w) (pw .leads x w h l)) u))
         go false e =
             ap (map (renamed C)) (filter-map (both C) (wordAt P x) (range words)
-                ∙ ap (map (wordAt P x)) (filter-never (λ w. both C (wordAt P x w)) (range words)
-                (each-always _ (λ w. ap (λ b. b && elem (entryAt P x w) C) e) (range words))))
+            ∙ ap (map (wordAt P x)) (filter-never (λ w. both C (wordAt P x w)) (range words)
+            (each-always _ (λ w. ap (λ b. b && elem (entryAt P x w) C) e) (range words))))
             ∙ sym (ap (λ b. if b then rowArcs P I x words else [])
-                (le-ltb (getD I x 0) 16 (rw (at-no x e h) (omega arith))))
+            (le-ltb (getD I x 0) 16 (rw (at-no x e h) (omega arith))))
 
     arcs-are : renumbered C g ≡ concat (map (rowOfState P words I) (range k))
     unfolding tabled
     arcs-are =
         ap (map (renamed C)) (filter-both (both C) leadsOn on (concat (map (wordsAt P words) (range k)))
-            ∙ filter-concat (both C) (wordsAt P words) (range k))
+        ∙ filter-concat (both C) (wordsAt P words) (range k))
         ∙ map-concat (renamed C) (λ x. filter (both C) (wordsAt P words x)) (range k)
-        ∙ ap concat (map-range-same [] (λ x. map (renamed C) (filter (both C) (wordsAt P words x))) (rowOfState P words I) k row-is)
+        ∙ ap concat (map-range-same [] (λ x. map (renamed C) (filter (both C) (wordsAt P words x)))
+        (rowOfState P words I) k row-is)
       where
         on : (e : Arc) → T (both C e) → T (leadsOn e)
         on e u =
@@ -190,16 +182,17 @@ module _ (P : List ℕ) (words k : ℕ) (pw : Powers P words k) (v : List ℕ) (
         each-image (Bounded (length C)) (renamed C) (within C g)
         (each-filter (λ e. Bounded (length C) (renamed C e)) (both C) g
         (each-map (λ e. e .word < 256) _
-            (λ e h u. let (a, b) = and→ (elem (e .source) C) (elem (e .target) C) u in
-                (index-lt (e .source) C a, index-lt (e .target) C b, h)) g
+        (λ e h u. let (a, b) = and→ (elem (e .source) C) (elem (e .target) C) u in
+        (index-lt (e .source) C a, index-lt (e .target) C b, h)) g
         (each-filter (λ e. e .word < 256) leadsOn (concat (map (wordsAt P words) (range k)))
         (each-map (λ e. e .word < 256) _ (λ e h t. h) (concat (map (wordsAt P words) (range k)))
         (each-union (λ e. e .word < 256) (wordsAt P words) (range k)
         (each-always _ (λ x. each-image (λ e. e .word < 256) (wordAt P x) (range words)
-            (each-map (λ w. w < words) _ (λ w h. let f = pw .few in omega arith) (range words) (each-range words)))
-            (range k)))))))
+        (each-map (λ w. w < words) _ (λ w h. let f = pw .few in omega arith) (range words) (each-range words)))
+        (range k)))))))
 
-    graph-is : (h : Graph) → weightsIn h ≡ map (weightOf v) C → arcsIn h ≡ renumbered C g → workIn h ≡ componentGraph weight g
+    graph-is : (h : Graph) → weightsIn h ≡ map (weightOf v) C → arcsIn h ≡ renumbered C g → workIn h
+        ≡ componentGraph weight g
     unfolding componentGraph
     graph-is h a b =
         (λ i. record { weights = (a ∙ weights-C) i; arcs = b i })
@@ -225,7 +218,8 @@ module _ (P : List ℕ) (words k : ℕ) (pw : Powers P words k) (v : List ℕ) (
 
       weights-r : r .crowded ≡ false → weightsIn (r .graph) ≡ map (weightOf v) C
       weights-r e =
-          ap₂ (λ n l. map (λ i. getD l i 0) (range n)) (add .states e) (add .weight e) ∙ hw ∙ ap (map (weightOf v)) (is .states)
+          ap₂ (λ n l. map (λ i. getD l i 0) (range n)) (add .states e) (add .weight e) ∙ hw
+          ∙ ap (map (weightOf v)) (is .states)
 
       states-r : r .crowded ≡ false → r .graph .states ≡ length C
       states-r e = add .states e ∙ hs ∙ sym C-count
@@ -239,14 +233,14 @@ module _ (P : List ℕ) (words k : ℕ) (pw : Powers P words k) (v : List ℕ) (
         crowds = add .crowds ∙ ap (ltb 2048) (ap (λ n. n + length rows) he ∙ sym (count-is ∙ zero-plus (length rows)));
         work = λ e. graph-is (r .graph) (weights-r e) (arcs-r e);
         fits = λ e.
-          let n : r .graph .edges ≡ length rows =
-              sym (length-map-range (arcAt (r .graph)) (r .graph .edges)) ∙ ap length (arcs-r e ∙ arcs-are) in
-          let m : h .edges + length rows ≤ 2048 = ltb-false 2048 (h .edges + length rows) (sym (add .crowds) ∙ e) in
-          fits-from (r .graph) (let q = states-r e in omega (arith, C-few)) (omega arith)
-          (subst (Each Low) (sym (weights-r e)) (each-image Low (weightOf v) C
-              (each-map (λ t. t < k) _ (λ t h. low t h) C C-each)))
-          (subst (λ q. Each (Bounded q) (arcsIn (r .graph))) (sym (states-r e))
-              (subst (Each (Bounded (length C))) (sym (arcs-r e)) bounded));
+            let n : r .graph .edges ≡ length rows =
+            sym (length-map-range (arcAt (r .graph)) (r .graph .edges)) ∙ ap length (arcs-r e ∙ arcs-are) in
+            let m : h .edges + length rows ≤ 2048 = ltb-false 2048 (h .edges + length rows) (sym (add .crowds) ∙ e) in
+            fits-from (r .graph) (let q = states-r e in omega (arith, C-few)) (omega arith)
+            (subst (Each Low) (sym (weights-r e)) (each-image Low (weightOf v) C
+            (each-map (λ t. t < k) _ (λ t h. low t h) C C-each)))
+            (subst (λ q. Each (Bounded q) (arcsIn (r .graph))) (sym (states-r e))
+            (subst (Each (Bounded (length C))) (sym (arcs-r e)) bounded));
       }
         where
           zero-plus : (x : ℕ) → x ≡ 0 + x

@@ -1,27 +1,25 @@
 -- The edges among the states of weight above 0, by the counts of words.
 -- In order: live-elem, live-lt; any-tabled; filter-pos, filter-some; linked-is.
 -- Assumes nothing.
-use mathlib.Core.Path.{_≡_, refl, sym, ap, ap₂, subst, _∙_}
-use mathlib.Core.Logic.{_⊎_, inl, inr}
-use mathlib.Core.Bool.{Bool, true, false, not, _&&_, _||_}
-use mathlib.Core.List.{List, [], _∷_, _++_, map}
-use Prim.Native.Nat.{ℕ, zero, suc, _+_, _*_, _/_, _%_, _≤_, _<_}
+use mathlib.Core.Path.{_≡_, sym, ap, ap₂, subst, _∙_}
+use mathlib.Core.Bool.{Bool, true, false, _&&_, _||_}
+use mathlib.Core.List.{List, [], _∷_, map}
+use Prim.Native.Nat.{ℕ, _+_, _*_, _/_, _%_, _≤_, _<_}
 use native.Mathlib.Omega.{arith}
-use borrow.Author.Tests.{eq-eqb, ne-eqb}
+use borrow.Author.Tests.{ne-eqb}
 use lib.Dec.{T, ltb, eqb, eqb→eq, eqb-refl, ltb→lt, lt→ltb}
 use lib.ListN.{length, getD, take}
 use lib.Seq.{length-take-le, getD-take}
 use Rattle.laws.specs.Lists.{if_then_else_, range, filter, any, elem, concat}
 use Rattle.laws.specs.Sets.{member}
-use Rattle.laws.proofs.Tests.{and→, →and, or→, any-below→, →any-below, bool-eq}
+use Rattle.laws.proofs.Tests.{and→, →and, any-below→, →any-below, bool-eq}
 use Rattle.laws.proofs.Anys.{any-map, any-filter, any-concat, each-range}
 use Rattle.laws.proofs.Elems.{elem-filter, elem-each}
-use Rattle.constraint.specs.Walking.{Target}
 use Rattle.graph.specs.Arcs.{Arc, leadsOn}
 use Rattle.graph.specs.Component.{leadsInto, both, within, weighs, live}
 use Rattle.graph.specs.PowerTable.{entryAt, wordAt, wordsAt, tabled, Powers, wordLeads, wordCount}
 use Rattle.graph.specs.ReachSets.{linksInto, Linked, liveEdge}
-use Rattle.graph.proofs.CodeMembers.{elem-kept}
+use Rattle.graph.proofs.CodeNumbers.{elem-kept}
 use Rattle.graph.proofs.CodeReach.{any-range-same}
 use Rattle.graph.proofs.CodeWeights.{place-state, place-target}
 
@@ -102,15 +100,15 @@ module _ (v : List ℕ) (k : ℕ) (few : k ≤ 16) (long : length v ≡ 16) wher
           let q : s′ ≡ s = eqb→eq s′ s same in
           let hu : u < k = live-lt u lu in
           let some : 0 < wordCount P words s u =
-              filter-pos (wordLeads P s u) (range words)
-              (→any-below (wordLeads P s u) words w l (subst (λ y. T (eqb (entryAt P y w) u)) q (eqb-refl u))) in
+          filter-pos (wordLeads P s u) (range words)
+          (→any-below (wordLeads P s u) words w l (subst (λ y. T (eqb (entryAt P y w) u)) q (eqb-refl u))) in
           →any-below (linksInto E S s) k u hu
           (→and (getD E (s * 16 + u) false) (member S u)
-              (rw (edge-at s u hs hu)
-              (→and (ltb 0 (getD v s 0)) (ltb 0 (getD v u 0) && ltb 0 (wordCount P words s u))
-                  (rw (← live-elem s hs) (subst (λ y. T (elem y L)) q ls))
-                  (→and (ltb 0 (getD v u 0)) (ltb 0 (wordCount P words s u)) (rw (← live-elem u hu) lu)
-                  (lt→ltb 0 (wordCount P words s u) some)))) m)
+          (rw (edge-at s u hs hu)
+          (→and (ltb 0 (getD v s 0)) (ltb 0 (getD v u 0) && ltb 0 (wordCount P words s u))
+          (rw (← live-elem s hs) (subst (λ y. T (elem y L)) q ls))
+          (→and (ltb 0 (getD v u 0)) (ltb 0 (wordCount P words s u)) (rw (← live-elem u hu) lu)
+          (lt→ltb 0 (wordCount P words s u) some)))) m)
 
       back : T (any (linksInto E S s) (range k)) → T (any (λ s′. any (found s′) (range words)) (range k))
       unfolding wordCount
@@ -118,17 +116,17 @@ module _ (v : List ℕ) (k : ℕ) (few : k ≤ 16) (long : length v ≡ 16) wher
           let (u, hu, a) = any-below→ (linksInto E S s) k t in
           let (e, m) = and→ (getD E (s * 16 + u) false) (member S u) a in
           let (vs, rest) = and→ (ltb 0 (getD v s 0)) (ltb 0 (getD v u 0) && ltb 0 (wordCount P words s u))
-              (rw (edge-at s u hs hu) at e) in
+          (rw (edge-at s u hs hu) at e) in
           let (vu, n) = and→ (ltb 0 (getD v u 0)) (ltb 0 (wordCount P words s u)) rest in
           let (w, l, q) = any-below→ (wordLeads P s u) words
-              (filter-some (wordLeads P s u) (range words) (ltb→lt 0 (wordCount P words s u) n)) in
+          (filter-some (wordLeads P s u) (range words) (ltb→lt 0 (wordCount P words s u) n)) in
           let p : entryAt P s w ≡ u = eqb→eq (entryAt P s w) u q in
           let on : T (leadsOn (wordAt P s w)) = rw (ne-eqb (entryAt P s w) 255 (λ z. omega arith)) tt in
           let two : T (both L (wordAt P s w)) =
-              →and (elem s L) (elem (entryAt P s w) L) (rw (live-elem s hs) vs)
-              (subst (λ y. T (elem y L)) (sym p) (rw (live-elem u hu) vu)) in
+          →and (elem s L) (elem (entryAt P s w) L) (rw (live-elem s hs) vs)
+          (subst (λ y. T (elem y L)) (sym p) (rw (live-elem u hu) vu)) in
           let into : T (leadsInto S s (wordAt P s w)) =
-              →and (eqb s s) (member S (entryAt P s w)) (eqb-refl s) (subst (λ y. T (member S y)) (sym p) m) in
+          →and (eqb s s) (member S (entryAt P s w)) (eqb-refl s) (subst (λ y. T (member S y)) (sym p) m) in
           →any-below (λ s′. any (found s′) (range words)) k s hs
           (→any-below (found s) words w l
           (→and (leadsOn (wordAt P s w)) (both L (wordAt P s w) && leadsInto S s (wordAt P s w)) on
@@ -137,8 +135,9 @@ module _ (v : List ℕ) (k : ℕ) (few : k ≤ 16) (long : length v ≡ 16) wher
     pub linked-is : Linked E k (within L (tabled P words k))
     linked-is = record {
       links = λ S s h.
-        any-filter (leadsInto S s) (both L) (tabled P words k)
-        ∙ any-tabled P words k (λ e. both L e && leadsInto S s e)
-        ∙ bool-eq (any (λ s′. any (found S s h s′) (range words)) (range k)) (any (linksInto E S s) (range k)) (to S s h)
-            (back S s h);
+          any-filter (leadsInto S s) (both L) (tabled P words k)
+          ∙ any-tabled P words k (λ e. both L e && leadsInto S s e)
+          ∙ bool-eq (any (λ s′. any (found S s h s′) (range words)) (range k)) (any (linksInto E S s) (range k))
+          (to S s h)
+          (back S s h);
     }

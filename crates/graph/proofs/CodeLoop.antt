@@ -1,23 +1,22 @@
 -- All splits: counting edges of states, and the loop.
--- In order: Counted, counted-none, counted-more; unfinished-yes, unfinished-no; Going, going-start, going-splits, going-on,
--- going-crowded, going-end.
+-- In order: Counted, counted-none, counted-more; unfinished-yes, unfinished-no; Going, going-start, going-splits,
+-- going-on, going-crowded, going-end.
 -- Assumes nothing.
 use mathlib.Core.Path.{_≡_, refl, sym, ap, ap₂, subst, _∙_}
 use mathlib.Core.Bool.{Bool, true, false, not, _&&_}
 use mathlib.Core.List.{List, [], _∷_, _++_, map, append-nil}
 use Prim.Native.Nat.{ℕ, zero, suc, _+_, _-_, _≤_, _<_}
-use native.Mathlib.Numerals.{add-one}
 use native.Mathlib.Omega.{arith}
 use native.Mathlib.Decide.{ℕ-discrete}
 use borrow.Author.Tests.{lt-ltb, le-ltb, eq-eqb, ne-eqb}
-use lib.Dec.{T, ltb, eqb}
+use lib.Dec.{T}
 use lib.ListN.{length, getD, set, length-set, length-append, replicate, length-replicate, getD-replicate}
 use lib.Seq.{getD-set-same, getD-set-other}
 use Rattle.laws.specs.Lists.{if_then_else_, range, sum, filter, any}
-use Rattle.laws.proofs.Tests.{map-range-at, range-at, T→true, length-from}
+use Rattle.laws.proofs.Tests.{range-at, length-from}
 use Rattle.graph.specs.declared.Graph.{Graph}
 use Rattle.graph.specs.declared.split_graph.NextGraph.{NextGraph}
-use Rattle.graph.specs.Arcs.{Arc, arc, Work, leaves, out}
+use Rattle.graph.specs.Arcs.{Arc, Work, leaves, out}
 use Rattle.graph.specs.Splitting.{splittable, fewEdges, unfinished, crowded, goesOn, split, splits, splitAll}
 use Rattle.graph.specs.Invariant.{Inv}
 use Rattle.graph.specs.Value.{arcAt, arcsIn, weightAt, weightsIn, workIn}
@@ -35,16 +34,19 @@ left g i s = out (map (arcAt g) (range i)) s
 
 left-more : (g : Graph) (i s : ℕ) → left g (i + 1) s ≡ left g i s ++ filter (leaves s) (arcAt g i ∷ [])
 left-more g i s =
-    ap (filter (leaves s)) (map-range-more (arcAt g) i) ∙ filter-append (leaves s) (map (arcAt g) (range i)) (arcAt g i ∷ [])
+    ap (filter (leaves s)) (map-range-more (arcAt g) i)
+    ∙ filter-append (leaves s) (map (arcAt g) (range i)) (arcAt g i ∷ [])
 
 left-yes : (g : Graph) (i s : ℕ) → getD (g .source) i 0 ≡ s → length (left g (i + 1) s) ≡ length (left g i s) + 1
 left-yes g i s q =
-    ap length (left-more g i s ∙ ap (λ b. left g i s ++ (if b then arcAt g i ∷ [] else [])) (eq-eqb (getD (g .source) i 0) s q))
+    ap length (left-more g i s ∙ ap (λ b. left g i s ++ (if b then arcAt g i ∷ [] else []))
+    (eq-eqb (getD (g .source) i 0) s q))
     ∙ length-append (left g i s) (arcAt g i ∷ [])
 
 left-no : (g : Graph) (i s : ℕ) → (getD (g .source) i 0 ≡ s → ⊥) → length (left g (i + 1) s) ≡ length (left g i s)
 left-no g i s q =
-    ap length (left-more g i s ∙ ap (λ b. left g i s ++ (if b then arcAt g i ∷ [] else [])) (ne-eqb (getD (g .source) i 0) s q)
+    ap length (left-more g i s ∙ ap (λ b. left g i s ++ (if b then arcAt g i ∷ [] else []))
+    (ne-eqb (getD (g .source) i 0) s q)
     ∙ append-nil (left g i s))
 
 pub record Counted (g : Graph) (i : ℕ) (R : List ℕ) : Type 0 where
@@ -69,11 +71,14 @@ counted-more g i R b c = record {
   where
     t : ℕ
     t = getD (g .source) i 0
+
     here : getD (set R t (getD R t 0 + 1)) t 0 ≡ getD R t 0 + 1
     here = getD-set-same R t (getD R t 0 + 1) 0 (let n = c .long in omega arith)
+
     low : (s : ℕ) → s < 128 → Dec (s ≡ t) → getD (set R t (getD R t 0 + 1)) s 0 ≤ i + 1
     low s h (yes e) = rw e (let q = here in omega (arith, c .low t b))
     low s h (no e) = let q = getD-set-other R t s (getD R t 0 + 1) 0 e in omega (arith, c .low s h)
+
     holds : (s : ℕ) → s < 128 → Dec (s ≡ t) → getD (set R t (getD R t 0 + 1)) s 0 ≡ length (left g (i + 1) s)
     holds s h (yes e) = rw e (here ∙ ap (λ k. k + 1) (c .holds t b) ∙ sym (left-yes g i t refl))
     holds s h (no e) =
@@ -94,7 +99,7 @@ module _ (n : ℕ) (g : Graph) where
   unfinished-no f =
       any-false (fewEdges n (arcsIn g)) 0 (range (length (weightsIn g)))
       (λ s h. let b : s < length (weightsIn g) = rw (length-from 0 (length (weightsIn g))) at h in
-          rw (range-at (length (weightsIn g)) s b) (le-ltb (length (out (arcsIn g) s)) n (f s (rw K at b))))
+      rw (range-at (length (weightsIn g)) s b) (le-ltb (length (out (arcsIn g) s)) n (f s (rw K at b))))
 
 -- ---- the loop
 -- h is g after some splits, and the splits left lead from it to the end
@@ -113,7 +118,11 @@ splits-stop (suc j) n x e = splits-off j n x e
 pub going-start : (n : ℕ) (g : Graph) → Splits n g → Going n g g
 unfolding splitAll
 going-start n g p = record {
-  fits = p .fits; inv = p .inv; fuel = sum (weightsIn g); leads = refl; enough = omega arith
+  fits = p .fits;
+  inv = p .inv;
+  fuel = sum (weightsIn g);
+  leads = refl;
+  enough = omega arith;
 }
 
 module _ (n : ℕ) (g h : Graph) (p : Splits n g) (c : Going n g h) where
@@ -132,7 +141,7 @@ module _ (n : ℕ) (g h : Graph) (p : Splits n g) (c : Going n g h) where
         let t : T (unfinished n (workIn h)) = rw u tt in
         let e = split-length n (sum (weightsIn g)) (workIn h) (p .some) (c .inv) t in
         let l = states-le n (sum (weightsIn g)) (p .some) (split n (workIn h))
-            (split-inv n (sum (weightsIn g)) (workIn h) (p .some) (c .inv) t) in
+        (split-inv n (sum (weightsIn g)) (workIn h) (p .some) (c .inv) t) in
         let k = states-h in
         omega arith
 
@@ -154,7 +163,7 @@ module _ (n : ℕ) (g h : Graph) (p : Splits n g) (c : Going n g h) where
         let w : workIn (r .graph) ≡ split n (workIn h) = s .work q in
         let t : T (unfinished n (workIn h)) = rw u tt in
         let k : length (weightsIn (r .graph)) ≡ suc (length (weightsIn h)) =
-            ap (λ x. length (x .weights)) w ∙ split-length n (sum (weightsIn g)) (workIn h) (p .some) (c .inv) t in
+        ap (λ x. length (x .weights)) w ∙ split-length n (sum (weightsIn g)) (workIn h) (p .some) (c .inv) t in
         let k′ = length-map-range (weightAt (r .graph)) (r .graph .states) in
         let k″ = states-h in
         record {
@@ -177,7 +186,7 @@ module _ (n : ℕ) (g h : Graph) (p : Splits n g) (c : Going n g h) where
         let (j, e, l) = next (c .fuel) refl in
         let full : crowded (split n (workIn h)) ≡ true = sym (s .crowds) ∙ q in
         let ends : splits j n (split n (workIn h)) ≡ split n (workIn h) =
-            splits-stop j n (split n (workIn h)) (ap (λ b. not b && unfinished n (split n (workIn h))) full) in
+        splits-stop j n (split n (workIn h)) (ap (λ b. not b && unfinished n (split n (workIn h))) full) in
         record {
           crowds = q ∙ sym (ap crowded (sym l ∙ ends) ∙ full);
           work = λ z. let y : _≡_ {A = ℕ} 0 1 = cc in absurd (omega arith);

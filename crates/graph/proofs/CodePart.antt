@@ -1,124 +1,24 @@
--- Moving the edges of a state, doubling those into it, and the new weights.
--- In order: Resourced, sources as f says below i; resource-none, resource-put, resource-stay, resource-end; new-off, new-kept,
--- new-moved; entered-more, entered-le; appended; Grown, grown-none, grown-yes, grown-no, grown-end; weigh-is.
+-- Doubling the edges into a state, and the new weights.
+-- In order: entered, entered-yes, entered-no, count-yes, entered-le, entered-all; withArc, appended; Grown,
+-- grown-none, grown-count, grown-room, grown-yes, grown-no, grown-end; withWeights, weigh-is.
 -- Assumes nothing.
 use mathlib.Core.Path.{_≡_, refl, sym, ap, ap₂, subst, _∙_}
-use mathlib.Core.Bool.{Bool, true, false, not, _&&_}
 use mathlib.Core.List.{List, [], _∷_, _++_, map, append-assoc, append-nil}
-use Prim.Native.Nat.{ℕ, zero, suc, _+_, _-_, _*_, _≤_, _<_}
+use Prim.Native.Nat.{ℕ, zero, suc, _+_, _-_, _≤_, _<_}
 use native.Mathlib.Nat.{add-zero}
-use native.Mathlib.Numerals.{add-one}
 use native.Mathlib.Omega.{arith}
 use native.Mathlib.Decide.{ℕ-discrete}
-use borrow.Author.Count.{below-more}
 use borrow.Author.Tests.{eq-eqb, ne-eqb}
-use lib.Dec.{eqb}
 use lib.ListN.{length, getD, set, length-set, length-append, length-map}
 use lib.Seq.{getD-set-same, getD-set-other, ext-getD}
 use Rattle.laws.specs.Lists.{if_then_else_, range, filter}
 use Rattle.laws.proofs.Tests.{map-range-at}
 use Rattle.graph.specs.declared.Graph.{Graph}
-use Rattle.graph.specs.Arcs.{Arc, arc, leaves, enters}
-use Rattle.graph.specs.Splitting.{among, moved, redirected, doubled}
+use Rattle.graph.specs.Arcs.{Arc, arc, enters}
+use Rattle.graph.specs.Splitting.{redirected}
 use Rattle.graph.specs.Value.{arcAt, arcsIn, weightAt, weightsIn}
-use Rattle.graph.specs.SplitParts.{Moved, entering, Doubled, Weighed}
-use Rattle.graph.proofs.CodeLists.{
-  map-append, filter-append, map-range-more, length-map-range, map-range-same
-}
-
-pub map-map-range : {A B : Type 0} (d : B) (f : A → B) (h : ℕ → A) (n : ℕ) → map f (map h (range n)) ≡ map (λ k. f (h k)) (range n)
-map-map-range d f h n = go (range n)
-  where
-    go : (l : List ℕ) → map f (map h l) ≡ map (λ k. f (h k)) l
-    go [] = refl
-    go (x ∷ l) = ap (λ y. f (h x) ∷ y) (go l)
-
--- ---- moving
--- h is g, but its sources below i are as f says
-pub record Resourced (g : Graph) (f : ℕ → ℕ) (i : ℕ) (h : Graph) : Type 0 where
-  pub states : h .states ≡ g .states
-  pub edges : h .edges ≡ g .edges
-  pub weight : h .weight ≡ g .weight
-  pub word : h .word ≡ g .word
-  pub target : h .target ≡ g .target
-  pub long : length (h .source) ≡ 2048
-  pub done : (k : ℕ) → k < i → getD (h .source) k 0 ≡ f k
-  pub left : (k : ℕ) → i ≤ k → getD (h .source) k 0 ≡ getD (g .source) k 0
-
--- h with x as the source of edge i
-abbrev pub withSource : Graph → ℕ → ℕ → Graph
-withSource h i x = record {
-  states = h .states; edges = h .edges; weight = h .weight; source = set (h .source) i x; word = h .word; target = h .target
-}
-
-pub resource-none : (g : Graph) (f : ℕ → ℕ) → length (g .source) ≡ 2048 → Resourced g f 0 g
-resource-none g f l = record {
-  states = refl; edges = refl; weight = refl; word = refl; target = refl; long = l;
-  done = λ k h. absurd (omega arith); left = λ k h. refl;
-}
-
-module _ (g : Graph) (f : ℕ → ℕ) (i : ℕ) (h : Graph) (c : Resourced g f i h) where
-  pub resource-put : (x : ℕ) → i < 2048 → x ≡ f i → Resourced g f (i + 1) (withSource h i x)
-  resource-put x l e = record {
-    states = c .states; edges = c .edges; weight = c .weight; word = c .word; target = c .target;
-    long = length-set (h .source) i x ∙ c .long;
-    done = below-more (λ k. getD (set (h .source) i x) k 0 ≡ f k) i
-        (λ k b. getD-set-other (h .source) i k x 0 (λ q. omega arith) ∙ c .done k b)
-        (getD-set-same (h .source) i x 0 (let n = c .long in omega arith) ∙ e);
-    left = λ k b. getD-set-other (h .source) i k x 0 (λ q. omega arith) ∙ c .left k (omega arith);
-  }
-
-  pub resource-stay : getD (g .source) i 0 ≡ f i → Resourced g f (i + 1) h
-  resource-stay e = record {
-    states = c .states; edges = c .edges; weight = c .weight; word = c .word; target = c .target; long = c .long;
-    done = below-more (λ k. getD (h .source) k 0 ≡ f k) i (c .done) (c .left i (omega arith) ∙ e);
-    left = λ k b. c .left k (omega arith);
-  }
-
-module _ (g : Graph) (s : ℕ) (keep : List Arc) where
-  -- the source of edge k after the move
-  abbrev pub newSource : ℕ → ℕ
-  newSource k = moved s (g .states) keep (arcAt g k) .source
-
-  pub new-off : (k : ℕ) → (getD (g .source) k 0 ≡ s → ⊥) → getD (g .source) k 0 ≡ newSource k
-  new-off k q =
-      sym (ap (λ b. (if b && not (among keep (arcAt g k)) then arc (g .states) (arcAt g k .word) (arcAt g k .target)
-      else arcAt g k) .source) (ne-eqb (getD (g .source) k 0) s q))
-
-  pub new-kept : (k : ℕ) → among keep (arcAt g k) ≡ true → getD (g .source) k 0 ≡ newSource k
-  new-kept k e = go (leaves s (arcAt g k)) (among keep (arcAt g k)) e
-    where
-      go : (a b : Bool) → b ≡ true
-          → getD (g .source) k 0 ≡ (if a && not b then arc (g .states) (arcAt g k .word) (arcAt g k .target) else arcAt g k) .source
-      go true true q = refl
-      go false b q = refl
-      go true false q = absurd (let z : _≡_ {A = ℕ} 0 1 = cc in omega arith)
-
-  pub new-moved : (k : ℕ) → getD (g .source) k 0 ≡ s → among keep (arcAt g k) ≡ false → g .states ≡ newSource k
-  new-moved k q e =
-      sym (ap₂ (λ a b. (if a && not b then arc (g .states) (arcAt g k .word) (arcAt g k .target) else arcAt g k) .source)
-      (eq-eqb (getD (g .source) k 0) s q) e)
-
-  pub resource-end : (h : Graph) → Resourced g newSource (g .edges) h → Moved g s keep h
-  resource-end h c = record {
-    arcs =
-      ap (λ m. map (arcAt h) (range m)) (c .edges)
-      ∙ map-range-same (arc 0 0 0) (arcAt h) (λ k. moved s (g .states) keep (arcAt g k)) (g .edges)
-          (λ k l. ap₂ (λ w t. arc (getD (h .source) k 0) (getD w k 0) (getD t k 0)) (c .word) (c .target)
-              ∙ ap (λ x. arc x (getD (g .word) k 0) (getD (g .target) k 0)) (c .done k l)
-              ∙ same k (leaves s (arcAt g k) && not (among keep (arcAt g k))))
-      ∙ sym (map-map-range (arc 0 0 0) (moved s (g .states) keep) (arcAt g) (g .edges));
-    edges = c .edges;
-    states = c .states;
-    weight = c .weight;
-  }
-    where
-      same : (k : ℕ) (b : Bool)
-          → arc ((if b then arc (g .states) (arcAt g k .word) (arcAt g k .target) else arcAt g k) .source) (arcAt g k .word)
-          (arcAt g k .target)
-          ≡ (if b then arc (g .states) (arcAt g k .word) (arcAt g k .target) else arcAt g k)
-      same k true = refl
-      same k false = refl
+use Rattle.graph.specs.SplitParts.{entering, Doubled, Weighed}
+use Rattle.graph.proofs.CodeLists.{map-append, filter-append, map-range-more, length-map-range, map-range-same}
 
 -- ---- counting and doubling
 module _ (g : Graph) (s : ℕ) where
@@ -128,7 +28,8 @@ module _ (g : Graph) (s : ℕ) where
 
   entered-snoc : (i : ℕ) → entered (i + 1) ≡ entered i ++ filter (enters s) (arcAt g i ∷ [])
   entered-snoc i =
-      ap (filter (enters s)) (map-range-more (arcAt g) i) ∙ filter-append (enters s) (map (arcAt g) (range i)) (arcAt g i ∷ [])
+      ap (filter (enters s)) (map-range-more (arcAt g) i)
+      ∙ filter-append (enters s) (map (arcAt g) (range i)) (arcAt g i ∷ [])
 
   pub entered-yes : (i : ℕ) → getD (g .target) i 0 ≡ s → entered (i + 1) ≡ entered i ++ (arcAt g i ∷ [])
   entered-yes i q =
@@ -146,19 +47,25 @@ module _ (g : Graph) (s : ℕ) where
   entered-le i zero = rw (add-zero i) (omega arith)
   entered-le i (suc d) =
       let e : i + suc d ≡ i + d + 1 = omega arith in
-      let l : length (entered (i + d + 1)) ≡ length (entered (i + d)) + length (filter (enters s) (arcAt g (i + d) ∷ [])) =
-          ap length (entered-snoc (i + d)) ∙ length-append (entered (i + d)) (filter (enters s) (arcAt g (i + d) ∷ [])) in
+      let l : length (entered (i + d + 1))
+      ≡ length (entered (i + d)) + length (filter (enters s) (arcAt g (i + d) ∷ [])) =
+      ap length (entered-snoc (i + d)) ∙ length-append (entered (i + d)) (filter (enters s) (arcAt g (i + d) ∷ [])) in
       rw e (omega (arith, entered-le i d))
 
   pub entered-all : (i n : ℕ) → i ≤ n → length (entered i) ≤ length (entered n)
   entered-all i n h =
-      let e : i + (n - i) ≡ n = omega arith in subst (λ k. length (entered i) ≤ length (entered k)) e (entered-le i (n - i))
+      let e : i + (n - i) ≡ n = omega arith in
+      subst (λ k. length (entered i) ≤ length (entered k)) e (entered-le i (n - i))
 
 -- h with one more edge at place m
 abbrev pub withArc : Graph → ℕ → ℕ → ℕ → ℕ → Graph
 withArc h m s w t = record {
-  states = h .states; edges = h .edges; weight = h .weight; source = set (h .source) m s; word = set (h .word) m w;
-  target = set (h .target) m t
+  states = h .states;
+  edges = h .edges;
+  weight = h .weight;
+  source = set (h .source) m s;
+  word = set (h .word) m w;
+  target = set (h .target) m t;
 }
 
 -- the first m + 1 edges of a graph with one more at place m
@@ -187,7 +94,12 @@ pub record Grown (g : Graph) (s : ℕ) (h : Graph) (m i : ℕ) : Type 0 where
 pub grown-none : (g : Graph) (s : ℕ) → length (g .source) ≡ 2048 → length (g .word) ≡ 2048 → length (g .target) ≡ 2048
     → Grown g s g (g .edges) 0
 grown-none g s a b d = record {
-  arcs = sym (append-nil (arcsIn g)); source = a; word = b; target = d; states = refl; weight = refl
+  arcs = sym (append-nil (arcsIn g));
+  source = a;
+  word = b;
+  target = d;
+  states = refl;
+  weight = refl;
 }
 
 module _ (g : Graph) (s : ℕ) (h : Graph) (m i : ℕ) (c : Grown g s h m i) where
@@ -204,12 +116,13 @@ module _ (g : Graph) (s : ℕ) (h : Graph) (m i : ℕ) (c : Grown g s h m i) whe
       → Grown g s (withArc h m (getD (g .source) i 0) (getD (g .word) i 0) (g .states)) (m + 1) (i + 1)
   grown-yes l q = record {
     arcs =
-      appended h m (getD (g .source) i 0) (getD (g .word) i 0) (g .states) (let a = c .source in omega arith)
-          (let a = c .word in omega arith) (let a = c .target in omega arith)
-      ∙ ap (λ x. x ++ (redirected (g .states) (arcAt g i) ∷ [])) (c .arcs)
-      ∙ append-assoc (arcsIn g) (map (redirected (g .states)) (entered g s i)) (redirected (g .states) (arcAt g i) ∷ [])
-      ∙ ap (λ x. arcsIn g ++ x) (sym (ap (map (redirected (g .states))) (entered-yes g s i q)
-          ∙ map-append (redirected (g .states)) (entered g s i) (arcAt g i ∷ [])));
+        appended h m (getD (g .source) i 0) (getD (g .word) i 0) (g .states) (let a = c .source in omega arith)
+        (let a = c .word in omega arith) (let a = c .target in omega arith)
+        ∙ ap (λ x. x ++ (redirected (g .states) (arcAt g i) ∷ [])) (c .arcs)
+        ∙ append-assoc (arcsIn g) (map (redirected (g .states)) (entered g s i))
+        (redirected (g .states) (arcAt g i) ∷ [])
+        ∙ ap (λ x. arcsIn g ++ x) (sym (ap (map (redirected (g .states))) (entered-yes g s i q)
+        ∙ map-append (redirected (g .states)) (entered g s i) (arcAt g i ∷ [])));
     source = length-set (h .source) m (getD (g .source) i 0) ∙ c .source;
     word = length-set (h .word) m (getD (g .word) i 0) ∙ c .word;
     target = length-set (h .target) m (g .states) ∙ c .target;
@@ -220,12 +133,21 @@ module _ (g : Graph) (s : ℕ) (h : Graph) (m i : ℕ) (c : Grown g s h m i) whe
   pub grown-no : (getD (g .target) i 0 ≡ s → ⊥) → Grown g s h m (i + 1)
   grown-no q = record {
     arcs = c .arcs ∙ ap (λ x. arcsIn g ++ map (redirected (g .states)) x) (sym (entered-no g s i q));
-    source = c .source; word = c .word; target = c .target; states = c .states; weight = c .weight;
+    source = c .source;
+    word = c .word;
+    target = c .target;
+    states = c .states;
+    weight = c .weight;
   }
 
 pub grown-end : (g : Graph) (s : ℕ) (h : Graph) (m : ℕ) → m ≤ 2048 → Grown g s h m (g .edges)
     → Doubled g s (record {
-      states = h .states; edges = m; weight = h .weight; source = h .source; word = h .word; target = h .target
+      states = h .states;
+      edges = m;
+      weight = h .weight;
+      source = h .source;
+      word = h .word;
+      target = h .target;
     })
 grown-end g s h m l c = record { arcs = c .arcs; room = l; states = c .states; weight = c .weight }
 
@@ -233,23 +155,27 @@ grown-end g s h m l c = record { arcs = c .arcs; room = l; states = c .states; w
 -- g with weight w at s, x at a new last state
 abbrev pub withWeights : Graph → ℕ → ℕ → ℕ → Graph
 withWeights g s w x = record {
-  states = g .states + 1; edges = g .edges; weight = set (set (g .weight) s w) (g .states) x; source = g .source;
-  word = g .word; target = g .target
+  states = g .states + 1;
+  edges = g .edges;
+  weight = set (set (g .weight) s w) (g .states) x;
+  source = g .source;
+  word = g .word;
+  target = g .target;
 }
 
 pub weigh-is : (g : Graph) (s w : ℕ) → length (g .weight) ≡ 128 → s < g .states → g .states < 128
     → Weighed g s w (withWeights g s w (getD (g .weight) s 0 - w))
 weigh-is g s w l h b = record {
   weights =
-    map-range-more (weightAt r) (g .states)
-    ∙ ap₂ (λ a x. a ++ (x ∷ []))
-    (ext-getD 0 (map (weightAt r) (range (g .states))) (set (weightsIn g) s w)
-        (length-map-range (weightAt r) (g .states) ∙ sym (length-set (weightsIn g) s w ∙ K))
-        (λ i k. let m : i < g .states = rw (length-map-range (weightAt r) (g .states)) at k in
-            map-range-at (weightAt r) (g .states) i 0 m
-            ∙ getD-set-other (set (g .weight) s w) (g .states) i x 0 (λ q. omega arith) ∙ at i m (ℕ-discrete i s)))
-    (getD-set-same (set (g .weight) s w) (g .states) x 0 (rw (length-set (g .weight) s w) (omega arith))
-        ∙ ap (λ y. y - w) (sym (map-range-at (weightAt g) (g .states) s 0 h)));
+      map-range-more (weightAt r) (g .states)
+      ∙ ap₂ (λ a x. a ++ (x ∷ []))
+      (ext-getD 0 (map (weightAt r) (range (g .states))) (set (weightsIn g) s w)
+      (length-map-range (weightAt r) (g .states) ∙ sym (length-set (weightsIn g) s w ∙ K))
+      (λ i k. let m : i < g .states = rw (length-map-range (weightAt r) (g .states)) at k in
+      map-range-at (weightAt r) (g .states) i 0 m
+      ∙ getD-set-other (set (g .weight) s w) (g .states) i x 0 (λ q. omega arith) ∙ at i m (ℕ-discrete i s)))
+      (getD-set-same (set (g .weight) s w) (g .states) x 0 (rw (length-set (g .weight) s w) (omega arith))
+      ∙ ap (λ y. y - w) (sym (map-range-at (weightAt g) (g .states) s 0 h)));
   arcs = refl;
   edges = refl;
   states = refl;
@@ -257,12 +183,16 @@ weigh-is g s w l h b = record {
   where
     x : ℕ
     x = getD (g .weight) s 0 - w
+
     r : Graph
     r = withWeights g s w x
+
     K : length (weightsIn g) ≡ g .states
     K = length-map-range (weightAt g) (g .states)
+
     at : (i : ℕ) → i < g .states → Dec (i ≡ s) → getD (set (g .weight) s w) i 0 ≡ getD (set (weightsIn g) s w) i 0
     at i m (yes q) =
         rw q (getD-set-same (g .weight) s w 0 (omega arith) ∙ sym (getD-set-same (weightsIn g) s w 0 (rw K h)))
     at i m (no q) =
-        getD-set-other (g .weight) s i w 0 q ∙ sym (getD-set-other (weightsIn g) s i w 0 q ∙ map-range-at (weightAt g) (g .states) i 0 m)
+        getD-set-other (g .weight) s i w 0 q
+        ∙ sym (getD-set-other (weightsIn g) s i w 0 q ∙ map-range-at (weightAt g) (g .states) i 0 m)

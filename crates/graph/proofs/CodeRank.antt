@@ -1,15 +1,15 @@
 -- How many states of a set are below a state.
 -- In order: rank-none, rank-yes, rank-no, rank-le.
 -- Assumes nothing.
-use mathlib.Core.Path.{_≡_, refl, sym, ap, subst, _∙_}
+use mathlib.Core.Path.{_≡_, refl, ap, subst, _∙_}
 use mathlib.Core.Bool.{Bool, true, false}
-use mathlib.Core.List.{List, [], _∷_, _++_}
-use Prim.Native.Nat.{ℕ, zero, suc, _+_, _-_, _≤_, _<_}
+use mathlib.Core.List.{List, [], _∷_}
+use Prim.Native.Nat.{ℕ, zero, suc, _+_, _-_, _≤_}
 use native.Mathlib.Omega.{arith}
 use lib.ListN.{length, length-append}
 use Rattle.laws.specs.Sets.{member}
 use Rattle.graph.specs.TableParts.{rank}
-use Rattle.graph.proofs.CodeMembers.{upTo, upTo-yes, upTo-no}
+use Rattle.graph.proofs.CodeNumbers.{upTo, upTo-yes, upTo-no}
 
 module _ (S : List Bool) where
   pub rank-none : rank S 0 ≡ 0
@@ -45,6 +45,7 @@ rank-small S (suc t) = go (member S t) refl (rank-small S t)
   where
     up : suc t ≡ t + 1
     up = omega arith
+
     go : (b : Bool) → member S t ≡ b → rank S t ≤ t → rank S (suc t) ≤ suc t
     go true e h = rw up (omega (arith, rank-yes S t e))
     go false e h = rw up (omega (arith, rank-no S t e))

@@ -1,22 +1,21 @@
 -- Which states can reach which: rounds over all states at once.
 -- In order: any-range-more, any-range-same; step-row; Rounds, rounds-start, rounds-more, rounds-still, rounds-end.
 -- Assumes nothing.
-use mathlib.Core.Path.{_≡_, refl, sym, ap, ap₂, subst, _∙_}
+use mathlib.Core.Path.{_≡_, refl, sym, ap, ap₂, _∙_}
 use mathlib.Core.Bool.{Bool, true, false, not, _&&_, _||_, or-false, Bool·beq}
-use mathlib.Core.List.{List, [], _∷_, _++_, map}
-use Prim.Native.Nat.{ℕ, zero, suc, _+_, _-_, _*_, _/_, _%_, _≤_, _<_}
+use mathlib.Core.List.{List, [], _∷_, map}
+use Prim.Native.Nat.{ℕ, suc, _+_, _-_, _*_, _/_, _%_, _≤_, _<_}
 use native.Mathlib.Omega.{arith}
 use lib.Dec.{eqb}
 use lib.ListN.{length, getD}
 use Rattle.laws.specs.Lists.{range, any, iterate}
-use Rattle.laws.specs.Sets.{member}
 use Rattle.laws.specs.Sums.{Each}
 use Rattle.laws.proofs.Tests.{map-range-at}
 use Rattle.laws.proofs.Anys.{any-append, each-range}
 use Rattle.laws.proofs.Sums.{each-map}
 use Rattle.laws.proofs.Settle.{iterate-fixed}
 use Rattle.graph.specs.Arcs.{Arc}
-use Rattle.graph.specs.Component.{leadsInto, reachesInto, withSources, reaching, reachings}
+use Rattle.graph.specs.Component.{reachesInto, withSources, reaching, reachings}
 use Rattle.graph.specs.ReachSets.{reachAt, rowOf, rowsOf, linksInto, Linked, passesOn}
 use Rattle.graph.proofs.CodeLists.{range-more, length-map-range, map-range-same}
 use Rattle.graph.proofs.CodeWeights.{place-state, place-target}
@@ -51,11 +50,11 @@ module _ (E : List Bool) (k : ℕ) (few : k ≤ 16) where
   rounds-start M l f = record {
     long = l;
     leads = λ g e t h.
-      let z : k - 0 ≡ k = omega arith in
-      ap₂ (iterate (withSources g)) z
-      (map-range-same false (reachAt M t) (eqb t) k
-      (λ s b. f (t * 16 + s) (place-lt t s h b)
-          ∙ ap₂ eqb (place-state t s (omega arith)) (place-target t s (omega arith))));
+        let z : k - 0 ≡ k = omega arith in
+        ap₂ (iterate (withSources g)) z
+        (map-range-same false (reachAt M t) (eqb t) k
+        (λ s b. f (t * 16 + s) (place-lt t s h b)
+        ∙ ap₂ eqb (place-state t s (omega arith)) (place-target t s (omega arith))));
   }
 
   module _ (M R : List Bool)
@@ -65,12 +64,12 @@ module _ (E : List Bool) (k : ℕ) (few : k ≤ 16) where
     step-row g e t h =
         map-range-same false (reachAt R t) (reachesInto g (rowOf M k t)) k
         (λ s b. step (t * 16 + s) (place-lt t s h b)
-            ∙ ap₂ (λ a c. reachAt M t s || any (passesOn E M a c) (range k)) (place-state t s (omega arith))
-                (place-target t s (omega arith))
-            ∙ ap₂ (λ a c. a || c) (sym (map-range-at (reachAt M t) k s false b))
-                (any-range-same (passesOn E M t s) (linksInto E (rowOf M k t) s) k
-                    (λ u l. ap (λ c. getD E (s * 16 + u) false && c) (sym (map-range-at (reachAt M t) k u false l)))
-                ∙ sym (e .links (rowOf M k t) s b)))
+        ∙ ap₂ (λ a c. reachAt M t s || any (passesOn E M a c) (range k)) (place-state t s (omega arith))
+        (place-target t s (omega arith))
+        ∙ ap₂ (λ a c. a || c) (sym (map-range-at (reachAt M t) k s false b))
+        (any-range-same (passesOn E M t s) (linksInto E (rowOf M k t) s) k
+        (λ u l. ap (λ c. getD E (s * 16 + u) false && c) (sym (map-range-at (reachAt M t) k u false l)))
+        ∙ sym (e .links (rowOf M k t) s b)))
         ∙ ap (λ n. map (reachesInto g (rowOf M k t)) (range n)) (sym (length-map-range (reachAt M t) k))
 
     module _ (i : ℕ) (c : Rounds i M) where
@@ -78,9 +77,9 @@ module _ (E : List Bool) (k : ℕ) (few : k ≤ 16) where
       rounds-more h l = record {
         long = l;
         leads = λ g e t b.
-          let q : suc (k - (i + 1)) ≡ k - i = omega arith in
-          ap (iterate (withSources g) (k - (i + 1))) (step-row g e t b)
-          ∙ ap (λ m. iterate (withSources g) m (rowOf M k t)) q ∙ c .leads g e t b;
+            let q : suc (k - (i + 1)) ≡ k - i = omega arith in
+            ap (iterate (withSources g) (k - (i + 1))) (step-row g e t b)
+            ∙ ap (λ m. iterate (withSources g) m (rowOf M k t)) q ∙ c .leads g e t b;
       }
 
       pub rounds-still : ((x : ℕ) → x < k * 16 → getD R x false ≡ getD M x false)
@@ -89,16 +88,17 @@ module _ (E : List Bool) (k : ℕ) (few : k ≤ 16) where
       rounds-still f g e =
           map-range-same [] (rowOf M k) (reaching k g) k
           (λ t b. sym (iterate-fixed (withSources g) (k - i) (rowOf M k t)
-              (sym (step-row g e t b) ∙ map-range-same false (reachAt R t) (reachAt M t) k
-              (λ s l. f (t * 16 + s) (place-lt t s b l))))
-              ∙ c .leads g e t b)
+          (sym (step-row g e t b) ∙ map-range-same false (reachAt R t) (reachAt M t) k
+          (λ s l. f (t * 16 + s) (place-lt t s b l))))
+          ∙ c .leads g e t b)
 
-  pub rounds-end : (M : List Bool) (i : ℕ) → k ≤ i → Rounds i M → (g : List Arc) → Linked E k g → rowsOf M k ≡ reachings k g
+  pub rounds-end : (M : List Bool) (i : ℕ) → k ≤ i → Rounds i M → (g : List Arc) → Linked E k g → rowsOf M k
+      ≡ reachings k g
   unfolding rowsOf
   rounds-end M i h c g e =
       map-range-same [] (rowOf M k) (reaching k g) k
       (λ t b. let z : k - i ≡ 0 = omega arith in
-          ap (λ m. iterate (withSources g) m (rowOf M k t)) (sym z) ∙ c .leads g e t b)
+      ap (λ m. iterate (withSources g) m (rowOf M k t)) (sym z) ∙ c .leads g e t b)
 
 -- two tests that do not differ
 pub same-bool : (a b : Bool) → not (Bool·beq a b) ≡ false → a ≡ b

@@ -1,55 +1,55 @@
--- The component's edges, appended word by word and state by state, and its weights.
--- In order: row-yes, row-no, row-le; Rowed, rowed-none, rowed-yes, rowed-no, rowed-over, rowed-end; rows-more, rows-le; Done,
--- done-none, done-more, done-over, done-end; map-by-place, weights-filled; sum-more.
+-- The component's edges, appended word by word and state by state.
+-- In order: row-yes, row-no, row-all; Rowed, rowed-none, rowed-yes, rowed-no, rowed-over, rowed-end; rows, rows-more,
+-- rows-all; Done, done-none, done-more, done-over, done-end; added-none.
 -- Assumes nothing.
-use mathlib.Core.Path.{_≡_, refl, sym, ap, ap₂, subst, _∙_}
-use mathlib.Core.Bool.{Bool, true, false}
+use mathlib.Core.Path.{_≡_, refl, sym, ap, subst, _∙_}
+use mathlib.Core.Bool.{true, false}
 use mathlib.Core.List.{List, [], _∷_, _++_, map, append-assoc, append-nil}
-use Prim.Native.Nat.{ℕ, zero, suc, _+_, _-_, _*_, _≤_, _<_}
+use Prim.Native.Nat.{ℕ, zero, suc, _+_, _-_, _≤_, _<_}
 use native.Mathlib.Nat.{add-zero}
-use native.Mathlib.Numerals.{add-one}
 use native.Mathlib.Omega.{arith}
 use borrow.Author.Tests.{lt-ltb, le-ltb, ltb-true, ltb-false}
-use lib.Dec.{ltb}
-use lib.ListN.{length, getD, take, set, length-set, length-append, length-map}
-use lib.Seq.{length-take-le, getD-take, take-suc, ext-getD}
-use Rattle.laws.specs.Lists.{if_then_else_, range, filter, sum, concat}
-use Rattle.laws.proofs.Lists.{sum-append}
-use Rattle.laws.proofs.Tests.{map-range-at, getD-map-lt}
+use lib.ListN.{length, getD, length-set, length-append}
+use Rattle.laws.specs.Lists.{if_then_else_, range, filter, concat}
 use Rattle.graph.specs.declared.Graph.{Graph}
 use Rattle.graph.specs.declared.split_graph.NextGraph.{NextGraph}
-use Rattle.graph.specs.Arcs.{Arc, arc}
-use Rattle.graph.specs.Value.{arcAt, arcsIn, weightAt, weightsIn}
+use Rattle.graph.specs.Arcs.{Arc}
+use Rattle.graph.specs.Value.{arcAt, arcsIn}
 use Rattle.graph.specs.PowerTable.{entryAt}
 use Rattle.graph.specs.ComponentParts.{placeOf, rowKeeps, rowArc, rowArcs, Added}
-use Rattle.graph.proofs.CodeLists.{
-  range-more, map-append, filter-append, length-map-range, map-range-same, Filled
-}
+use Rattle.graph.proofs.CodeLists.{range-more, map-append, filter-append, length-map-range}
 use Rattle.graph.proofs.CodePart.{withArc, appended}
 
 module _ (P I : List ℕ) (s : ℕ) where
   row-snoc : (w : ℕ) → rowArcs P I s (w + 1) ≡ rowArcs P I s w ++ map (rowArc P I s) (filter (rowKeeps P I s) (w ∷ []))
   row-snoc w =
-      ap (map (rowArc P I s)) (ap (filter (rowKeeps P I s)) (range-more w) ∙ filter-append (rowKeeps P I s) (range w) (w ∷ []))
+      ap (map (rowArc P I s)) (ap (filter (rowKeeps P I s)) (range-more w)
+      ∙ filter-append (rowKeeps P I s) (range w) (w ∷ []))
       ∙ map-append (rowArc P I s) (filter (rowKeeps P I s) (range w)) (filter (rowKeeps P I s) (w ∷ []))
 
   row-yes : (w : ℕ) → placeOf I (entryAt P s w) < 16 → rowArcs P I s (w + 1) ≡ rowArcs P I s w ++ (rowArc P I s w ∷ [])
   row-yes w h =
       row-snoc w
-      ∙ ap (λ b. rowArcs P I s w ++ map (rowArc P I s) (if b then w ∷ [] else [])) (lt-ltb (placeOf I (entryAt P s w)) 16 h)
+      ∙ ap (λ b. rowArcs P I s w ++ map (rowArc P I s) (if b then w ∷ [] else []))
+      (lt-ltb (placeOf I (entryAt P s w)) 16 h)
 
   row-no : (w : ℕ) → 16 ≤ placeOf I (entryAt P s w) → rowArcs P I s (w + 1) ≡ rowArcs P I s w
   row-no w h =
       row-snoc w
-      ∙ ap (λ b. rowArcs P I s w ++ map (rowArc P I s) (if b then w ∷ [] else [])) (le-ltb (placeOf I (entryAt P s w)) 16 h)
+      ∙ ap (λ b. rowArcs P I s w ++ map (rowArc P I s) (if b then w ∷ [] else []))
+      (le-ltb (placeOf I (entryAt P s w)) 16 h)
       ∙ append-nil (rowArcs P I s w)
 
   row-le : (w d : ℕ) → length (rowArcs P I s w) ≤ length (rowArcs P I s (w + d))
   row-le w zero = rw (add-zero w) (omega arith)
   row-le w (suc d) =
       let e : w + suc d ≡ w + d + 1 = omega arith in
-      rw e (omega (arith, row-le w d, ap length (row-snoc (w + d)),
-      length-append (rowArcs P I s (w + d)) (map (rowArc P I s) (filter (rowKeeps P I s) ((w + d) ∷ [])))))
+      rw e (omega (
+        arith,
+        row-le w d,
+        ap length (row-snoc (w + d)),
+        length-append (rowArcs P I s (w + d)) (map (rowArc P I s) (filter (rowKeeps P I s) ((w + d) ∷ []))),
+      ))
 
   row-all : (w words : ℕ) → w ≤ words → length (rowArcs P I s w) ≤ length (rowArcs P I s words)
   row-all w words h =
@@ -68,7 +68,12 @@ module _ (P I : List ℕ) (s : ℕ) where
   pub rowed-none : (g : Graph) → length (g .source) ≡ 2048 → length (g .word) ≡ 2048 → length (g .target) ≡ 2048
       → Rowed g g (g .edges) 0
   rowed-none g a b d = record {
-    arcs = sym (append-nil (arcsIn g)); source = a; word = b; target = d; states = refl; weight = refl
+    arcs = sym (append-nil (arcsIn g));
+    source = a;
+    word = b;
+    target = d;
+    states = refl;
+    weight = refl;
   }
 
   module _ (g h : Graph) (m w : ℕ) (c : Rowed g h m w) where
@@ -81,10 +86,11 @@ module _ (P I : List ℕ) (s : ℕ) where
         → Rowed g (withArc h m (getD I s 0) w (placeOf I (entryAt P s w))) (m + 1) (w + 1)
     rowed-here l q = record {
       arcs =
-        appended h m (getD I s 0) w (placeOf I (entryAt P s w)) (let a = c .source in omega arith)
-            (let a = c .word in omega arith) (let a = c .target in omega arith)
-        ∙ ap (λ x. x ++ (rowArc P I s w ∷ [])) (c .arcs)
-        ∙ append-assoc (arcsIn g) (rowArcs P I s w) (rowArc P I s w ∷ []) ∙ ap (λ x. arcsIn g ++ x) (sym (row-yes w q));
+          appended h m (getD I s 0) w (placeOf I (entryAt P s w)) (let a = c .source in omega arith)
+          (let a = c .word in omega arith) (let a = c .target in omega arith)
+          ∙ ap (λ x. x ++ (rowArc P I s w ∷ [])) (c .arcs)
+          ∙ append-assoc (arcsIn g) (rowArcs P I s w) (rowArc P I s w ∷ [])
+          ∙ ap (λ x. arcsIn g ++ x) (sym (row-yes w q));
       source = length-set (h .source) m (getD I s 0) ∙ c .source;
       word = length-set (h .word) m w ∙ c .word;
       target = length-set (h .target) m (placeOf I (entryAt P s w)) ∙ c .target;
@@ -101,15 +107,24 @@ module _ (P I : List ℕ) (s : ℕ) where
     pub rowed-no : 16 ≤ placeOf I (entryAt P s w) → Rowed g h m (w + 1)
     rowed-no q = record {
       arcs = c .arcs ∙ ap (λ x. arcsIn g ++ x) (sym (row-no w q));
-      source = c .source; word = c .word; target = c .target; states = c .states; weight = c .weight;
+      source = c .source;
+      word = c .word;
+      target = c .target;
+      states = c .states;
+      weight = c .weight;
     }
 
     pub rowed-over : (words : ℕ) → w < words → 2048 ≤ m → placeOf I (entryAt P s w) < 16
         → Added g (rowArcs P I s words) (record { crowded = true; graph = g })
     rowed-over words l k q = record {
       crowds = sym (lt-ltb 2048 (g .edges + length (rowArcs P I s words))
-          (omega (arith, rowed-count, row-all (w + 1) words (omega arith), ap length (row-yes w q),
-          length-append (rowArcs P I s w) (rowArc P I s w ∷ []))));
+          (omega (
+            arith,
+            rowed-count,
+            row-all (w + 1) words (omega arith),
+            ap length (row-yes w q),
+            length-append (rowArcs P I s w) (rowArc P I s w ∷ []),
+          )));
       arcs = λ e. let z : _≡_ {A = ℕ} 0 1 = cc in absurd (omega arith);
       states = λ e. refl;
       weight = λ e. refl;
@@ -118,8 +133,13 @@ module _ (P I : List ℕ) (s : ℕ) where
     pub rowed-end : m ≤ 2048 → Added g (rowArcs P I s w) (record {
       crowded = false;
       graph = record {
-        states = h .states; edges = m; weight = h .weight; source = h .source; word = h .word; target = h .target
-      }
+        states = h .states;
+        edges = m;
+        weight = h .weight;
+        source = h .source;
+        word = h .word;
+        target = h .target;
+      };
     })
     rowed-end l = record {
       crowds = sym (le-ltb 2048 (g .edges + length (rowArcs P I s w)) (omega (arith, rowed-count)));
@@ -173,13 +193,13 @@ module _ (row : ℕ → List Arc) where
     pub done-more : (r : NextGraph) → Added h (row i) r → r .crowded ≡ false → Done g (r .graph) (i + 1)
     done-more r a e = record {
       arcs =
-        a .arcs e ∙ ap (λ x. x ++ row i) (c .arcs) ∙ append-assoc (arcsIn g) (rows i) (row i)
-        ∙ ap (λ x. arcsIn g ++ x) (sym (rows-more i));
+          a .arcs e ∙ ap (λ x. x ++ row i) (c .arcs) ∙ append-assoc (arcsIn g) (rows i) (row i)
+          ∙ ap (λ x. arcsIn g ++ x) (sym (rows-more i));
       room =
-        let l : r .graph .edges ≡ h .edges + length (row i) =
-            sym (length-map-range (arcAt (r .graph)) (r .graph .edges)) ∙ ap length (a .arcs e)
-            ∙ length-append (arcsIn h) (row i) ∙ ap (λ x. x + length (row i)) (length-map-range (arcAt h) (h .edges)) in
-        omega (arith, ltb-false 2048 (h .edges + length (row i)) (sym (a .crowds) ∙ e));
+          let l : r .graph .edges ≡ h .edges + length (row i) =
+          sym (length-map-range (arcAt (r .graph)) (r .graph .edges)) ∙ ap length (a .arcs e)
+          ∙ length-append (arcsIn h) (row i) ∙ ap (λ x. x + length (row i)) (length-map-range (arcAt h) (h .edges)) in
+          omega (arith, ltb-false 2048 (h .edges + length (row i)) (sym (a .crowds) ∙ e));
       states = a .states e ∙ c .states;
       weight = a .weight e ∙ c .weight;
     }
@@ -187,9 +207,14 @@ module _ (row : ℕ → List Arc) where
     pub done-over : (r : NextGraph) (k : ℕ) → i < k → Added h (row i) r → r .crowded ≡ true → Added g (rows k) r
     done-over r k l a e = record {
       crowds =
-        e ∙ sym (lt-ltb 2048 (g .edges + length (rows k))
-        (omega (arith, ltb-true 2048 (h .edges + length (row i)) (sym (a .crowds) ∙ e), done-count, more-count,
-        rows-all (i + 1) k (omega arith))));
+          e ∙ sym (lt-ltb 2048 (g .edges + length (rows k))
+          (omega (
+            arith,
+            ltb-true 2048 (h .edges + length (row i)) (sym (a .crowds) ∙ e),
+            done-count,
+            more-count,
+            rows-all (i + 1) k (omega arith),
+          )));
       arcs = λ z. let y : _≡_ {A = ℕ} 0 1 = cc in absurd (omega arith);
       states = λ z. let y : _≡_ {A = ℕ} 0 1 = cc in absurd (omega arith);
       weight = λ z. let y : _≡_ {A = ℕ} 0 1 = cc in absurd (omega arith);
@@ -205,31 +230,8 @@ module _ (row : ℕ → List Arc) where
 
 pub added-none : (g : Graph) → g .edges ≤ 2048 → Added g [] (record { crowded = false; graph = g })
 added-none g h = record {
-  crowds = sym (le-ltb 2048 (g .edges + 0) (omega arith)); arcs = λ e. sym (append-nil (arcsIn g)); states = λ e. refl;
+  crowds = sym (le-ltb 2048 (g .edges + 0) (omega arith));
+  arcs = λ e. sym (append-nil (arcsIn g));
+  states = λ e. refl;
   weight = λ e. refl;
 }
-
--- ---- weights
-map-by-place : (f : ℕ → ℕ) (L : List ℕ) → map f L ≡ map (λ i. f (getD L i 0)) (range (length L))
-map-by-place f L =
-    ext-getD 0 (map f L) (map (λ i. f (getD L i 0)) (range (length L)))
-    (length-map L f ∙ sym (length-map-range (λ i. f (getD L i 0)) (length L)))
-    (λ i h. let b : i < length L = rw (length-map L f) at h in
-        getD-map-lt f L i 0 0 b ∙ sym (map-range-at (λ i. f (getD L i 0)) (length L) i 0 b))
-
-pub weights-filled : (v S : List ℕ) (n : ℕ) (W : List ℕ) → n ≤ length S
-    → Filled 0 (λ i. getD v (getD S i 0) 0) 128 n W
-    → map (λ i. getD W i 0) (range n) ≡ map (λ t. getD v t 0) (take n S)
-weights-filled v S n W h f =
-    map-range-same 0 (λ i. getD W i 0) (λ i. getD v (getD (take n S) i 0) 0) n
-        (λ i l. f .holds i l ∙ ap (λ t. getD v t 0) (sym (getD-take n S i 0 l)))
-    ∙ ap (λ k. map (λ i. getD v (getD (take n S) i 0) 0) (range k)) (sym (length-take-le n S h))
-    ∙ sym (map-by-place (λ t. getD v t 0) (take n S))
-
-pub sum-more : (v S : List ℕ) (i : ℕ) → i < length S
-    → sum (map (λ t. getD v t 0) (take (i + 1) S)) ≡ sum (map (λ t. getD v t 0) (take i S)) + getD v (getD S i 0) 0
-sum-more v S i h =
-    ap (λ l. sum (map (λ t. getD v t 0) l)) (ap (λ n. take n S) (add-one i) ∙ take-suc S i 0 h)
-    ∙ ap sum (map-append (λ t. getD v t 0) (take i S) (getD S i 0 ∷ []))
-    ∙ sum-append (map (λ t. getD v t 0) (take i S)) (getD v (getD S i 0) 0 ∷ [])
-    ∙ ap (λ x. sum (map (λ t. getD v t 0) (take i S)) + x) (add-zero (getD v (getD S i 0) 0))

@@ -1,24 +1,23 @@
 -- The search for a run: sums of stretches, from the last place back.
--- In order: Summed, what holds after i places; summed-none, summed-more; run-found, run-none; first-found, first-nowhere.
+-- In order: Summed, what holds after i places; summed-none, summed-more; run-found, run-none; first-found,
+-- first-nowhere.
 -- Assumes nothing.
-use mathlib.Core.Path.{_≡_, refl, sym, ap, ap₂, subst, _∙_}
-use mathlib.Core.Bool.{Bool, true, false}
-use mathlib.Core.List.{List, [], _∷_, _++_, map}
+use mathlib.Core.Path.{_≡_, refl, sym, ap, ap₂, _∙_}
+use mathlib.Core.Bool.{false}
+use mathlib.Core.List.{List, [], _∷_, map}
 use Prim.Native.Nat.{ℕ, zero, suc, _+_, _-_, _*_, _%_, _≤_, _<_}
 use native.Mathlib.Numerals.{add-one}
-use native.Mathlib.Nat.{zero-add}
 use native.Mathlib.Omega.{arith}
 use borrow.Author.Count.{below-more}
 use borrow.Author.Tests.{eq-eqb, ne-eqb}
-use lib.Dec.{eqb}
 use lib.ListN.{length, getD, take, drop, length-map}
 use lib.Seq.{drop-cons, getD-take, length-take-le}
-use Rattle.laws.specs.Lists.{range, sum, any, first}
+use Rattle.laws.specs.Lists.{sum, any}
 use Rattle.laws.proofs.Tests.{map-range-at}
 use Rattle.graph.specs.declared.find_run.Run.{Run}
 use Rattle.graph.specs.Arcs.{Arc}
 use Rattle.graph.specs.Weights.{weight, total}
-use Rattle.graph.specs.Splitting.{stretch, runsTo, divisible, firstRun}
+use Rattle.graph.specs.Splitting.{stretch, runsTo, divisible}
 use Rattle.graph.specs.SplitParts.{RunTo, FirstRun}
 use Rattle.graph.proofs.CodeLists.{any-false, length-map-range}
 use Rattle.graph.proofs.CodeFind.{first-at, first-part, first-none}
@@ -78,7 +77,8 @@ module _ (n : ℕ) (A : List ℕ) (m j i s : ℕ) (la : length A ≡ 16) (hm : m
   }
 
   -- the weights of a stretch of edges
-  total-is : (v : List ℕ) (es : List Arc) → map (weight v) es ≡ W → (k : ℕ) → total v (stretch es j k) ≡ stretchSum W j k
+  total-is : (v : List ℕ) (es : List Arc) → map (weight v) es ≡ W → (k : ℕ) → total v (stretch es j k)
+      ≡ stretchSum W j k
   total-is v es e k =
       ap sum (map-take (weight v) (k + 1) (drop (j - k) es)
       ∙ ap (take (k + 1)) (map-drop (weight v) (j - k) es ∙ ap (drop (j - k)) e))
@@ -89,7 +89,8 @@ module _ (n : ℕ) (A : List ℕ) (m j i s : ℕ) (la : length A ≡ 16) (hm : m
     inside = rw long (omega arith);
     some = λ v es e h.
         let (a, b) = first-at (divisible n v) [] (stretch es j) (j + 1) i
-        (λ k l. ne-eqb (total v (stretch es j k) % n) 0 (λ z. c .fails k l (ap (λ x. x % n) (sym (total-is v es e k)) ∙ z)))
+        (λ k l. ne-eqb (total v (stretch es j k) % n) 0
+        (λ z. c .fails k l (ap (λ x. x % n) (sym (total-is v es e k)) ∙ z)))
         (omega arith)
         (eq-eqb (total v (stretch es j i) % n) 0 (ap (λ x. x % n) (total-is v es e i ∙ sym stretch-more) ∙ q)) in
         (b, a, total-is v es e i ∙ sym stretch-more);
@@ -112,9 +113,11 @@ run-none n W j i s h c = record {
 
 -- no run ends before place j
 abbrev pub Without : ℕ → List ℕ → ℕ → Type 0
-Without n W j = (v : List ℕ) (es : List Arc) → map (weight v) es ≡ W → (k : ℕ) → k < j → any (divisible n v) (runsTo es k) ≡ false
+Without n W j = (v : List ℕ) (es : List Arc) → map (weight v) es ≡ W → (k : ℕ) → k < j
+    → any (divisible n v) (runsTo es k) ≡ false
 
-pub without-more : (n : ℕ) (W : List ℕ) (j : ℕ) (r : Run) → RunTo n W j r → r .count ≤ 0 → Without n W j → Without n W (j + 1)
+pub without-more : (n : ℕ) (W : List ℕ) (j : ℕ) (r : Run) → RunTo n W j r → r .count ≤ 0 → Without n W j
+    → Without n W (j + 1)
 without-more n W j r t h f v es e =
     below-more (λ k. any (divisible n v) (runsTo es k) ≡ false) j (f v es e) (t .none v es e (omega arith))
 
@@ -128,7 +131,8 @@ first-found n W j r t h l f = record {
       (first-part (divisible n v) [] (runsTo es) (length es) j (f v es e) (omega arith) a ∙ b, d);
 }
 
-pub first-nowhere : (n : ℕ) (W : List ℕ) → Without n W (length W) → FirstRun n W (record { from = 0; count = 0; total = 0 })
+pub first-nowhere : (n : ℕ) (W : List ℕ) → Without n W (length W)
+    → FirstRun n W (record { from = 0; count = 0; total = 0 })
 first-nowhere n W f = record {
   inside = omega arith;
   run = λ v es e.

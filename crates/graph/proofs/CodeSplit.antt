@@ -1,26 +1,23 @@
 -- One split of the graph in work: the state that the rule names, and the count of edges before anything is written.
 -- In order: split-count, split-crowded, split-fits; chosen-heavy, chosen-light; crowded-into, parted-into.
 -- Assumes nothing.
-use mathlib.Core.Path.{_≡_, refl, sym, ap, ap₂, subst, _∙_}
-use mathlib.Core.Bool.{Bool, true, false, _&&_}
-use mathlib.Core.List.{List, map}
-use Prim.Native.Nat.{ℕ, _+_, _-_, _*_, _/_, _≤_, _<_}
+use mathlib.Core.Path.{_≡_, sym, ap, subst, _∙_}
+use mathlib.Core.Bool.{true, false}
+use mathlib.Core.List.{List}
+use Prim.Native.Nat.{ℕ, _+_, _-_, _/_, _≤_, _<_}
 use native.Mathlib.Omega.{arith}
 use borrow.Author.Tests.{lt-ltb, le-ltb}
-use lib.Dec.{T, ltb, eqb, eqb→eq}
+use lib.Dec.{T, eqb, eqb→eq}
 use lib.ListN.{length, getD}
-use Rattle.laws.specs.Lists.{range, any, first}
-use Rattle.laws.specs.Sums.{Each}
+use Rattle.laws.specs.Lists.{range, any}
 use Rattle.laws.proofs.Tests.{and→}
 use Rattle.laws.proofs.Sums.{first-passes}
 use Rattle.laws.proofs.Anys.{each-range}
 use Rattle.graph.specs.declared.Graph.{Graph}
-use Rattle.graph.specs.declared.split_graph.NextGraph.{NextGraph}
-use Rattle.graph.specs.Arcs.{Arc, Work, out}
+use Rattle.graph.specs.Arcs.{out}
 use Rattle.graph.specs.Weights.{total}
 use Rattle.graph.specs.Splitting.{greatest, lighter, splittable, chosen, kept, parted, split, crowded}
-use Rattle.graph.specs.Value.{arcAt, arcsIn, weightAt, weightsIn, workIn}
-use Rattle.graph.specs.EdgeKeys.{Fits}
+use Rattle.graph.specs.Value.{arcAt, arcsIn, weightsIn, workIn}
 use Rattle.graph.specs.SplitParts.{entering, PartedInto, SplitInto}
 use Rattle.graph.proofs.PartedBack.{parted-count}
 use Rattle.graph.proofs.CodeLists.{length-map-range}
@@ -67,10 +64,12 @@ module _ (n : ℕ) (g : Graph) where
 
       pub chosen-heavy : (M : ℕ) → M ≡ greatest v → M ≡ getD v s 0
       chosen-heavy M e =
-          let (a, b) = and→ (eqb (getD v s 0) (greatest v)) (any (lighter v (greatest v)) (out (arcsIn g) s)) chosen-passes in
+          let (a, b) = and→ (eqb (getD v s 0) (greatest v))
+          (any (lighter v (greatest v)) (out (arcsIn g) s)) chosen-passes in
           e ∙ sym (eqb→eq (getD v s 0) (greatest v) a)
 
       pub chosen-light : (M : ℕ) → M ≡ greatest v → T (any (lighter v M) (out (arcsIn g) s))
       chosen-light M e =
-          let (a, b) = and→ (eqb (getD v s 0) (greatest v)) (any (lighter v (greatest v)) (out (arcsIn g) s)) chosen-passes in
+          let (a, b) = and→ (eqb (getD v s 0) (greatest v))
+          (any (lighter v (greatest v)) (out (arcsIn g) s)) chosen-passes in
           subst (λ m. T (any (lighter v m) (out (arcsIn g) s))) (sym e) b

@@ -1,125 +1,44 @@
 -- Splitting a state, put together of its parts.
--- In order: target-moved, entering-moved; fits-from; the module of one split: keys-inside, weights-low, map-weight, kept-is,
--- total-is, share-le, room-moved, parted-fits, parted-is.
+-- In order: the module of one split: keys-inside, weights-low, map-weight, inside-run, kept-is, kept-total, share-le,
+-- room-moved, parted-is.
 -- Assumes nothing.
 use mathlib.Core.Path.{_≡_, refl, sym, ap, ap₂, subst, _∙_}
-use mathlib.Core.Bool.{Bool, true, false, not, _&&_}
 use mathlib.Core.List.{List, [], _∷_, _++_, map}
-use Prim.Native.Nat.{ℕ, zero, suc, _+_, _-_, _*_, _/_, _%_, _≤_, _<_}
-use native.Mathlib.Nat.{le-trans, div-le-of-le-mul, mul-comm, mul-le-mul-right, not-suc-le-zero, le-of-suc-le-suc}
-use native.Mathlib.Numerals.{add-one}
+use Prim.Native.Nat.{ℕ, _+_, _-_, _*_, _/_, _%_, _≤_, _<_}
+use native.Mathlib.Nat.{le-trans, div-le-of-le-mul, mul-le-mul-right}
 use native.Mathlib.Omega.{arith}
-use lib.Dec.{T, eqb}
+use lib.Dec.{T}
 use lib.ListN.{length, getD, take, drop, set, length-take, length-map}
 use lib.Seq.{length-take-le, getD-take}
-use Rattle.laws.specs.Lists.{if_then_else_, range, filter, any, first}
+use Rattle.laws.specs.Lists.{range, filter, any, first}
 use Rattle.laws.specs.Sums.{Each}
-use Rattle.laws.proofs.Sums.{
-  each-map, each-always, each-append, each-filter, each-take, each-image, image-each, first-passes
-}
+use Rattle.laws.proofs.Sums.{each-map, each-append, each-filter, each-take, each-image, image-each, first-passes}
 use Rattle.laws.proofs.Elems.{each-at}
 use Rattle.laws.proofs.Tests.{map-range-at}
-use Rattle.laws.proofs.Anys.{each-range}
 use Rattle.graph.specs.declared.Graph.{Graph}
 use Rattle.graph.specs.declared.keys.Keys.{Keys}
 use Rattle.graph.specs.declared.find_run.Run.{Run}
-use Rattle.graph.specs.Arcs.{Arc, arc, Work, leaves, enters, out}
+use Rattle.graph.specs.Arcs.{Arc, arc, leaves, out}
 use Rattle.graph.specs.Weights.{weight, total}
-use Rattle.graph.specs.Splitting.{
-  sort, among, greatest, lighter, other, candidates, firstRun, kept, moved, redirected, doubled, parted
-}
-use Rattle.graph.specs.Value.{arcAt, arcsIn, weightAt, weightsIn, workIn}
+use Rattle.graph.specs.Splitting.{sort, greatest, lighter, other, candidates, firstRun, kept, moved, doubled}
+use Rattle.graph.specs.Value.{arcsIn, weightAt, weightsIn}
 use Rattle.graph.specs.EdgeKeys.{arcOf, keysIn, keyWeight, Fits}
-use Rattle.graph.specs.SplitParts.{
-  FirstRun, runIn, keptArcs, Moved, entering, Doubled, Weighed, PartedInto
-}
+use Rattle.graph.specs.SplitParts.{FirstRun, keptArcs, Moved, entering, Doubled, Weighed, PartedInto}
 use Rattle.graph.proofs.Choice.{total-le}
 use Rattle.graph.proofs.Candidates.{each-sort, any-sort}
 use Rattle.graph.proofs.CodeLists.{length-map-range}
 use Rattle.graph.proofs.CodeRun.{map-take, map-drop}
-
--- ---- moving edges changes no target
-target-moved : (s K : ℕ) (keep : List Arc) (e : Arc) → moved s K keep e .target ≡ e .target
-target-moved s K keep e = go (leaves s e && not (among keep e))
-  where
-    go : (b : Bool) → (if b then arc K (e .word) (e .target) else e) .target ≡ e .target
-    go true = refl
-    go false = refl
-
-pub entering-moved : (s K : ℕ) (keep l : List Arc) → entering (map (moved s K keep) l) s ≡ entering l s
-entering-moved s K keep [] = refl
-entering-moved s K keep (e ∷ l) =
-    rw (target-moved s K keep e) (go (enters s e) (entering-moved s K keep l))
-  where
-    go : (b : Bool) → entering (map (moved s K keep) l) s ≡ entering l s
-        → length (if b then moved s K keep e ∷ filter (enters s) (map (moved s K keep) l)
-          else filter (enters s) (map (moved s K keep) l))
-        ≡ length (if b then e ∷ filter (enters s) l else filter (enters s) l)
-    go true q = ap suc q
-    go false q = q
-
--- ---- a graph that fits, by its lists
-abbrev pub Bounded : ℕ → Arc → Type 0
-Bounded K e = (e .source < K) × (e .target < K) × (e .word < 256)
-
-abbrev pub Low : ℕ → Type 0
-Low w = w ≤ 128
-
-pub fits-from : (g : Graph) → g .states ≤ 128 → g .edges ≤ 2048 → Each Low (weightsIn g)
-    → Each (Bounded (g .states)) (arcsIn g) → Fits g
-fits-from g a b w e = record {
-  few = a;
-  room = b;
-  light = λ s h. subst (λ x. x ≤ 128) (map-range-at (weightAt g) (g .states) s 0 h)
-      (each-at Low 0 (weightsIn g) w s (rw (length-map-range (weightAt g) (g .states)) h));
-  word = λ i h. at i h .2;
-  source = λ i h. at i h .0;
-  target = λ i h. at i h .1;
+use Rattle.graph.proofs.CodeFits.{
+  Bounded,
+  Low,
+  each-parted,
+  each-set,
+  entering-moved,
+  fits-arcs,
+  fits-from,
+  fits-weights,
+  map-each,
 }
-  where
-    at : (i : ℕ) → i < g .edges → Bounded (g .states) (arcAt g i)
-    at i h = subst (Bounded (g .states)) (map-range-at (arcAt g) (g .edges) i (arc 0 0 0) h)
-        (each-at (Bounded (g .states)) (arc 0 0 0) (arcsIn g) e i (rw (length-map-range (arcAt g) (g .edges)) h))
-
-pub fits-arcs : (g : Graph) → Fits g → Each (Bounded (g .states)) (arcsIn g)
-fits-arcs g f =
-    each-image (Bounded (g .states)) (arcAt g) (range (g .edges))
-    (each-map (λ i. i < g .edges) _ (λ i h. (f .source i h, f .target i h, f .word i h)) (range (g .edges))
-    (each-range (g .edges)))
-
-pub fits-weights : (g : Graph) → Fits g → Each Low (weightsIn g)
-fits-weights g f =
-    each-image Low (weightAt g) (range (g .states))
-    (each-map (λ i. i < g .states) _ (λ i h. f .light i h) (range (g .states)) (each-range (g .states)))
-
-each-set : (P : ℕ → Type 0) (l : List ℕ) (s w : ℕ) → Each P l → P w → Each P (set l s w)
-each-set P [] s w h p = tt
-each-set P (x ∷ l) zero w h p = (p, h .1)
-each-set P (x ∷ l) (suc s) w h p = (h .0, each-set P l s w (h .1) p)
-
-map-each : {A B : Type 0} (f g : A → B) (l : List A) → Each (λ x. f x ≡ g x) l → map f l ≡ map g l
-map-each f g [] h = refl
-map-each f g (x ∷ l) h = ap₂ (λ a b. a ∷ b) (h .0) (map-each f g l (h .1))
-
-pub each-parted : (s K : ℕ) (keep l : List Arc) → Each (Bounded K) l
-    → Each (Bounded (K + 1)) (doubled s K (map (moved s K keep) l))
-each-parted s K keep l h =
-    let m : Each (λ e. (e .source < K + 1) × (e .target < K) × (e .word < 256)) (map (moved s K keep) l) =
-        each-image (λ e. (e .source < K + 1) × (e .target < K) × (e .word < 256)) (moved s K keep) l
-        (each-map (Bounded K) _ (λ e b. go e b (leaves s e && not (among keep e))) l h) in
-    each-append (Bounded (K + 1)) (map (moved s K keep) l) (map (redirected K) (filter (enters s) (map (moved s K keep) l)))
-    (each-map _ (Bounded (K + 1)) (λ e b. (b .0, omega (arith, b .1), b .2)) (map (moved s K keep) l) m)
-    (each-image (Bounded (K + 1)) (redirected K) (filter (enters s) (map (moved s K keep) l))
-    (each-filter (λ e. Bounded (K + 1) (redirected K e)) (enters s) (map (moved s K keep) l)
-    (each-map _ (λ e. T (enters s e) → Bounded (K + 1) (redirected K e)) (λ e b t. (b .0, omega arith, b .2))
-        (map (moved s K keep) l) m)))
-  where
-    go : (e : Arc) → Bounded K e → (b : Bool)
-        → ((if b then arc K (e .word) (e .target) else e) .source < K + 1)
-        × ((if b then arc K (e .word) (e .target) else e) .target < K)
-        × ((if b then arc K (e .word) (e .target) else e) .word < 256)
-    go e b true = (omega arith, b .1, b .2)
-    go e b false = (omega (arith, b .0), b .1, b .2)
 
 -- ---- one state split
 module _ (n : ℕ) (g : Graph) (s M : ℕ) (fits : Fits g) (hs : s < g .states) (few : g .states < 128)
@@ -139,12 +58,13 @@ module _ (n : ℕ) (g : Graph) (s M : ℕ) (fits : Fits g) (hs : s < g .states) 
   keys-inside : Each (λ k. k % 128 < g .states) (keysIn list)
   keys-inside =
       image-each (λ e. e .target < g .states) (arcOf s) (keysIn list)
-      (subst (Each (λ e. e .target < g .states)) (sym is-list)
-      (first-passes (lighter v M) (arc 0 0 0) (λ e. e .target < g .states) es
-          (any-sort (lighter v M) (out (arcsIn g) s) some) inside .1,
-      each-take (λ e. e .target < g .states) (n - 1) (filter (other (first (lighter v M) (arc 0 0 0) es)) es)
-      (each-filter (λ e. e .target < g .states) (other (first (lighter v M) (arc 0 0 0) es)) es
-      (each-map (λ e. e .target < g .states) _ (λ e h t. h) es inside))))
+      (subst (Each (λ e. e .target < g .states)) (sym is-list) (
+        first-passes (lighter v M) (arc 0 0 0) (λ e. e .target < g .states) es
+            (any-sort (lighter v M) (out (arcsIn g) s) some) inside .1,
+        each-take (λ e. e .target < g .states) (n - 1) (filter (other (first (lighter v M) (arc 0 0 0) es)) es)
+            (each-filter (λ e. e .target < g .states) (other (first (lighter v M) (arc 0 0 0) es)) es
+            (each-map (λ e. e .target < g .states) _ (λ e h t. h) es inside)),
+      ))
     where
       inside : Each (λ e. e .target < g .states) es
       inside =
@@ -156,18 +76,19 @@ module _ (n : ℕ) (g : Graph) (s M : ℕ) (fits : Fits g) (hs : s < g .states) 
     pub weights-low : (i : ℕ) → i < list .count → getD w i 0 ≤ 128
     weights-low i h =
         let e : getD (map (keyWeight g) (keysIn list)) i 0 ≡ getD w i 0 =
-            ap (λ l. getD l i 0) (sym w-is) ∙ getD-take (list .count) w i 0 h in
+        ap (λ l. getD l i 0) (sym w-is) ∙ getD-take (list .count) w i 0 h in
         subst Low e (each-at Low 0 (map (keyWeight g) (keysIn list))
         (each-image Low (keyWeight g) (keysIn list)
-            (each-map (λ k. k % 128 < g .states) _ (λ k l. fits .light (k % 128) l) (keysIn list) keys-inside)) i
+        (each-map (λ k. k % 128 < g .states) _ (λ k l. fits .light (k % 128) l) (keysIn list) keys-inside)) i
         (rw (length-map (keysIn list) (keyWeight g), many) h))
 
     map-weight : map (weight v) (candidates n v M es) ≡ take (list .count) w
     map-weight =
         ap (map (weight v)) (sym is-list) ∙ both (keysIn list)
         ∙ map-each (λ k. weight v (arcOf s k)) (keyWeight g) (keysIn list)
-            (each-map (λ k. k % 128 < g .states) _ (λ k l. map-range-at (weightAt g) (g .states) (k % 128) 0 l) (keysIn list)
-            keys-inside)
+        (each-map (λ k. k % 128 < g .states) _ (λ k l. map-range-at (weightAt g) (g .states) (k % 128) 0 l)
+        (keysIn list)
+        keys-inside)
         ∙ sym w-is
       where
         both : (l : List ℕ) → map (weight v) (map (arcOf s) l) ≡ map (λ k. weight v (arcOf s k)) l
@@ -181,7 +102,7 @@ module _ (n : ℕ) (g : Graph) (s M : ℕ) (fits : Fits g) (hs : s < g .states) 
       pub inside-run : run .from + run .count ≤ list .count
       inside-run =
           let l : length (take (list .count) w) ≡ list .count =
-              ap length w-is ∙ length-map (keysIn list) (keyWeight g) ∙ many in
+          ap length w-is ∙ length-map (keysIn list) (keyWeight g) ∙ many in
           omega (arith, run-is .inside)
 
       pub kept-is : keptArcs s list run ≡ keep
@@ -193,13 +114,14 @@ module _ (n : ℕ) (g : Graph) (s M : ℕ) (fits : Fits g) (hs : s < g .states) 
 
       pub kept-total : total v keep ≡ run .total
       kept-total =
-          ap (total v) (sym (ap (λ m. firstRun n v (candidates n v m es)) eM) ∙ run-is .run v (candidates n v M es) map-weight .0)
+          ap (total v) (sym (ap (λ m. firstRun n v (candidates n v m es)) eM)
+          ∙ run-is .run v (candidates n v M es) map-weight .0)
           ∙ run-is .run v (candidates n v M es) map-weight .1
 
       kept-few : length keep ≤ n
       kept-few =
           let a : length (keptArcs s list run) ≡ length (take (run .count) (drop (run .from) (keysIn list))) =
-              length-map (take (run .count) (drop (run .from) (keysIn list))) (arcOf s) in
+          length-map (take (run .count) (drop (run .from) (keysIn list))) (arcOf s) in
           let b = length-take (run .count) (drop (run .from) (keysIn list)) in
           omega (arith, ap length kept-is, inside-run)
 
@@ -212,7 +134,7 @@ module _ (n : ℕ) (g : Graph) (s M : ℕ) (fits : Fits g) (hs : s < g .states) 
           → h .edges + entering (arcsIn h) s ≤ 2048
       room-moved r h m =
           let e : entering (arcsIn h) s ≡ entering (arcsIn g) s =
-              ap (λ l. entering l s) (m .arcs) ∙ entering-moved s (g .states) (keptArcs s list run) (arcsIn g) in
+          ap (λ l. entering l s) (m .arcs) ∙ entering-moved s (g .states) (keptArcs s list run) (arcsIn g) in
           omega (arith, m .edges)
 
       module _ (h : Graph) (m : Moved g s (keptArcs s list run) h) (d : Graph) (D : Doubled h s d)
@@ -234,21 +156,21 @@ module _ (n : ℕ) (g : Graph) (s M : ℕ) (fits : Fits g) (hs : s < g .states) 
         pub parted-is : PartedInto n g s r
         parted-is = record {
           work =
-            let K : length v ≡ g .states = length-map-range (weightAt g) (g .states) in
-            let a : arcsIn r ≡ doubled s (length v) (map (moved s (length v) keep) (arcsIn g)) =
-                arcs-r ∙ ap (λ k. doubled s k (map (moved s k keep) (arcsIn g))) (sym K) in
-            let b : weightsIn r ≡ set v s (total v keep / n) ++ ((getD v s 0 - total v keep / n) ∷ []) =
-                weights-r ∙ ap (λ t. set v s (t / n) ++ ((getD v s 0 - t / n) ∷ [])) (sym kept-total) in
-            λ i. record { weights = b i; arcs = a i };
+              let K : length v ≡ g .states = length-map-range (weightAt g) (g .states) in
+              let a : arcsIn r ≡ doubled s (length v) (map (moved s (length v) keep) (arcsIn g)) =
+              arcs-r ∙ ap (λ k. doubled s k (map (moved s k keep) (arcsIn g))) (sym K) in
+              let b : weightsIn r ≡ set v s (total v keep / n) ++ ((getD v s 0 - total v keep / n) ∷ []) =
+              weights-r ∙ ap (λ t. set v s (t / n) ++ ((getD v s 0 - t / n) ∷ [])) (sym kept-total) in
+              λ i. record { weights = b i; arcs = a i };
           fits =
-            let low : M ≤ 128 =
-                subst (λ x. x ≤ 128) (sym (eM ∙ map-range-at (weightAt g) (g .states) s 0 hs)) (fits .light s hs) in
-            fits-from r (let e = states-r in omega arith) (let e = W .edges in omega (arith, D .room))
-            (subst (Each Low) (sym weights-r)
-                (each-append Low (set v s (run .total / n)) ((getD v s 0 - run .total / n) ∷ [])
-                (each-set Low v s (run .total / n) (fits-weights g fits) (omega (arith, share-le)))
-                ((omega arith), tt)))
-            (subst (λ k. Each (Bounded k) (arcsIn r)) (sym states-r)
-                (subst (Each (Bounded (g .states + 1))) (sym arcs-r)
-                (each-parted s (g .states) keep (arcsIn g) (fits-arcs g fits))));
+              let low : M ≤ 128 =
+              subst (λ x. x ≤ 128) (sym (eM ∙ map-range-at (weightAt g) (g .states) s 0 hs)) (fits .light s hs) in
+              fits-from r (let e = states-r in omega arith) (let e = W .edges in omega (arith, D .room))
+              (subst (Each Low) (sym weights-r)
+              (each-append Low (set v s (run .total / n)) ((getD v s 0 - run .total / n) ∷ [])
+              (each-set Low v s (run .total / n) (fits-weights g fits) (omega (arith, share-le)))
+              ((omega arith), tt)))
+              (subst (λ k. Each (Bounded k) (arcsIn r)) (sym states-r)
+              (subst (Each (Bounded (g .states + 1))) (sym arcs-r)
+              (each-parted s (g .states) keep (arcsIn g) (fits-arcs g fits))));
         }

@@ -1,97 +1,42 @@
--- The rows of the table: one row after the other, and that all are the table of the graph.
--- In order: put-start, put-more; keys-long, keys-at; Laid, laid-none, laid-yes, laid-no, laid-end.
+-- The rows of the table, and that all together are the table of the graph.
+-- In order: keys-long, keys-low, list-long, list-at, key-lt, key-inside; key-stays; Laid, laid-none, laid-no,
+-- laid-yes; states-are, index-is, row-laid, laid-end.
 -- Assumes nothing.
-use mathlib.Core.Path.{_≡_, refl, sym, ap, ap₂, subst, _∙_}
+use mathlib.Core.Path.{_≡_, sym, ap, ap₂, subst, _∙_}
 use mathlib.Core.Bool.{Bool, true, false}
-use mathlib.Core.List.{List, [], _∷_, _++_, map}
-use Prim.Native.Nat.{ℕ, zero, suc, _+_, _-_, _*_, _/_, _%_, _≤_, _<_}
+use mathlib.Core.List.{List, [], map}
+use Prim.Native.Nat.{ℕ, _+_, _-_, _*_, _/_, _%_, _≤_, _<_}
 use native.Mathlib.Nat.{le-trans}
 use native.Mathlib.Omega.{arith}
-use native.Mathlib.Decide.{ℕ-discrete}
 use borrow.Author.Count.{below-more}
 use lib.Dec.{T}
-use lib.ListN.{length, getD, take, set, length-set, length-map, length-take, replicate, length-replicate}
-use lib.Seq.{length-take-le, getD-take, getD-set-same, getD-set-other, ext-getD}
+use lib.ListN.{length, getD, length-map, length-take}
+use lib.Seq.{length-take-le, getD-take}
 use Rattle.laws.specs.Lists.{range, filter, elem, indexOf}
 use Rattle.laws.specs.Sets.{member}
 use Rattle.laws.specs.Sums.{Each, times, one}
-use Rattle.laws.proofs.Tests.{map-range-at, getD-map-lt, T→true, length-from}
-use Rattle.laws.proofs.Sums.{each-map, each-filter, each-image, image-each, each-take}
+use Rattle.laws.proofs.Tests.{T→true}
+use Rattle.laws.proofs.Sums.{each-map, each-filter, image-each, each-take}
 use Rattle.laws.proofs.Anys.{each-range}
 use Rattle.laws.proofs.Elems.{each-elem, elem-filter, elem-each, each-at, index-at, range-once, tot-filter-le}
-use Rattle.table.specs.Rows.{Edge, edge}
+use Rattle.table.specs.Rows.{edge}
 use Rattle.graph.specs.declared.Graph.{Graph}
 use Rattle.graph.specs.declared.keys.Keys.{Keys}
 use Rattle.graph.specs.declared.finish_table.TableRows.{TableRows}
-use Rattle.graph.specs.Arcs.{Arc, arc, out}
+use Rattle.graph.specs.Arcs.{out}
 use Rattle.graph.specs.Splitting.{sort}
 use Rattle.graph.specs.Component.{reachings, reaches}
 use Rattle.graph.specs.TableOf.{row, firstEdges, tableStates, named, tableRow, tableOf}
-use Rattle.graph.specs.Value.{arcAt, arcsIn, weightAt, weightsIn, workIn}
+use Rattle.graph.specs.Value.{arcsIn, weightAt, weightsIn, workIn}
 use Rattle.graph.specs.EdgeKeys.{arcOf, keysFrom, admitted, firstKeys, keysIn}
-use Rattle.graph.specs.TableParts.{Finished, rank, rowEdge, rowsOfTable, TableIn, RowPut}
+use Rattle.graph.specs.TableParts.{Finished, rank, rowEdge, TableIn, RowPut}
 use Rattle.graph.proofs.Arcs.{length-sort}
 use Rattle.graph.proofs.CodeLists.{length-map-range, map-range-same}
 use Rattle.graph.proofs.CodeCandidates.{filter-same, keys-small}
-use Rattle.graph.proofs.CodeMembers.{upTo, index-kept}
+use Rattle.graph.proofs.CodeNumbers.{upTo, index-kept}
 use Rattle.graph.proofs.CodeClosure.{row-keys, row-inside, row-stays}
 use Rattle.graph.proofs.CodeRank.{rank-none, rank-yes, rank-no, rank-le, rank-small}
-
--- ---- one row
-abbrev pub withEdge : TableRows → ℕ → ℕ → ℕ → TableRows
-withEdge r x w t = record { states = r .states; word = set (r .word) x w; next = set (r .next) x t }
-
-pub put-start : (t : TableRows) (keys index : List ℕ) (n i : ℕ) → length (t .word) ≡ 2048 → length (t .next) ≡ 2048
-    → RowPut t keys index n i 0 t
-put-start t keys index n i a b = record {
-  states = refl; longW = a; longN = b; word = λ e h. absurd (omega arith); next = λ e h. absurd (omega arith);
-  keptW = λ x h. refl; keptN = λ x h. refl;
-}
-
-pub put-more : (t : TableRows) (keys index : List ℕ) (n i d : ℕ) (r : TableRows) → d < 16 → i < 128
-    → RowPut t keys index n i d r
-    → RowPut t keys index n i (d + 1) (withEdge r (i * 16 + d) (getD keys d 0 / 128) (getD index (getD keys d 0 % 128) 0))
-put-more t keys index n i d r hd hi c = record {
-  states = c .states;
-  longW = length-set (r .word) x w ∙ c .longW;
-  longN = length-set (r .next) x m ∙ c .longN;
-  word = below-more (λ e. getD (set (r .word) x w) (i * 16 + e) 0 ≡ getD keys e 0 / 128) d
-      (λ e h. getD-set-other (r .word) x (i * 16 + e) w 0 (λ q. omega arith) ∙ c .word e h)
-      (getD-set-same (r .word) x w 0 (let l = c .longW in omega arith));
-  next = below-more (λ e. getD (set (r .next) x m) (i * 16 + e) 0 ≡ getD index (getD keys e 0 % 128) 0) d
-      (λ e h. getD-set-other (r .next) x (i * 16 + e) m 0 (λ q. omega arith) ∙ c .next e h)
-      (getD-set-same (r .next) x m 0 (let l = c .longN in omega arith));
-  keptW = λ y h. getD-set-other (r .word) x y w 0 (λ q. omega arith) ∙ c .keptW y h;
-  keptN = λ y h. getD-set-other (r .next) x y m 0 (λ q. omega arith) ∙ c .keptN y h;
-}
-  where
-    x : ℕ
-    x = i * 16 + d
-    w : ℕ
-    w = getD keys d 0 / 128
-    m : ℕ
-    m = getD index (getD keys d 0 % 128) 0
-
--- the same row by keys that agree
-pub put-keys : (t : TableRows) (keys keys′ index : List ℕ) (n i : ℕ) (r : TableRows)
-    → ((d : ℕ) → d < n → getD keys d 0 ≡ getD keys′ d 0) → RowPut t keys index n i n r → RowPut t keys′ index n i n r
-put-keys t keys keys′ index n i r e c = record {
-  states = c .states; longW = c .longW; longN = c .longN;
-  word = λ d h. c .word d h ∙ ap (λ k. k / 128) (e d h);
-  next = λ d h. c .next d h ∙ ap (λ k. getD index (k % 128) 0) (e d h);
-  keptW = c .keptW; keptN = c .keptN;
-}
-
-map-places : {A B : Type 0} (d : A) (e : B) (f : A → B) (L : List A) → map f L ≡ map (λ i. f (getD L i d)) (range (length L))
-map-places d e f L =
-    ext-getD e (map f L) (map (λ i. f (getD L i d)) (range (length L)))
-    (length-map L f ∙ sym (length-map-range (λ i. f (getD L i d)) (length L)))
-    (λ i h. let b : i < length L = rw (length-map L f) at h in
-        getD-map-lt f L i d e b ∙ sym (map-range-at (λ i. f (getD L i d)) (length L) i e b))
-
-map-map : {A B C : Type 0} (f : B → C) (h : A → B) (l : List A) → map f (map h l) ≡ map (λ x. f (h x)) l
-map-map f h [] = refl
-map-map f h (x ∷ l) = ap (λ y. f (h x) ∷ y) (map-map f h l)
+use Rattle.graph.proofs.CodePut.{map-map, map-places}
 
 module _ (n : ℕ) (g : Graph) (F : Finished n g) where
   abbrev K : ℕ
@@ -127,19 +72,20 @@ module _ (n : ℕ) (g : Graph) (F : Finished n g) where
   key-inside s h d k =
       each-at (λ x. x % 128 < K) 0 (keysAt s)
       (image-each (λ e. e .target < K) (arcOf s) (keysAt s)
-          (subst (Each (λ e. e .target < K)) (sym (row-keys n g F s))
-          (each-map _ (λ e. e .target < K) (λ e b. b .0 .1) (row n (arcsIn g) s) (row-inside n g F s)))) d
+      (subst (Each (λ e. e .target < K)) (sym (row-keys n g F s))
+      (each-map _ (λ e. e .target < K) (λ e b. b .0 .1) (row n (arcsIn g) s) (row-inside n g F s)))) d
       (rw (keys-long s h) k)
 
-  module _ (S : List Bool) (reach : (t : ℕ) → t < K → member S t ≡ reaches (reachings K (firstEdges n (workIn g))) 0 t) where
+  module _ (S : List Bool) (reach : (t : ℕ) → t < K → member S t
+      ≡ reaches (reachings K (firstEdges n (workIn g))) 0 t) where
     -- the edge d of state s leads to a state of the set
     pub key-stays : (s : ℕ) → s < K → T (member S s) → (d : ℕ) → d < n
         → T (member S (getD (keysAt s) d 0 % 128)) × (getD (keysAt s) d 0 % 128 < K)
     key-stays s h u d k =
         each-at (λ x. T (member S (x % 128)) × (x % 128 < K)) 0 (keysAt s)
         (image-each (λ e. T (member S (e .target)) × (e .target < K)) (arcOf s) (keysAt s)
-            (subst (Each (λ e. T (member S (e .target)) × (e .target < K))) (sym (row-keys n g F s))
-            (row-stays n g F S reach s h u))) d (rw (keys-long s h) k)
+        (subst (Each (λ e. T (member S (e .target)) × (e .target < K))) (sym (row-keys n g F s))
+        (row-stays n g F S reach s h u))) d (rw (keys-long s h) k)
 
     module _ (index : List ℕ) (ranks : (t : ℕ) → t < K → getD index t 0 ≡ rank S t) where
       -- the rows of the states below t are laid
@@ -154,15 +100,21 @@ module _ (n : ℕ) (g : Graph) (F : Finished n g) where
 
       pub laid-none : (r : TableRows) → length (r .word) ≡ 2048 → length (r .next) ≡ 2048 → Laid 0 0 r
       laid-none r a b = record {
-        counted = sym (rank-none S); longW = a; longN = b; word = λ u h. absurd (omega arith);
+        counted = sym (rank-none S);
+        longW = a;
+        longN = b;
+        word = λ u h. absurd (omega arith);
         next = λ u h. absurd (omega arith);
       }
 
       module _ (t count : ℕ) (r : TableRows) (c : Laid t count r) where
         pub laid-no : member S t ≡ false → Laid (t + 1) count r
         laid-no e = record {
-          counted = c .counted ∙ sym (rank-no S t e); longW = c .longW; longN = c .longN;
-          word = below-more (λ u. T (member S u) → (d : ℕ) → d < n → getD (r .word) (rank S u * 16 + d) 0 ≡ getD (keysAt u) d 0 / 128)
+          counted = c .counted ∙ sym (rank-no S t e);
+          longW = c .longW;
+          longN = c .longN;
+          word = below-more (λ u. T (member S u) → (d : ℕ) → d < n → getD (r .word) (rank S u * 16 + d) 0
+              ≡ getD (keysAt u) d 0 / 128)
               t (c .word) (λ x. absurd (subst T e x));
           next = below-more (λ u. T (member S u) → (d : ℕ) → d < n
               → getD (r .next) (rank S u * 16 + d) 0 ≡ getD index (getD (keysAt u) d 0 % 128) 0)
@@ -173,15 +125,21 @@ module _ (n : ℕ) (g : Graph) (F : Finished n g) where
         lower : (u : ℕ) → u < t → T (member S u) → rank S u + 1 ≤ rank S t
         lower u h m = omega (arith, rank-yes S u (T→true (member S u) m), rank-le S (u + 1) t (omega arith))
 
-        pub laid-yes : member S t ≡ true → (r′ : TableRows) → RowPut r (keysAt t) index n count n r′ → Laid (t + 1) (count + 1) r′
+        pub laid-yes : member S t ≡ true → (r′ : TableRows) → RowPut r (keysAt t) index n count n r′
+            → Laid (t + 1) (count + 1) r′
         laid-yes e r′ p = record {
-          counted = ap (λ x. x + 1) (c .counted) ∙ sym (rank-yes S t e); longW = p .longW; longN = p .longN;
-          word = below-more (λ u. T (member S u) → (d : ℕ) → d < n → getD (r′ .word) (rank S u * 16 + d) 0 ≡ getD (keysAt u) d 0 / 128)
-              t (λ u h m d l. p .keptW (rank S u * 16 + d) (omega (arith, lower u h m, c .counted, F .few)) ∙ c .word u h m d l)
+          counted = ap (λ x. x + 1) (c .counted) ∙ sym (rank-yes S t e);
+          longW = p .longW;
+          longN = p .longN;
+          word = below-more (λ u. T (member S u) → (d : ℕ) → d < n → getD (r′ .word) (rank S u * 16 + d) 0
+              ≡ getD (keysAt u) d 0 / 128)
+              t (λ u h m d l. p .keptW (rank S u * 16 + d) (omega (arith, lower u h m, c .counted, F .few))
+              ∙ c .word u h m d l)
               (λ m d l. ap (λ x. getD (r′ .word) (x * 16 + d) 0) (sym (c .counted)) ∙ p .word d l);
           next = below-more (λ u. T (member S u) → (d : ℕ) → d < n
               → getD (r′ .next) (rank S u * 16 + d) 0 ≡ getD index (getD (keysAt u) d 0 % 128) 0)
-              t (λ u h m d l. p .keptN (rank S u * 16 + d) (omega (arith, lower u h m, c .counted, F .few)) ∙ c .next u h m d l)
+              t (λ u h m d l. p .keptN (rank S u * 16 + d) (omega (arith, lower u h m, c .counted, F .few))
+              ∙ c .next u h m d l)
               (λ m d l. ap (λ x. getD (r′ .next) (x * 16 + d) 0) (sym (c .counted)) ∙ p .next d l);
         }
 
@@ -192,7 +150,8 @@ module _ (n : ℕ) (g : Graph) (F : Finished n g) where
       states-are : tableStates n (workIn g) ≡ states
       unfolding tableStates
       states-are =
-          ap (λ k. filter (reaches (reachings k (firstEdges n (workIn g))) 0) (range k)) (length-map-range (weightAt g) (g .states))
+          ap (λ k. filter (reaches (reachings k (firstEdges n (workIn g))) 0) (range k))
+          (length-map-range (weightAt g) (g .states))
           ∙ filter-same (reaches (reachings K (firstEdges n (workIn g))) 0) (member S) (range K)
           (each-map (λ t. t < K) _ (λ t h. sym (reach t h)) (range K) (each-range K))
 
@@ -204,7 +163,8 @@ module _ (n : ℕ) (g : Graph) (F : Finished n g) where
       index-is t h m = index-kept (member S) K t h (T→true (member S t) m)
 
       module _ (count : ℕ) (r : TableRows) (c : Laid K count r) where
-        row-laid : (j : ℕ) → j < length states → map (rowEdge r j) (range n) ≡ tableRow n (workIn g) states (getD states j 0)
+        row-laid : (j : ℕ) → j < length states → map (rowEdge r j) (range n)
+            ≡ tableRow n (workIn g) states (getD states j 0)
         row-laid j h =
             let s = getD states j 0 in
             let u : T (elem s states) = each-at (λ x. T (elem x states)) 0 states (each-elem states) j h in
@@ -212,13 +172,14 @@ module _ (n : ℕ) (g : Graph) (F : Finished n g) where
             let hs : s < K = elem-each (λ x. x < K) s (range K) b (each-range K) in
             let q : rank S s ≡ j = sym (index-is s hs m) ∙ index-at states once j h in
             map-range-same (edge 0 0) (rowEdge r j)
-                (λ d. edge (getD (keysAt s) d 0 / 128) (indexOf (getD (keysAt s) d 0 % 128) states)) n
-                (λ d l. let k = key-stays s hs m d l in
-                    ap₂ edge (ap (λ x. getD (r .word) (x * 16 + d) 0) (sym q) ∙ c .word s hs m d l)
-                    (ap (λ x. getD (r .next) (x * 16 + d) 0) (sym q) ∙ c .next s hs m d l
-                        ∙ ranks (getD (keysAt s) d 0 % 128) (k .1) ∙ sym (index-is (getD (keysAt s) d 0 % 128) (k .1) (k .0))))
-            ∙ ap (λ x. map (λ d. edge (getD (keysAt s) d 0 / 128) (indexOf (getD (keysAt s) d 0 % 128) states)) (range x))
-                (sym (keys-long s hs))
+            (λ d. edge (getD (keysAt s) d 0 / 128) (indexOf (getD (keysAt s) d 0 % 128) states)) n
+            (λ d l. let k = key-stays s hs m d l in
+            ap₂ edge (ap (λ x. getD (r .word) (x * 16 + d) 0) (sym q) ∙ c .word s hs m d l)
+            (ap (λ x. getD (r .next) (x * 16 + d) 0) (sym q) ∙ c .next s hs m d l
+            ∙ ranks (getD (keysAt s) d 0 % 128) (k .1) ∙ sym (index-is (getD (keysAt s) d 0 % 128) (k .1) (k .0))))
+            ∙ ap (λ x. map (λ d. edge (getD (keysAt s) d 0 / 128) (indexOf (getD (keysAt s) d 0 % 128) states))
+            (range x))
+            (sym (keys-long s hs))
             ∙ sym (map-places 0 (edge 0 0) (λ k. edge (k / 128) (indexOf (k % 128) states)) (keysAt s))
             ∙ sym (map-map (named states) (arcOf s) (keysAt s)) ∙ ap (map (named states)) (row-keys n g F s)
 
@@ -227,9 +188,10 @@ module _ (n : ℕ) (g : Graph) (F : Finished n g) where
         laid-end = record {
           few = omega (arith, c .counted, rank-small S K, F .fits .few);
           rows =
-            ap (λ k. map (λ s. map (rowEdge r s) (range n)) (range k)) (c .counted)
-            ∙ map-range-same [] (λ s. map (rowEdge r s) (range n)) (λ j. tableRow n (workIn g) states (getD states j 0))
-                (length states) row-laid
-            ∙ sym (map-places 0 [] (tableRow n (workIn g) states) states)
-            ∙ ap (λ X. map (tableRow n (workIn g) X) X) (sym states-are);
+              ap (λ k. map (λ s. map (rowEdge r s) (range n)) (range k)) (c .counted)
+              ∙ map-range-same [] (λ s. map (rowEdge r s) (range n))
+              (λ j. tableRow n (workIn g) states (getD states j 0))
+              (length states) row-laid
+              ∙ sym (map-places 0 [] (tableRow n (workIn g) states) states)
+              ∙ ap (λ X. map (tableRow n (workIn g) X) X) (sym states-are);
         }

@@ -2,17 +2,16 @@
 -- In order: filter-filter, filter-both; out-tabled; between-count; tabled-power, the table of a constraint.
 -- Assumes nothing.
 use mathlib.Core.Path.{_≡_, refl, sym, ap, ap₂, subst, _∙_}
-use mathlib.Core.Bool.{Bool, true, false, not}
+use mathlib.Core.Bool.{Bool, true, false}
 use mathlib.Core.List.{List, [], _∷_, _++_, map, append-nil}
-use Prim.Native.Nat.{ℕ, zero, suc, _+_, _*_, _^_, _≤_, _<_}
-use native.Mathlib.Nat.{zero-add}
+use Prim.Native.Nat.{ℕ, zero, suc, _+_, _^_, _≤_, _<_}
 use native.Mathlib.Omega.{arith}
 use native.Mathlib.Decide.{ℕ-discrete}
 use borrow.Author.Tests.{eq-eqb, ne-eqb}
 use lib.Dec.{T, eqb, eqb→eq}
-use lib.ListN.{length, getD, length-map}
+use lib.ListN.{length, length-map}
 use Rattle.laws.specs.Lists.{if_then_else_, from, range, filter, concat}
-use Rattle.constraint.specs.Walking.{Constraint, none, walk}
+use Rattle.constraint.specs.Walking.{Constraint, walk}
 use Rattle.graph.specs.Arcs.{Arc, arc, leaves, enters, out, wordFrom, wordsFrom, leadsOn, power}
 use Rattle.graph.specs.Weights.{wordsBetween}
 use Rattle.graph.specs.PowerTable.{entryAt, wordAt, wordsAt, tabled, wordLeads, wordCount}
@@ -60,7 +59,8 @@ module _ {A : Type 0} (p : A → Bool) (f : ℕ → List A) (s : ℕ) (own : fil
           → filter p (concat (map f (from i (suc K)))) ≡ f s
       go (yes e) r =
           filter-append p (f i) (concat (map f (from (suc i) K)))
-          ∙ ap₂ (λ a b. a ++ b) (ap (λ k. filter p (f k)) e ∙ own) (past-from (suc i) K (omega arith)) ∙ append-nil (f s)
+          ∙ ap₂ (λ a b. a ++ b) (ap (λ k. filter p (f k)) e ∙ own) (past-from (suc i) K (omega arith))
+          ∙ append-nil (f s)
       go (no e) r =
           filter-append p (f i) (concat (map f (from (suc i) K)))
           ∙ ap₂ (λ a b. a ++ b) (others i e) (r (omega arith) (omega arith))
@@ -83,13 +83,14 @@ module _ (P : List ℕ) (words : ℕ) where
     out-tabled s h =
         filter-filter (leaves s) leadsOn (concat (map (wordsAt P words) (range K)))
         ∙ ap (filter leadsOn) (pick-range (leaves s) (wordsAt P words) s (words-own s (range words))
-            (λ j e. words-leave s j (range words) e) K h)
+        (λ j e. words-leave s j (range words) e) K h)
 
     pub between-count : (s t : ℕ) → s < K → (t ≡ 255 → ⊥) → wordsBetween (tabled P words K) s t ≡ wordCount P words s t
     unfolding wordCount
     between-count s t h d =
         ap (λ l. length (filter (enters t) l)) (out-tabled s h)
-        ∙ ap length (filter-both (enters t) leadsOn on (wordsAt P words s) ∙ filter-map (enters t) (wordAt P s) (range words))
+        ∙ ap length (filter-both (enters t) leadsOn on (wordsAt P words s)
+        ∙ filter-map (enters t) (wordAt P s) (range words))
         ∙ length-map (filter (wordLeads P s t) (range words)) (wordAt P s)
       where
         on : (e : Arc) → T (enters t e) → T (leadsOn e)

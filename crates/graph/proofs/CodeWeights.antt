@@ -1,28 +1,33 @@
 -- Rounds of weights by the counts of words.
--- In order: count-yes, count-no; tot-more; lower-is; lowered-is; Round, round-start, round-more, round-still, round-end.
+-- In order: count-yes, count-no; tot-more; lower-is; lowered-is; Round, round-start, round-more, round-still,
+-- round-end.
 -- Assumes nothing.
-use mathlib.Core.Path.{_≡_, refl, sym, ap, ap₂, subst, _∙_}
+use mathlib.Core.Path.{_≡_, refl, sym, ap, ap₂, _∙_}
 use mathlib.Core.Bool.{Bool, true, false}
-use mathlib.Core.List.{List, [], _∷_, _++_, map, append-nil}
+use mathlib.Core.List.{List, [], _∷_, _++_, append-nil}
 use Prim.Native.Nat.{ℕ, zero, suc, _+_, _-_, _*_, _/_, _%_, _≤_, _<_, min}
 use native.Mathlib.Nat.{
-  le-trans, add-zero, mul-add-div-right, mul-add-mod-self-right, div-eq-of-lt, mod-eq-of-lt, mul-le-mul, mod-lt,
-  div-lt-iff-lt-mul
+  le-trans,
+  add-zero,
+  mul-add-div-right,
+  mul-add-mod-self-right,
+  div-eq-of-lt,
+  mod-eq-of-lt,
+  mul-le-mul,
 }
-use native.Mathlib.Numerals.{add-one}
 use native.Mathlib.Omega.{arith}
 use borrow.Author.Tests.{eq-eqb, ne-eqb}
-use lib.Dec.{eqb, lit<}
+use lib.Dec.{lit<}
 use lib.ListN.{length, getD, take, length-append, replicate, length-replicate, getD-replicate}
 use lib.Seq.{length-take-le, getD-take}
-use Rattle.laws.specs.Lists.{if_then_else_, range, filter, iterate, sum}
-use Rattle.laws.specs.Sums.{Each, tot}
+use Rattle.laws.specs.Lists.{if_then_else_, range, filter, iterate}
+use Rattle.laws.specs.Sums.{tot}
 use Rattle.laws.proofs.Sums.{each-map, tot-eq, tot-append}
 use Rattle.laws.proofs.Tests.{map-range-at, length-from}
 use Rattle.laws.proofs.Anys.{each-range}
 use Rattle.laws.proofs.Settle.{iterate-fixed}
 use Rattle.graph.specs.Arcs.{Arc}
-use Rattle.graph.specs.Weights.{wordsBetween, term, product, lower, lowered, weights}
+use Rattle.graph.specs.Weights.{wordsBetween, term, lower, lowered, weights}
 use Rattle.graph.specs.PowerTable.{entryAt, tabled, wordLeads, wordCount, termBy, lowerBy}
 use Rattle.graph.proofs.CodeLists.{filter-append, range-more, length-map-range, take-same}
 use Rattle.graph.proofs.CodeTabled.{between-count}
@@ -60,7 +65,8 @@ place-target s t h = mul-add-mod-self-right s 16 t ∙ mod-eq-of-lt h
 
 -- ---- sums
 pub tot-more : (f : ℕ → ℕ) (i : ℕ) → tot f (range (i + 1)) ≡ tot f (range i) + f i
-tot-more f i = ap (tot f) (range-more i) ∙ tot-append f (range i) (i ∷ []) ∙ ap (λ k. tot f (range i) + k) (add-zero (f i))
+tot-more f i = ap (tot f) (range-more i) ∙ tot-append f (range i) (i ∷ [])
+    ∙ ap (λ k. tot f (range i) + k) (add-zero (f i))
 
 pub term-small : (a b : ℕ) → a ≤ 256 → b ≤ 16 → a * b ≤ 4096
 term-small a b h k = mul-le-mul h k
@@ -89,8 +95,8 @@ module _ (P A : List ℕ) (words K : ℕ) (few : K ≤ 16)
     lower-is s h =
         ap₂ (λ x y. min x (y / n)) (sym (getD-take K v s 0 h))
         (tot-eq (termBy A v s) (term g front s) (range K)
-            (each-map (λ t. t < K) _
-                (λ t l. ap₂ (λ x y. x * y) (count-at s t h l) (sym (getD-take K v t 0 l))) (range K) (each-range K))
+        (each-map (λ t. t < K) _
+        (λ t l. ap₂ (λ x y. x * y) (count-at s t h l) (sym (getD-take K v t 0 l))) (range K) (each-range K))
         ∙ ap (λ k. tot (term g front s) (range k)) (sym front-long))
 
     pub lowered-is : (w : List ℕ) → length w ≡ 16 → ((s : ℕ) → s < K → getD w s 0 ≡ lowerBy A v K s n)
@@ -120,8 +126,8 @@ round-start n cap K g h = record {
   long = length-replicate 16 cap;
   low = λ s l. omega (arith, getD-replicate 16 s cap 0 (omega arith));
   leads =
-    let z : K * cap - 0 ≡ K * cap = omega arith in
-    ap₂ (iterate (lowered n g)) z (take-replicate K 16 cap h);
+      let z : K * cap - 0 ≡ K * cap = omega arith in
+      ap₂ (iterate (lowered n g)) z (take-replicate K 16 cap h);
 }
 
 module _ (n cap K : ℕ) (g : List Arc) (i : ℕ) (v : List ℕ) (few : K ≤ 16) (c : Round n cap K g i v) (w : List ℕ)
@@ -131,17 +137,17 @@ module _ (n cap K : ℕ) (g : List Arc) (i : ℕ) (v : List ℕ) (few : K ≤ 16
     long = lw;
     low = λ s b. le-trans (l s b) (c .low s b);
     leads =
-      let q : suc (K * cap - (i + 1)) ≡ K * cap - i = omega arith in
-      ap (iterate (lowered n g) (K * cap - (i + 1))) e
-      ∙ ap (λ m. iterate (lowered n g) m (take K v)) q ∙ c .leads;
+        let q : suc (K * cap - (i + 1)) ≡ K * cap - i = omega arith in
+        ap (iterate (lowered n g) (K * cap - (i + 1))) e
+        ∙ ap (λ m. iterate (lowered n g) m (take K v)) q ∙ c .leads;
   }
 
   -- nothing changes
   pub round-still : ((s : ℕ) → s < K → getD w s 0 ≡ getD v s 0) → take K v ≡ weights n cap K g
   round-still f =
       let same : take K w ≡ take K v =
-          take-same w (take K v) K (length-take-le K v (let m = c .long in omega arith)) (omega arith)
-          (λ s h. f s h ∙ sym (getD-take K v s 0 h)) in
+      take-same w (take K v) K (length-take-le K v (let m = c .long in omega arith)) (omega arith)
+      (λ s h. f s h ∙ sym (getD-take K v s 0 h)) in
       sym (iterate-fixed (lowered n g) (K * cap - i) (take K v) (sym e ∙ same)) ∙ c .leads
 
 pub round-end : (n cap K : ℕ) (g : List Arc) (i : ℕ) (v : List ℕ) → K * cap ≤ i → Round n cap K g i v
@@ -158,6 +164,7 @@ count-le P words s t = omega (arith, filter-length (wordLeads P s t) (range word
     filter-length p [] = omega arith
     filter-length p (x ∷ l) = go (p x) (filter-length p l)
       where
-        go : (b : Bool) → length (filter p l) ≤ length l → length (if b then x ∷ filter p l else filter p l) ≤ suc (length l)
+        go : (b : Bool) → length (filter p l) ≤ length l
+            → length (if b then x ∷ filter p l else filter p l) ≤ suc (length l)
         go true h = omega arith
         go false h = omega arith

@@ -1,22 +1,23 @@
 -- What the parts of building the component's graph answer.
--- In order: placeOf, rowKeeps, rowArc, rowArcs, rowOfState; Added, AddedAll; WeightsOf; FoundIn, the component by value.
+-- In order: placeOf, rowKeeps, rowArc, rowArcs, rowOfState; Added, AddedAll; WeightsOf; FoundIn, the component by
+-- value.
 -- Assumes nothing.
 use mathlib.Core.Path.{_≡_}
-use mathlib.Core.Bool.{Bool, true, false}
-use mathlib.Core.List.{List, [], _∷_, _++_, map}
-use Prim.Native.Nat.{ℕ, _+_, _≤_, _<_}
+use mathlib.Core.Bool.{Bool, false}
+use mathlib.Core.List.{List, [], _++_, map}
+use Prim.Native.Nat.{ℕ, _+_}
 use lib.Dec.{ltb}
-use lib.ListN.{length, getD, take}
-use Rattle.laws.specs.Lists.{if_then_else_, range, filter, sum, concat}
+use lib.ListN.{length, getD}
+use Rattle.laws.specs.Lists.{if_then_else_, range, filter, sum}
 use Rattle.graph.specs.declared.Graph.{Graph}
 use Rattle.graph.specs.declared.split_graph.NextGraph.{NextGraph}
 use Rattle.graph.specs.declared.component_graph.ComponentAnswer.{ComponentAnswer}
 use Rattle.graph.specs.Arcs.{Arc, arc}
 use Rattle.graph.specs.Splitting.{crowded}
 use Rattle.graph.specs.Component.{componentStates, componentGraph}
-use Rattle.graph.specs.Value.{arcsIn, weightsIn, workIn}
+use Rattle.graph.specs.Value.{arcsIn, workIn}
 use Rattle.graph.specs.EdgeKeys.{Fits}
-use Rattle.graph.specs.PowerTable.{entryAt, tabled}
+use Rattle.graph.specs.PowerTable.{entryAt}
 
 -- the number of state t in the component, 16 for none
 abbrev pub placeOf : List ℕ → ℕ → ℕ
@@ -45,7 +46,8 @@ pub record Added (h : Graph) (l : List Arc) (r : NextGraph) : Type 0 where
   pub states : r .crowded ≡ false → r .graph .states ≡ h .states
   pub weight : r .crowded ≡ false → r .graph .weight ≡ h .weight
 
--- the component by value: its graph with the weights, or the answer that it has over 2,048 edges; its weights' sum; its start
+-- the component by value: its graph with the weights, or the answer that it has over 2,048 edges; its weights' sum;
+-- its start
 pub record FoundIn (v : List ℕ) (g : List Arc) (r : ComponentAnswer) : Type 0 where
   pub total : r .total ≡ sum (componentGraph v g .weights)
   pub start : r .start ≡ getD (componentStates v g) 0 0

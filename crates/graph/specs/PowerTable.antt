@@ -1,9 +1,8 @@
 -- The power table that the crate `constraint` gives: "one place for each state and word", 255 for none.
--- In order: entryAt, wordAt, wordsAt, tabled; Powers, what it keeps to; wordLeads, wordCount; termBy,
--- lowerBy, one weight of a round by the counts of words.
+-- In order: entryAt, wordAt, wordsAt, tabled; Powers, what it keeps to; wordLeads, wordCount; termBy, lowerBy, one
+-- weight of a round by the counts of words.
 -- Assumes nothing.
 use mathlib.Core.Path.{_≡_}
-use mathlib.Core.Logic.{_⊎_}
 use mathlib.Core.Bool.{Bool}
 use mathlib.Core.List.{List, map}
 use Prim.Native.Nat.{ℕ, _+_, _*_, _/_, _≤_, _<_, min}
@@ -30,8 +29,8 @@ wordsAt P words s = map (wordAt P s) (range words)
 unfoldable pub tabled : List ℕ → ℕ → ℕ → List Arc
 tabled P words K = filter leadsOn (concat (map (wordsAt P words) (range K)))
 
--- a table for at most 16 states and 256 words, each of which leads to a state or to none: no caller can fail it, since it
--- holds of every power table of a constraint
+-- a table for at most 16 states and 256 words, each of which leads to a state or to none: no caller can fail it,
+-- since it holds of every power table of a constraint
 pub record Powers (P : List ℕ) (words K : ℕ) : Type 0 where
   pub long : length P ≡ 4096
   pub states : K ≤ 16

@@ -1,11 +1,13 @@
--- Sets of at most 16 states, one beside the other in a list of 256 places: place t * 16 + s says whether s can reach t.
--- In order: rowOf, rowsOf; linksInto, Linked, edges as such a list; Members, the states of the component and their numbers.
+-- Sets of at most 16 states, one beside the other in a list of 256 places: place t * 16 + s says whether s can reach
+-- t.
+-- In order: rowOf, rowsOf; linksInto, Linked, edges as such a list; Members, the states of the component and their
+-- numbers.
 -- Assumes nothing.
 use mathlib.Core.Path.{_≡_}
-use mathlib.Core.Bool.{Bool, true, false, not, _&&_, _||_}
+use mathlib.Core.Bool.{Bool, false, _&&_}
 use mathlib.Core.List.{List, map}
 use Prim.Native.Nat.{ℕ, _+_, _*_, _/_, _%_, _≤_, _<_}
-use lib.Dec.{ltb, eqb}
+use lib.Dec.{ltb}
 use lib.ListN.{getD, take}
 use Rattle.laws.specs.Lists.{if_then_else_, range, any, elem, indexOf}
 use Rattle.laws.specs.Sets.{member}

@@ -1,9 +1,9 @@
 -- What the parts of a split answer.
--- In order: lowerSource; runIn, RunTo, FirstRun, what a search for a run finds; keptArcs; Moved, Doubled, Weighed, the steps
--- of a split; entering, PartedInto, SplitInto, the answer of a split; Splits, SplitAllInto, all splits.
+-- In order: lowerSource; runIn, RunTo, FirstRun, what a search for a run finds; keptArcs; Moved, Doubled, Weighed,
+-- the steps of a split; entering, PartedInto, SplitInto, the answer of a split; Splits, SplitAllInto, all splits.
 -- Assumes nothing.
 use mathlib.Core.Path.{_≡_}
-use mathlib.Core.Bool.{Bool, true, false, _&&_}
+use mathlib.Core.Bool.{true, false, _&&_}
 use mathlib.Core.List.{List, [], _∷_, _++_, map}
 use Prim.Native.Nat.{ℕ, _+_, _-_, _/_, _≤_, _<_, min}
 use lib.Dec.{ltb, eqb}
@@ -16,7 +16,16 @@ use Rattle.graph.specs.declared.split_graph.NextGraph.{NextGraph}
 use Rattle.graph.specs.Arcs.{Arc, enters}
 use Rattle.graph.specs.Weights.{weight, total}
 use Rattle.graph.specs.Splitting.{
-  runsTo, divisible, firstRun, kept, moved, doubled, parted, split, splitAll, crowded
+  runsTo,
+  divisible,
+  firstRun,
+  kept,
+  moved,
+  doubled,
+  parted,
+  split,
+  splitAll,
+  crowded,
 }
 use Rattle.graph.specs.Invariant.{Inv}
 use Rattle.graph.specs.Value.{arcsIn, weightsIn, workIn}
@@ -30,7 +39,8 @@ lowerSource best s ws wt M = if eqb ws M && ltb wt M then min best s else best
 abbrev pub runIn : Run → List Arc → List Arc
 runIn r es = take (r .count) (drop (r .from) es)
 
--- whatever the edges of weights W are, r is the shortest run of them that ends at place j, or has no edges if there is none
+-- whatever the edges of weights W are, r is the shortest run of them that ends at place j, or has no edges if there
+-- is none
 pub record RunTo (n : ℕ) (W : List ℕ) (j : ℕ) (r : Run) : Type 0 where
   pub inside : r .from + r .count ≤ length W
   pub some : (v : List ℕ) (es : List Arc) → map (weight v) es ≡ W → 0 < r .count

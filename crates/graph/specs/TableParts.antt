@@ -1,5 +1,6 @@
 -- What the parts of making the table answer.
--- In order: Finished; Open; enteredBy; rank; rowEdge, rowsOfTable, the rows of a value of `TableRows`; TableIn; RowPut.
+-- In order: Finished; Open; enteredBy; rank; rowEdge, rowsOfTable, the rows of a value of `TableRows`; TableIn;
+-- RowPut.
 -- Assumes nothing.
 use mathlib.Core.Path.{_≡_}
 use mathlib.Core.Bool.{Bool, true, false, not, _&&_}
@@ -51,7 +52,8 @@ pub record TableIn (n : ℕ) (g : Graph) (r : TableRows) : Type 0 where
   pub few : r .states ≤ 128
   pub rows : rowsOfTable n r ≡ tableOf n (workIn g)
 
--- r is t with the first d edges of state i by keys, and their next states numbered; places of lower states are as they were
+-- r is t with the first d edges of state i by keys, and their next states numbered; places of lower states are as
+-- they were
 pub record RowPut (t : TableRows) (keys index : List ℕ) (n i d : ℕ) (r : TableRows) : Type 0 where
   pub states : r .states ≡ t .states
   pub longW : length (r .word) ≡ 2048

@@ -48,7 +48,8 @@ fn lower_source(best: usize, s: usize, source: u8, target: u8, m: u8) -> usize
 
 // The state to split, where there is one.
 pub fn choose(g: Graph, m: u8) -> usize
-    requires { ⌜ Fits g × (m ≡ greatest (weightsIn g)) × T (any (splittable (weightsIn g) (arcsIn g)) (range (length (weightsIn g)))) ⌝ }
+    requires { ⌜ Fits g × (m ≡ greatest (weightsIn g))
+        × T (any (splittable (weightsIn g) (arcsIn g)) (range (length (weightsIn g)))) ⌝ }
     ensures answer { λ r. ⌜ (r ≡ chosen (weightsIn g) (arcsIn g)) × (r < g .states) ⌝ }
 {
     let mut best = 128;
@@ -67,7 +68,8 @@ pub fn choose(g: Graph, m: u8) -> usize
 // "its first edge to a lighter state, then its first n − 1 other edges".
 pub fn candidate_keys(g: Graph, s: usize, m: u8, n: usize) -> Keys
     requires { ⌜ Fits g × (0 < n) × (n ≤ 16) × T (any (lighter (weightsIn g) m) (out (arcsIn g) s)) ⌝ }
-    ensures answer { λ r. ⌜ (map (arcOf s) (keysIn r) ≡ candidates n (weightsIn g) m (sort (out (arcsIn g) s))) × (r .count ≤ n) ⌝ }
+    ensures answer { λ r. ⌜ (map (arcOf s) (keysIn r) ≡ candidates n (weightsIn g) m (sort (out (arcsIn g) s)))
+        × (r .count ≤ n) ⌝ }
 {
     let light = first_edges(g, s, m as usize, 65535, 1);
     let l = light.key[0];

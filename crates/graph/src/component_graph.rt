@@ -1,13 +1,12 @@
 // The component as a graph in work: "Renumber in rising order."
 use crate::Graph;
-use crate::split_graph::NextGraph;
-use crate::state_weights::word_counts;
 use crate::find_component::Members;
-use crate::find_component::live_edges;
-use crate::find_component::reach_all;
 use crate::find_component::first_returning;
 use crate::find_component::list_members;
-
+use crate::find_component::live_edges;
+use crate::find_component::reach_all;
+use crate::split_graph::NextGraph;
+use crate::state_weights::word_counts;
 ghost use mathlib.Core.Path.{_≡_};
 ghost use mathlib.Core.List.{[], map};
 ghost use Prim.Native.Nat.{ℕ, _+_, _≤_, _<_};
@@ -40,9 +39,7 @@ fn place_of(index: [usize; 16], t: u8) -> usize
 
 // The graph with the words from s that lead into the component.
 fn add_words(power: &[u8; 4096], words: usize, s: usize, index: [usize; 16], g: Graph) -> NextGraph
-    requires {
-        ⌜ (length (now power) ≡ 4096) × (words ≤ 256) × (s < 16) × (getD index s 0 < 16) × (g .edges ≤ 2048) ⌝
-    }
+    requires { ⌜ (length (now power) ≡ 4096) × (words ≤ 256) × (s < 16) × (getD index s 0 < 16) × (g .edges ≤ 2048) ⌝ }
     ensures answer { λ r. ⌜ Added g (rowArcs (now (power .entry)) index s words) r ⌝ }
 {
     let mut h = g;
@@ -89,9 +86,7 @@ fn add_state(power: &[u8; 4096], words: usize, s: usize, index: [usize; 16], g: 
 // The graph with the words among the states of the component.
 fn add_states(power: &[u8; 4096], words: usize, k: usize, index: [usize; 16], g: Graph) -> NextGraph
     requires { ⌜ (length (now power) ≡ 4096) × (words ≤ 256) × (k ≤ 16) × (g .edges ≤ 2048) ⌝ }
-    ensures answer {
-        λ r. ⌜ Added g (concat (map (rowOfState (now (power .entry)) words index) (range k))) r ⌝
-    }
+    ensures answer { λ r. ⌜ Added g (concat (map (rowOfState (now (power .entry)) words index) (range k))) r ⌝ }
 {
     let mut h = g;
     let mut s = 0;
@@ -111,13 +106,10 @@ fn add_states(power: &[u8; 4096], words: usize, k: usize, index: [usize; 16], g:
 
 // A graph without edges, with the weights of the component's states.
 fn with_weights(list: Members, v: [usize; 16]) -> Graph
-    requires {
-        ⌜ (list .count ≤ 16) × ((i : ℕ) → i < list .count → (getD (list .state) i 0 < 16)
-        × (getD v (getD (list .state) i 0) 0 ≤ 128)) ⌝
-    }
-    ensures answer {
-        λ r. ⌜ (weightsIn r ≡ map (weightOf v) (take (list .count) (list .state))) × (r .states ≡ list .count) × (r .edges ≡ 0) ⌝
-    }
+    requires { ⌜ (list .count ≤ 16) × ((i : ℕ) → i < list .count → (getD (list .state) i 0 < 16)
+        × (getD v (getD (list .state) i 0) 0 ≤ 128)) ⌝ }
+    ensures answer { λ r. ⌜ (weightsIn r ≡ map (weightOf v) (take (list .count) (list .state)))
+        × (r .states ≡ list .count) × (r .edges ≡ 0) ⌝ }
 {
     let mut weight = [0u8; 128];
     let n = list.count;
@@ -138,10 +130,8 @@ fn with_weights(list: Members, v: [usize; 16]) -> Graph
 
 // The sum of the weights of the component's states.
 fn total_weight(list: Members, v: [usize; 16]) -> usize
-    requires {
-        ⌜ (list .count ≤ 16) × ((i : ℕ) → i < list .count → (getD (list .state) i 0 < 16)
-        × (getD v (getD (list .state) i 0) 0 ≤ 128)) ⌝
-    }
+    requires { ⌜ (list .count ≤ 16) × ((i : ℕ) → i < list .count → (getD (list .state) i 0 < 16)
+        × (getD v (getD (list .state) i 0) 0 ≤ 128)) ⌝ }
     ensures answer { λ r. ⌜ r ≡ sum (map (weightOf v) (take (list .count) (list .state))) ⌝ }
 {
     let n = list.count;
@@ -166,9 +156,7 @@ fn first_state(list: Members) -> usize
 
 // The component of the words of a power table, by the weights of its states.
 pub fn find_component(power: &[u8; 4096], words: usize, k: usize, v: [usize; 16]) -> ComponentAnswer
-    requires {
-        ⌜ Powers (now power) words k × (0 < k) × ((s : ℕ) → s < k → getD v s 0 ≤ 128) ⌝
-    }
+    requires { ⌜ Powers (now power) words k × (0 < k) × ((s : ℕ) → s < k → getD v s 0 ≤ 128) ⌝ }
     ensures answer { λ r. ⌜ FoundIn (take k v) (tabled (now (power .entry)) words k) r ⌝ }
 {
     let count = word_counts(power, words, k);

@@ -64,9 +64,8 @@ fn leads_any(edge: &[bool; 256], m: &[bool; 256], k: usize, t: usize, s: usize) 
 // s can reach t, or has an edge to a state that can.
 fn reaches_on(edge: &[bool; 256], m: &[bool; 256], k: usize, x: usize) -> bool
     requires { ⌜ (length (now edge) ≡ 256) × (length (now m) ≡ 256) × (k ≤ 16) × (x < 256) ⌝ }
-    ensures answer {
-        λ r. ⌜ r ≡ (getD (now (m .entry)) x false || any (passesOn (now (edge .entry)) (now (m .entry)) (x / 16) (x % 16)) (range k)) ⌝
-    }
+    ensures answer { λ r. ⌜ r ≡ (getD (now (m .entry)) x false || any
+        (passesOn (now (edge .entry)) (now (m .entry)) (x / 16) (x % 16)) (range k)) ⌝ }
 {
     if m[x] {
         return true;
@@ -77,10 +76,9 @@ fn reaches_on(edge: &[bool; 256], m: &[bool; 256], k: usize, x: usize) -> bool
 // One round for every state: those that can reach it, and those with an edge to one of them.
 fn reach_step(edge: &[bool; 256], m: &[bool; 256], k: usize) -> [bool; 256]
     requires { ⌜ (length (now edge) ≡ 256) × (length (now m) ≡ 256) × (k ≤ 16) ⌝ }
-    ensures answer {
-        λ r. ⌜ ((x : ℕ) → x < k * 16 → getD r x false
-        ≡ (getD (now (m .entry)) x false || any (passesOn (now (edge .entry)) (now (m .entry)) (x / 16) (x % 16)) (range k))) ⌝
-    }
+    ensures answer { λ r. ⌜ ((x : ℕ) → x < k * 16 → getD r x false
+        ≡ (getD (now (m .entry)) x false || any (passesOn (now (edge .entry)) (now (m .entry)) (x / 16) (x % 16))
+        (range k))) ⌝ }
 {
     let mut r = [false; 256];
     let n = k * 16;
@@ -110,7 +108,8 @@ fn themselves(k: usize) -> [bool; 256]
 // The first n places are the same.
 fn same_places(a: &[bool; 256], b: &[bool; 256], n: usize) -> bool
     requires { ⌜ (length (now a) ≡ 256) × (length (now b) ≡ 256) × (n ≤ 256) ⌝ }
-    ensures answer { λ r. ⌜ (r ≡ true → (x : ℕ) → x < n → getD (now (a .entry)) x false ≡ getD (now (b .entry)) x false) ⌝ }
+    ensures answer { λ r. ⌜ (r ≡ true → (x : ℕ) → x < n → getD (now (a .entry)) x false
+        ≡ getD (now (b .entry)) x false) ⌝ }
 {
     let mut x = 0;
     while x < n {
@@ -171,9 +170,7 @@ fn returns_all(m: &[bool; 256], v: [usize; 16], k: usize, s: usize) -> bool
 // s has a weight above 0, and every state reachable from it can reach it back.
 fn is_returning(m: &[bool; 256], v: [usize; 16], k: usize, s: usize) -> bool
     requires { ⌜ (length (now m) ≡ 256) × (k ≤ 16) × (s < k) ⌝ }
-    ensures answer {
-        λ r. ⌜ r ≡ (weighs (take k v) s && returning (rowsOf (now (m .entry)) k) (live (take k v)) s) ⌝
-    }
+    ensures answer { λ r. ⌜ r ≡ (weighs (take k v) s && returning (rowsOf (now (m .entry)) k) (live (take k v)) s) ⌝ }
 {
     if v[s] == 0 {
         return false;
@@ -184,9 +181,8 @@ fn is_returning(m: &[bool; 256], v: [usize; 16], k: usize, s: usize) -> bool
 // "the lowest state that every state reachable from it can reach back".
 pub fn first_returning(m: &[bool; 256], v: [usize; 16], k: usize) -> usize
     requires { ⌜ (length (now m) ≡ 256) × (k ≤ 16) ⌝ }
-    ensures answer {
-        λ r. ⌜ (r ≡ first (returning (rowsOf (now (m .entry)) k) (live (take k v))) 0 (live (take k v))) × (0 < k → r < k) ⌝
-    }
+    ensures answer { λ r. ⌜ (r ≡ first (returning (rowsOf (now (m .entry)) k) (live (take k v))) 0 (live (take k v)))
+        × (0 < k → r < k) ⌝ }
 {
     let mut s = 0;
     while s < k {
@@ -211,9 +207,7 @@ fn is_member(v: usize, there: bool) -> bool
 // "all states reachable from it", which is s, numbered in rising order.
 pub fn list_members(m: &[bool; 256], v: [usize; 16], k: usize, s: usize) -> Members
     requires { ⌜ (length (now m) ≡ 256) × (k ≤ 16) × (s < k) ⌝ }
-    ensures answer {
-        λ r. ⌜ Listed k (filter (reaches (rowsOf (now (m .entry)) k) s) (live (take k v))) r ⌝
-    }
+    ensures answer { λ r. ⌜ Listed k (filter (reaches (rowsOf (now (m .entry)) k) s) (live (take k v))) r ⌝ }
 {
     let mut state = [0usize; 16];
     let mut index = [16usize; 16];

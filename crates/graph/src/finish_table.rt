@@ -1,9 +1,8 @@
-// "Table. Each state keeps its first n edges in order of word, then target; they carry data 0 to n − 1. States not reachable
-// from the start are removed, the others renumbered in order."
+// "Table. Each state keeps its first n edges in order of word, then target; they carry data 0 to n − 1. States not
+// reachable from the start are removed, the others renumbered in order."
 use crate::Graph;
 use crate::keys::Keys;
 use crate::keys::first_edges;
-
 ghost use mathlib.Core.Path.{_≡_};
 ghost use mathlib.Core.Bool.{Bool, true, false, not, _&&_, _||_};
 ghost use Prim.Native.Nat.{ℕ, _+_, _*_, _/_, _%_, _≤_, _<_};
@@ -66,9 +65,8 @@ fn mark_targets(list: Keys, set: [bool; 128]) -> [bool; 128]
 // The states reachable from the start by the first n edges of each state.
 pub fn reach_rows(g: Graph, n: usize) -> [bool; 128]
     requires { ⌜ Finished n g ⌝ }
-    ensures answer {
-        λ r. ⌜ ((t : ℕ) → t < g .states → member r t ≡ reaches (reachings (g .states) (firstEdges n (workIn g))) 0 t) ⌝
-    }
+    ensures answer { λ r. ⌜ ((t : ℕ) → t < g .states → member r t
+        ≡ reaches (reachings (g .states) (firstEdges n (workIn g))) 0 t) ⌝ }
 {
     let k = g.states;
     let mut set = [false; 128];
@@ -105,10 +103,8 @@ fn ranks(set: [bool; 128], k: usize) -> [usize; 128]
 
 // The rows with that of state i, its edges in order.
 fn put_row(rows: TableRows, list: Keys, index: [usize; 128], n: usize, i: usize) -> TableRows
-    requires {
-        ⌜ (n ≤ 16) × (list .count ≡ n) × (i < 128) × ((d : ℕ) → d < n → (getD (list .key) d 0 < 32768)
-        × (getD index (getD (list .key) d 0 % 128) 0 < 128)) ⌝
-    }
+    requires { ⌜ (n ≤ 16) × (list .count ≡ n) × (i < 128) × ((d : ℕ) → d < n → (getD (list .key) d 0 < 32768)
+        × (getD index (getD (list .key) d 0 % 128) 0 < 128)) ⌝ }
     ensures answer { λ r. ⌜ RowPut rows (list .key) index n i n r ⌝ }
 {
     let mut r = rows;
@@ -123,10 +119,15 @@ fn put_row(rows: TableRows, list: Keys, index: [usize; 128], n: usize, i: usize)
 }
 
 // The rows with that of state t of the graph as row i.
-fn add_row(g: Graph, n: usize, t: usize, index: [usize; 128], rows: TableRows, i: usize) -> TableRows
-    requires {
-        ⌜ Finished n g × (t < g .states) × (i < 128) × ((s : ℕ) → s < g .states → getD index s 0 < 128) ⌝
-    }
+fn add_row(
+    g: Graph,
+    n: usize,
+    t: usize,
+    index: [usize; 128],
+    rows: TableRows,
+    i: usize,
+) -> TableRows
+    requires { ⌜ Finished n g × (t < g .states) × (i < 128) × ((s : ℕ) → s < g .states → getD index s 0 < 128) ⌝ }
     ensures answer { λ r. ⌜ RowPut rows (firstKeys g t 256 65535 n) index n i n r ⌝ }
 {
     let list = first_edges(g, t, 256, 65535, n);

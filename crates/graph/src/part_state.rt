@@ -1,13 +1,12 @@
-// "s keeps the run's edges and weight w; a new last state takes all other edges of s and weight M − w. Then every edge into s
-// becomes two, to s and to the new state."
+// "s keeps the run's edges and weight w; a new last state takes all other edges of s and weight M − w. Then every
+// edge into s becomes two, to s and to the new state."
 use crate::Graph;
+use crate::choose::candidate_keys;
+use crate::find_run::Run;
+use crate::find_run::first_run;
 use crate::keys::Keys;
 use crate::keys::among_keys;
 use crate::keys::key_weights;
-use crate::find_run::Run;
-use crate::find_run::first_run;
-use crate::choose::candidate_keys;
-
 ghost use mathlib.Core.Path.{_≡_};
 ghost use Prim.Native.Nat.{ℕ, _+_, _≤_, _<_};
 ghost use lib.Dec.{T};
@@ -21,9 +20,7 @@ ghost use Rattle.graph.specs.SplitParts.{keptArcs, Moved, entering, Doub
 
 // All edges out of s leave the new state, but those of the run.
 pub fn move_edges(g: Graph, s: usize, list: Keys, run: Run) -> Graph
-    requires {
-        ⌜ Fits g × (g .states < 128) × (list .count ≤ 16) × (run .from + run .count ≤ list .count) ⌝
-    }
+    requires { ⌜ Fits g × (g .states < 128) × (list .count ≤ 16) × (run .from + run .count ≤ list .count) ⌝ }
     ensures answer { λ r. ⌜ Moved g s (keptArcs s list run) r ⌝ }
 {
     let mut h = g;
@@ -101,11 +98,10 @@ pub fn weigh(g: Graph, s: usize, w: u8) -> Graph
 
 // State s, of the greatest weight m, split by the rule; there is room for its edges.
 pub fn part_state(g: Graph, s: usize, m: u8, n: usize) -> Graph
-    requires {
-        ⌜ Fits g × (s < g .states) × (g .states < 128) × (m ≡ getD (weightsIn g) s 0) × (m ≡ greatest (weightsIn g))
+    requires { ⌜ Fits g × (s < g .states) × (g .states < 128) × (m ≡ getD (weightsIn g) s 0)
+        × (m ≡ greatest (weightsIn g))
         × T (any (lighter (weightsIn g) m) (out (arcsIn g) s)) × (0 < n) × (n ≤ 16)
-        × (g .edges + entering (arcsIn g) s ≤ 2048) ⌝
-    }
+        × (g .edges + entering (arcsIn g) s ≤ 2048) ⌝ }
     ensures answer { λ r. ⌜ PartedInto n g s r ⌝ }
 {
     let list = candidate_keys(g, s, m, n);

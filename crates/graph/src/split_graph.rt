@@ -1,10 +1,9 @@
 // "Splitting, while some state has fewer than n edges out."
 use crate::Graph;
-use crate::choose::greatest_weight;
 use crate::choose::choose;
+use crate::choose::greatest_weight;
 use crate::part_state::enter_count;
 use crate::part_state::part_state;
-
 ghost use mathlib.Core.Path.{_≡_};
 ghost use Prim.Native.Nat.{ℕ, _+_, _≤_, _<_};
 ghost use lib.Dec.{T};
@@ -24,10 +23,8 @@ pub struct NextGraph {
 
 // One split.
 pub fn split(g: Graph, n: usize) -> NextGraph
-    requires {
-        ⌜ Fits g × (g .states < 128) × (0 < n) × (n ≤ 16)
-        × T (any (splittable (weightsIn g) (arcsIn g)) (range (length (weightsIn g)))) ⌝
-    }
+    requires { ⌜ Fits g × (g .states < 128) × (0 < n) × (n ≤ 16)
+        × T (any (splittable (weightsIn g) (arcsIn g)) (range (length (weightsIn g)))) ⌝ }
     ensures answer { λ r. ⌜ SplitInto n g r ⌝ }
 {
     let m = greatest_weight(g);

@@ -25,9 +25,8 @@ fn words_between(power: &[u8; 4096], words: usize, s: usize, t: u8) -> usize
 // At s * 16 + t, how many words lead from s to t.
 pub fn word_counts(power: &[u8; 4096], words: usize, k: usize) -> [usize; 256]
     requires { ⌜ (length (now power) ≡ 4096) × (words ≤ 256) × (k ≤ 16) ⌝ }
-    ensures answer {
-        λ r. ⌜ ((x : ℕ) → x < k * 16 → (getD r x 0 ≡ wordCount (now (power .entry)) words (x / 16) (x % 16)) × (getD r x 0 ≤ 256)) ⌝
-    }
+    ensures answer { λ r. ⌜ ((x : ℕ) → x < k * 16
+        → (getD r x 0 ≡ wordCount (now (power .entry)) words (x / 16) (x % 16)) × (getD r x 0 ≤ 256)) ⌝ }
 {
     let mut r = [0usize; 256];
     let n = k * 16;
@@ -41,10 +40,8 @@ pub fn word_counts(power: &[u8; 4096], words: usize, k: usize) -> [usize; 256]
 
 // "the smaller of the old weight and the sum over t of A(s, t) × weight(t), divided by n and rounded down".
 fn lower_weight(count: &[usize; 256], v: [usize; 16], k: usize, s: usize, n: usize) -> usize
-    requires {
-        ⌜ (length (now count) ≡ 256) × (k ≤ 16) × (s < k) × (0 < n)
-        × ((x : ℕ) → x < k * 16 → getD (now count) x 0 ≤ 256) × ((t : ℕ) → t < k → getD v t 0 ≤ 16) ⌝
-    }
+    requires { ⌜ (length (now count) ≡ 256) × (k ≤ 16) × (s < k) × (0 < n)
+        × ((x : ℕ) → x < k * 16 → getD (now count) x 0 ≤ 256) × ((t : ℕ) → t < k → getD v t 0 ≤ 16) ⌝ }
     ensures answer { λ r. ⌜ r ≡ lowerBy (now (count .entry)) v k s n ⌝ }
 {
     let mut sum = 0;
@@ -62,10 +59,8 @@ fn lower_weight(count: &[usize; 256], v: [usize; 16], k: usize, s: usize, n: usi
 
 // One round: "replace all weights together".
 fn lower_weights(count: &[usize; 256], v: [usize; 16], k: usize, n: usize) -> [usize; 16]
-    requires {
-        ⌜ (length (now count) ≡ 256) × (k ≤ 16) × (0 < n)
-        × ((x : ℕ) → x < k * 16 → getD (now count) x 0 ≤ 256) × ((t : ℕ) → t < k → getD v t 0 ≤ 16) ⌝
-    }
+    requires { ⌜ (length (now count) ≡ 256) × (k ≤ 16) × (0 < n)
+        × ((x : ℕ) → x < k * 16 → getD (now count) x 0 ≤ 256) × ((t : ℕ) → t < k → getD v t 0 ≤ 16) ⌝ }
     ensures answer { λ r. ⌜ ((s : ℕ) → s < k → getD r s 0 ≡ lowerBy (now (count .entry)) v k s n) ⌝ }
 {
     let mut r = [0usize; 16];
@@ -93,11 +88,16 @@ fn same_weights(a: [usize; 16], b: [usize; 16], k: usize) -> bool
 }
 
 // "Start with cap at every state [..] until nothing changes."
-pub fn state_weights(power: &[u8; 4096], words: usize, k: usize, n: usize, cap: usize) -> [usize; 16]
+pub fn state_weights(
+    power: &[u8; 4096],
+    words: usize,
+    k: usize,
+    n: usize,
+    cap: usize,
+) -> [usize; 16]
     requires { ⌜ Powers (now power) words k × (0 < n) × (cap ≤ 16) ⌝ }
-    ensures answer {
-        λ r. ⌜ (take k r ≡ weights n cap k (tabled (now (power .entry)) words k)) × ((s : ℕ) → s < k → getD r s 0 ≤ cap) ⌝
-    }
+    ensures answer { λ r. ⌜ (take k r ≡ weights n cap k (tabled (now (power .entry)) words k))
+        × ((s : ℕ) → s < k → getD r s 0 ≤ cap) ⌝ }
 {
     let count = word_counts(power, words, k);
     let mut v = [cap; 16];

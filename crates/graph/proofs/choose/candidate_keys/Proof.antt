@@ -1,5 +1,5 @@
--- The first edge to a lighter state is the first of the edges with that test; the others are the first n − 1 with another key.
-use mathlib.Core.Path.{_≡_, refl, sym, ap, _∙_}
+-- The first edge to a lighter state is the first of the edges with that test; the others are the first n − 1 with
+-- another key.
 use native.Mathlib.Omega.{arith}
 use Rattle.graph.proofs.CodeCandidates.{candidates-keys}
 use borrow.Author.Needs.{needs}
@@ -25,8 +25,11 @@ in-front-requires c κs = search needs
 returns : tie.Need-returns
 returns c =
     let p = c .before .before .before .before .args in (
-      candidates-keys (p .g) (p .s) (c .before .before .before .before .pre .0) (p .m) (c .before .before .before .before .pre .3) (p .n) (c .before .before .before .first-edges .result) (c .before .first-edges2 .result) (c .in-front .result)
-          (c .before .before .before .first-edges .ensures .0) (c .before .before .before .first-edges .ensures .1) (c .before .first-edges2 .ensures .0) (c .in-front .ensures .0),
+      candidates-keys (p .g) (p .s) (c .before .before .before .before .pre .0) (p .m)
+          (c .before .before .before .before .pre .3) (p .n) (c .before .before .before .first-edges .result)
+          (c .before .first-edges2 .result) (c .in-front .result)
+          (c .before .before .before .first-edges .ensures .0) (c .before .before .before .first-edges .ensures .1)
+          (c .before .first-edges2 .ensures .0) (c .in-front .ensures .0),
       omega (arith, c .in-front .ensures .1, c .before .first-edges2 .ensures .1),
     )
 

@@ -1,8 +1,7 @@
 -- The lowest source of an edge that leads from a state of the greatest weight to a lighter one.
-use mathlib.Core.Path.{_≡_, refl, sym, ap, subst, _∙_}
-use Prim.Native.Nat.{ℕ, _+_, _-_, _≤_, _<_}
+use mathlib.Core.Path.{_≡_, refl, sym, subst}
+use Prim.Native.Nat.{_+_, _-_, _≤_}
 use native.Mathlib.Omega.{arith}
-use lib.ListN.{getD}
 use Rattle.graph.proofs.CodeChoose.{Lowest, lowest-none, lowest-more, lightens, sourceAt, choose-is}
 use borrow.Author.Needs.{needs}
 use Rattle.graph.proofs.choose.choose.Statement.{statement}
@@ -31,11 +30,21 @@ cast-t c = search needs
 
 element-copy-out-lower-source : tie.Need-element-copy-out-lower-source Inv-loop μ-loop
 element-copy-out-lower-source c =
-    omega (arith, c .before .before .before .before .pre .0 .few, c .before .before .before .before .pre .0 .source (c .before .before .before .loop .i) (omega arith))
+    omega (
+      arith,
+      c .before .before .before .before .pre .0 .few,
+      c .before .before .before .before .pre .0 .source
+          (c .before .before .before .loop .i) (omega arith),
+    )
 
 element-copy-out-lower-source-2 : tie.Need-element-copy-out-lower-source-2 Inv-loop μ-loop
 element-copy-out-lower-source-2 c =
-    omega (arith, c .before .before .before .before .before .pre .0 .few, c .before .before .before .before .before .pre .0 .target (c .before .before .before .before .loop .i) (omega arith))
+    omega (
+      arith,
+      c .before .before .before .before .before .pre .0 .few,
+      c .before .before .before .before .before .pre .0 .target (c .before .before .before .before .loop .i)
+          (omega arith),
+    )
 
 lower-source-requires : tie.Need-lower-source-requires Inv-loop μ-loop
 lower-source-requires c κs = search needs
@@ -61,7 +70,8 @@ returns c =
     let l = c .before .loop in
     let p = c .before .before .args in
     let e : l .i ≡ p .t1 .edges = omega arith in
-    choose-is (p .t1) (p .m) (c .before .before .pre .0) (c .before .before .pre .1) (c .before .before .pre .2) (l .best)
+    choose-is (p .t1) (p .m) (c .before .before .pre .0) (c .before .before .pre .1) (c .before .before .pre .2)
+    (l .best)
     (subst (λ k. Lowest (lightens (p .t1) (p .m)) (sourceAt (p .t1) (p .m)) k (l .best)) e (l .inv .2))
 
 pub choose-spec : {M : Type 1} → statement M

@@ -1,20 +1,26 @@
 -- The tests are those of the definition, one after the other.
-use mathlib.Core.Path.{_≡_, refl, sym, ap, _∙_}
 use native.Mathlib.Omega.{arith}
 use borrow.Author.Tests.{le-ltb, lt-ltb, eq-eqb, ne-eqb}
-use borrow.Author.Needs.{needs}
 use Rattle.graph.proofs.choose.lower_source.Statement.{statement}
 use Rattle.graph.proofs.choose.lower_source.Tie as tie
 
 returns : tie.Need-returns
 returns c =
     let p = c .before .before .before .args in
-    simp (eq-eqb (p .source) (p .m) (c .before .before .if1 .taken), lt-ltb (p .target) (p .m) (c .before .if2 .taken)) (omega arith)
+    simp (
+      eq-eqb (p .source) (p .m) (c .before .before .if1 .taken),
+      lt-ltb (p .target) (p .m)
+          (c .before .if2 .taken),
+    ) (omega arith)
 
 returns-2 : tie.Need-returns-2
 returns-2 c =
     let p = c .before .before .before .args in
-    simp (eq-eqb (p .source) (p .m) (c .before .before .if1 .taken), lt-ltb (p .target) (p .m) (c .before .if2 .taken)) (omega arith)
+    simp (
+      eq-eqb (p .source) (p .m) (c .before .before .if1 .taken),
+      lt-ltb (p .target) (p .m)
+          (c .before .if2 .taken),
+    ) (omega arith)
 
 returns-3 : tie.Need-returns-3
 returns-3 c =

@@ -1,8 +1,7 @@
 -- Where s is not in the component, nothing is added.
-use mathlib.Core.Path.{_≡_, refl, sym, ap, subst, _∙_}
+use mathlib.Core.Path.{sym, subst}
 use mathlib.Core.List.{[]}
 use mathlib.Core.Bool.{false}
-use native.Mathlib.Omega.{arith}
 use borrow.Author.Tests.{le-ltb, lt-ltb}
 use denote.Ref.{now}
 use lib.ListN.{getD}
@@ -27,14 +26,16 @@ add-words-requires c κs =
 returns : tie.Need-returns
 returns c =
     let p = c .before .before .args in
-    subst (λ b. Added (p .g) (if b then rowArcs (now (p .power)) (p .t4) (p .s) (p .words) else []) (c .add-words .result))
-        (sym (lt-ltb (getD (p .t4) (p .s) 0) 16 (c .before .if1 .taken))) (c .add-words .ensures)
+    subst (λ b. Added (p .g) (if b then rowArcs (now (p .power)) (p .t4) (p .s) (p .words) else [])
+    (c .add-words .result))
+    (sym (lt-ltb (getD (p .t4) (p .s) 0) 16 (c .before .if1 .taken))) (c .add-words .ensures)
 
 returns-2 : tie.Need-returns-2
 returns-2 c =
     let p = c .before .args in
-    subst (λ b. Added (p .g) (if b then rowArcs (now (p .power)) (p .t4) (p .s) (p .words) else []) (record { crowded = false; graph = p .g }))
-        (sym (le-ltb (getD (p .t4) (p .s) 0) 16 (c .if1 .left))) (added-none (p .g) (c .before .pre .3))
+    subst (λ b. Added (p .g) (if b then rowArcs (now (p .power)) (p .t4) (p .s) (p .words) else [])
+    (record { crowded = false; graph = p .g }))
+    (sym (le-ltb (getD (p .t4) (p .s) 0) 16 (c .if1 .left))) (added-none (p .g) (c .before .pre .3))
 
 pub add-state-spec : {M : Type 1} → statement M
 add-state-spec = tie.close (tie.spec mul-if1 array-read-if1 add-words-requires returns returns-2)

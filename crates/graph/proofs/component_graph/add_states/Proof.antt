@@ -1,6 +1,6 @@
 -- State by state, until there are too many edges.
-use mathlib.Core.Path.{_≡_, refl, sym, ap, subst, _∙_}
-use Prim.Native.Nat.{ℕ, _+_, _-_, _≤_, _<_}
+use mathlib.Core.Path.{_≡_, subst}
+use Prim.Native.Nat.{_-_, _≤_}
 use native.Mathlib.Omega.{arith}
 use denote.Ref.{now}
 use Rattle.graph.specs.ComponentParts.{rowOfState}
@@ -26,8 +26,9 @@ returns : tie.Need-returns Inv-loop μ-loop
 returns c =
     let l = c .before .before .before .loop in
     let p = c .before .before .before .before .args in
-    done-over (rowOfState (now (p .power)) (p .words) (p .index)) (p .g) (l .h) (l .s) (l .inv .1) (c .before .add-state .result) (p .k)
-        (c .before .before .loop-test .taken) (c .before .add-state .ensures) (c .if1 .taken)
+    done-over (rowOfState (now (p .power)) (p .words) (p .index)) (p .g) (l .h) (l .s) (l .inv .1)
+    (c .before .add-state .result) (p .k)
+    (c .before .before .loop-test .taken) (c .before .add-state .ensures) (c .if1 .taken)
 
 add-s : tie.Need-add-s Inv-loop μ-loop
 add-s c = search needs
@@ -38,9 +39,12 @@ loop-less c = search needs
 loop-again : tie.Need-loop-again Inv-loop μ-loop
 loop-again c =
     let l = c .before .before .before .before .loop in
-    let p = c .before .before .before .before .before .args in
-    (omega arith, done-more (rowOfState (now (p .power)) (p .words) (p .index)) (p .g) (l .h) (l .s) (l .inv .1) (c .before .before .add-state .result)
-        (c .before .before .add-state .ensures) (c .before .if1 .left))
+    let p = c .before .before .before .before .before .args in (
+      omega arith,
+      done-more (rowOfState (now (p .power)) (p .words) (p .index)) (p .g) (l .h) (l .s) (l .inv .1)
+          (c .before .before .add-state .result)
+          (c .before .before .add-state .ensures) (c .before .if1 .left),
+    )
 
 returns-2 : tie.Need-returns-2 Inv-loop μ-loop
 returns-2 c =
@@ -48,7 +52,7 @@ returns-2 c =
     let p = c .before .before .args in
     let e : l .s ≡ p .k = omega arith in
     done-end (rowOfState (now (p .power)) (p .words) (p .index)) (p .g) (l .h) (p .k)
-        (subst (Done (rowOfState (now (p .power)) (p .words) (p .index)) (p .g) (l .h)) e (l .inv .1))
+    (subst (Done (rowOfState (now (p .power)) (p .words) (p .index)) (p .g) (l .h)) e (l .inv .1))
 
 pub add-states-spec : {M : Type 1} → statement M
 add-states-spec =

@@ -1,11 +1,10 @@
 -- Each word that leads into the component is appended; that there would be too many edges is said before a store.
-use mathlib.Core.Path.{_≡_, refl, sym, ap, subst, _∙_}
+use mathlib.Core.Path.{_≡_, refl, subst}
 use mathlib.Core.Logic.{⊎-elim}
-use Prim.Native.Nat.{ℕ, _+_, _-_, _*_, _≤_, _<_}
+use Prim.Native.Nat.{_-_, _≤_}
 use native.Mathlib.Omega.{arith}
 use denote.Ref.{now}
 use lib.ListN.{length, getD}
-use Rattle.graph.specs.ComponentParts.{placeOf}
 use Rattle.graph.proofs.CodeRows.{Rowed, rowed-none, rowed-yes, rowed-no, rowed-over, rowed-end}
 use borrow.Author.Needs.{needs}
 use Rattle.graph.proofs.component_graph.add_words.Statement.{statement}
@@ -50,8 +49,9 @@ returns : tie.Need-returns Inv-loop μ-loop
 returns c =
     let l = c .before .before .before .before .before .loop in
     let p = c .before .before .before .before .before .before .args in
-    rowed-over (now (p .power)) (p .t4) (p .s) (p .g) (l .h) (l .m) (l .w) (l .inv .3) (p .words) (omega arith) (c .if2 .taken)
-        (omega (arith, c .before .before .place-of .ensures, c .before .if1 .taken))
+    rowed-over (now (p .power)) (p .t4) (p .s) (p .g) (l .h) (l .m) (l .w) (l .inv .3) (p .words) (omega arith)
+    (c .if2 .taken)
+    (omega (arith, c .before .before .place-of .ensures, c .before .if1 .taken))
 
 element-write-h : tie.Need-element-write-h Inv-loop μ-loop
 element-write-h c = search needs
@@ -83,11 +83,23 @@ loop-again c =
     let p = c .before .before .before .before .before .args in
     let e = c .before .place-of .ensures in
     ⊎-elim
-    (λ u. (omega arith, omega (arith, u .1 .left, u .3), refl, rw (u .2, u .3)
-        (rowed-yes (now (p .power)) (p .t4) (p .s) (p .g) (l .h) (l .m) (l .w) (l .inv .3) (c .before .place-of .result) e
-        (omega (arith, u .1 .left)) (u .0 .taken))))
-    (λ u. (omega arith, omega (arith, u .2), refl, rw (u .1, u .2)
-        (rowed-no (now (p .power)) (p .t4) (p .s) (p .g) (l .h) (l .m) (l .w) (l .inv .3) (omega (arith, u .0 .left)))))
+    (λ u. (
+      omega arith,
+      omega (arith, u .1 .left, u .3),
+      refl,
+      rw (u .2, u .3)
+          (rowed-yes (now (p .power)) (p .t4) (p .s) (p .g) (l .h) (l .m) (l .w) (l .inv .3)
+          (c .before .place-of .result) e
+          (omega (arith, u .1 .left)) (u .0 .taken)),
+    ))
+    (λ u. (
+      omega arith,
+      omega (arith, u .2),
+      refl,
+      rw (u .1, u .2)
+          (rowed-no (now (p .power)) (p .t4) (p .s) (p .g) (l .h) (l .m) (l .w) (l .inv .3)
+          (omega (arith, u .0 .left))),
+    ))
     (c .if1 .came)
 
 returns-2 : tie.Need-returns-2 Inv-loop μ-loop
@@ -96,7 +108,7 @@ returns-2 c =
     let p = c .before .before .args in
     let e : l .w ≡ p .words = omega arith in
     rowed-end (now (p .power)) (p .t4) (p .s) (p .g) (l .h) (l .m) (p .words)
-        (subst (Rowed (now (p .power)) (p .t4) (p .s) (p .g) (l .h) (l .m)) e (l .inv .3)) (l .inv .1)
+    (subst (Rowed (now (p .power)) (p .t4) (p .s) (p .g) (l .h) (l .m)) e (l .inv .3)) (l .inv .1)
 
 pub add-words-spec : {M : Type 1} → statement M
 add-words-spec =

@@ -1,5 +1,4 @@
 -- The test is that of the definition.
-use mathlib.Core.Path.{_≡_, refl, sym, ap, _∙_}
 use borrow.Author.Tests.{le-ltb, lt-ltb}
 use borrow.Author.Needs.{needs}
 use borrow.Author.Needs.{needs}

@@ -1,18 +1,19 @@
 -- The weights are summed one by one.
-use mathlib.Core.Path.{_≡_, refl, sym, ap, subst, _∙_}
+use mathlib.Core.Path.{_≡_, refl, ap, _∙_}
 use mathlib.Core.List.{map}
-use Prim.Native.Nat.{ℕ, _+_, _-_, _*_, _≤_, _<_}
+use Prim.Native.Nat.{_-_, _*_, _≤_}
 use native.Mathlib.Omega.{arith}
 use lib.ListN.{length, getD, take}
 use Rattle.laws.specs.Lists.{sum}
-use Rattle.graph.proofs.CodeRows.{sum-more}
+use Rattle.graph.proofs.CodeTotals.{sum-more}
 use borrow.Author.Needs.{needs}
 use Rattle.graph.proofs.component_graph.total_weight.Statement.{statement}
 use Rattle.graph.proofs.component_graph.total_weight.Tie as tie
 
 abbrev Inv-loop : tie.InvT-loop
 Inv-loop list v n total₀ i₀ total i =
-    (i ≤ n) × (n ≡ list .count) × (n ≤ 16) × (total ≤ 128 * i) × (total ≡ sum (map (λ t. getD v t 0) (take i (list .state))))
+    (i ≤ n) × (n ≡ list .count) × (n ≤ 16) × (total ≤ 128 * i)
+    × (total ≡ sum (map (λ t. getD v t 0) (take i (list .state))))
 
 abbrev μ-loop : tie.MeasureT-loop
 μ-loop list v n total₀ i₀ total i = n - i
@@ -46,9 +47,13 @@ loop-again : tie.Need-loop-again Inv-loop μ-loop
 loop-again c =
     let l = c .before .before .loop in
     let p = c .before .before .before .args in
-    let a : length (p .t1 .state) ≡ 16 = search needs in
-    (omega arith, refl, omega arith, omega (arith, c .before .before .before .pre .1 (l .i) (omega arith) .1),
-        omega (arith, sum-more (p .t2) (p .t1 .state) (l .i) (omega arith)))
+    let a : length (p .t1 .state) ≡ 16 = search needs in (
+      omega arith,
+      refl,
+      omega arith,
+      omega (arith, c .before .before .before .pre .1 (l .i) (omega arith) .1),
+      omega (arith, sum-more (p .t2) (p .t1 .state) (l .i) (omega arith)),
+    )
 
 returns : tie.Need-returns Inv-loop μ-loop
 returns c =

@@ -1,10 +1,10 @@
 -- Place i gets the weight of the component's state i.
-use mathlib.Core.Path.{_≡_, refl, sym, ap, subst, _∙_}
-use Prim.Native.Nat.{ℕ, _+_, _-_, _≤_, _<_}
+use mathlib.Core.Path.{_≡_, refl, subst}
+use Prim.Native.Nat.{_-_, _≤_}
 use native.Mathlib.Omega.{arith}
 use lib.ListN.{length, getD}
 use Rattle.graph.proofs.CodeLists.{Filled, fill-none, fill-more}
-use Rattle.graph.proofs.CodeRows.{weights-filled}
+use Rattle.graph.proofs.CodeTotals.{weights-filled}
 use borrow.Author.Needs.{needs}
 use Rattle.graph.proofs.component_graph.with_weights.Statement.{statement}
 use Rattle.graph.proofs.component_graph.with_weights.Tie as tie
@@ -47,18 +47,25 @@ loop-less c = search needs
 loop-again : tie.Need-loop-again Inv-loop μ-loop
 loop-again c =
     let l = c .before .before .loop in
-    let p = c .before .before .before .args in
-    (omega arith, refl, omega arith,
-        fill-more 0 (λ x. getD (p .t2) (getD (p .t1 .state) x 0) 0) 128 (l .i) (l .weight) _ (omega arith) refl (l .inv .3))
+    let p = c .before .before .before .args in (
+      omega arith,
+      refl,
+      omega arith,
+      fill-more 0 (λ x. getD (p .t2) (getD (p .t1 .state) x 0) 0) 128 (l .i) (l .weight) _ (omega arith) refl
+          (l .inv .3),
+    )
 
 returns : tie.Need-returns Inv-loop μ-loop
 returns c =
     let l = c .before .loop in
     let p = c .before .before .args in
     let a : length (p .t1 .state) ≡ 16 = search needs in
-    let e : l .i ≡ p .t1 .count = omega arith in
-    (weights-filled (p .t2) (p .t1 .state) (p .t1 .count) (l .weight) (omega arith)
-        (subst (λ k. Filled 0 (λ x. getD (p .t2) (getD (p .t1 .state) x 0) 0) 128 k (l .weight)) e (l .inv .3)), refl, refl)
+    let e : l .i ≡ p .t1 .count = omega arith in (
+      weights-filled (p .t2) (p .t1 .state) (p .t1 .count) (l .weight) (omega arith)
+          (subst (λ k. Filled 0 (λ x. getD (p .t2) (getD (p .t1 .state) x 0) 0) 128 k (l .weight)) e (l .inv .3)),
+      refl,
+      refl,
+    )
 
 pub with-weights-spec : {M : Type 1} → statement M
 with-weights-spec =

@@ -1,17 +1,23 @@
 -- The tests one after the other.
-use mathlib.Core.Path.{_≡_, refl, sym, ap, _∙_}
 use borrow.Author.Tests.{le-ltb, lt-ltb}
-use borrow.Author.Needs.{needs}
 use Rattle.graph.proofs.find_component.all_above.Statement.{statement}
 use Rattle.graph.proofs.find_component.all_above.Tie as tie
 
 returns : tie.Need-returns
 returns c =
-    simp (lt-ltb 0 (c .before .before .args .a) (c .before .if1 .taken), lt-ltb 0 (c .before .before .args .b) (c .if2 .taken))
+    simp (
+      lt-ltb 0 (c .before .before .args .a) (c .before .if1 .taken),
+      lt-ltb 0 (c .before .before .args .b)
+          (c .if2 .taken),
+    )
 
 returns-2 : tie.Need-returns-2
 returns-2 c =
-    simp (lt-ltb 0 (c .before .before .args .a) (c .before .if1 .taken), le-ltb 0 (c .before .before .args .b) (c .if2 .left))
+    simp (
+      lt-ltb 0 (c .before .before .args .a) (c .before .if1 .taken),
+      le-ltb 0 (c .before .before .args .b)
+          (c .if2 .left),
+    )
 
 returns-3 : tie.Need-returns-3
 returns-3 c = simp (le-ltb 0 (c .before .args .a) (c .if1 .left))

@@ -1,11 +1,9 @@
 -- The two tests one after the other.
-use mathlib.Core.Path.{_≡_, refl, sym, ap, ap₂, _∙_}
-use mathlib.Core.Bool.{Bool, true, false, _&&_}
-use Prim.Native.Nat.{ℕ, _≤_, _<_}
+use mathlib.Core.Path.{_≡_, sym, ap, _∙_}
+use mathlib.Core.Bool.{true, false, _&&_}
 use native.Mathlib.Omega.{arith}
 use borrow.Author.Tests.{le-ltb, lt-ltb}
 use denote.Ref.{now}
-use lib.Dec.{ltb}
 use lib.ListN.{length, getD, take}
 use Rattle.graph.specs.Component.{returning, weighs, live}
 use Rattle.graph.specs.ReachSets.{rowsOf}
@@ -26,8 +24,8 @@ returns c =
     let p = c .before .args in
     let a : length (p .t2) ≡ 16 = search needs in
     let e : weighs (take (p .k) (p .t2)) (p .s) ≡ false =
-        weighs-at (now (p .m)) (p .t2) (p .k) (c .before .pre .1) a (p .s) (c .before .pre .2)
-        ∙ le-ltb 0 (getD (p .t2) (p .s) 0) (omega (arith, c .if1 .taken)) in
+    weighs-at (now (p .m)) (p .t2) (p .k) (c .before .pre .1) a (p .s) (c .before .pre .2)
+    ∙ le-ltb 0 (getD (p .t2) (p .s) 0) (omega (arith, c .if1 .taken)) in
     sym (ap (λ b. b && returning (rowsOf (now (p .m)) (p .k)) (live (take (p .k) (p .t2))) (p .s)) e)
 
 returns-all-requires : tie.Need-returns-all-requires
@@ -38,10 +36,10 @@ returns-2 c =
     let p = c .before .before .args in
     let a : length (p .t2) ≡ 16 = search needs in
     let e : weighs (take (p .k) (p .t2)) (p .s) ≡ true =
-        weighs-at (now (p .m)) (p .t2) (p .k) (c .before .before .pre .1) a (p .s) (c .before .before .pre .2)
-        ∙ lt-ltb 0 (getD (p .t2) (p .s) 0) (omega (arith, c .before .if1 .left)) in
+    weighs-at (now (p .m)) (p .t2) (p .k) (c .before .before .pre .1) a (p .s) (c .before .before .pre .2)
+    ∙ lt-ltb 0 (getD (p .t2) (p .s) 0) (omega (arith, c .before .if1 .left)) in
     c .returns-all .ensures
-        ∙ sym (ap (λ b. b && returning (rowsOf (now (p .m)) (p .k)) (live (take (p .k) (p .t2))) (p .s)) e)
+    ∙ sym (ap (λ b. b && returning (rowsOf (now (p .m)) (p .k)) (live (take (p .k) (p .t2))) (p .s)) e)
 
 pub is-returning-spec : {M : Type 1} → statement M
 is-returning-spec =

@@ -1,8 +1,8 @@
 -- The states are tried one by one.
 use mathlib.Core.Path.{_≡_, refl, sym, ap, ap₂, _∙_}
 use mathlib.Core.Logic.{⊎-elim}
-use mathlib.Core.Bool.{Bool, true, false, _&&_}
-use Prim.Native.Nat.{ℕ, _+_, _-_, _*_, _≤_, _<_}
+use mathlib.Core.Bool.{true, false, _&&_}
+use Prim.Native.Nat.{_+_, _-_, _*_, _≤_}
 use native.Mathlib.Omega.{arith}
 use denote.Ref.{now}
 use lib.Dec.{T}
@@ -46,8 +46,10 @@ returns : tie.Need-returns Inv-loop μ-loop
 returns c =
     let p = c .before .before .before .before .before .before .args in
     let f = passesOn (now (p .edge)) (now (p .m)) (p .t) (p .s) in
-    let e : f (c .before .before .before .before .before .loop .u) ≡ true = ap₂ (λ a b. a && b) (c .before .before .if1 .taken) (c .if2 .taken) in
-    sym (T→true (any f (range (p .k))) (→any-below f (p .k) (c .before .before .before .before .before .loop .u) (omega arith) (rw e tt)))
+    let e : f (c .before .before .before .before .before .loop .u)
+    ≡ true = ap₂ (λ a b. a && b) (c .before .before .if1 .taken) (c .if2 .taken) in
+    sym (T→true (any f (range (p .k)))
+    (→any-below f (p .k) (c .before .before .before .before .before .loop .u) (omega arith) (rw e tt)))
 
 add-u : tie.Need-add-u Inv-loop μ-loop
 add-u c = search needs
@@ -60,9 +62,16 @@ loop-again c =
     let p = c .before .before .before .before .args in
     let f = passesOn (now (p .edge)) (now (p .m)) (p .t) (p .s) in
     ⊎-elim
-    (λ w. (omega arith, any-range-no f (c .before .before .before .loop .u) (c .before .before .before .loop .inv .1) (ap₂ (λ a b. a && b) (w .0 .taken) (w .2 .left))))
-    (λ w. (omega arith, any-range-no f (c .before .before .before .loop .u) (c .before .before .before .loop .inv .1)
-        (ap (λ a. a && getD (now (p .m)) (p .t * 16 + c .before .before .before .loop .u) false) (w .left))))
+    (λ w. (
+      omega arith,
+      any-range-no f (c .before .before .before .loop .u) (c .before .before .before .loop .inv .1)
+          (ap₂ (λ a b. a && b) (w .0 .taken) (w .2 .left)),
+    ))
+    (λ w. (
+      omega arith,
+      any-range-no f (c .before .before .before .loop .u) (c .before .before .before .loop .inv .1)
+          (ap (λ a. a && getD (now (p .m)) (p .t * 16 + c .before .before .before .loop .u) false) (w .left)),
+    ))
     (c .if1 .came)
 
 returns-2 : tie.Need-returns-2 Inv-loop μ-loop

@@ -1,14 +1,15 @@
 -- The states that pass are appended, and each gets its place as its number.
-use mathlib.Core.Path.{_≡_, refl, sym, ap, subst, _∙_}
+use mathlib.Core.Path.{_≡_, sym, subst, _∙_}
 use mathlib.Core.Logic.{⊎-elim}
-use mathlib.Core.Bool.{Bool, true, false, _&&_}
-use Prim.Native.Nat.{ℕ, _+_, _-_, _*_, _≤_, _<_}
+use mathlib.Core.Bool.{Bool, _&&_}
+use Prim.Native.Nat.{ℕ, _-_, _≤_}
 use native.Mathlib.Omega.{arith}
 use denote.Ref.{now}
 use lib.Dec.{ltb}
 use lib.ListN.{length, getD}
 use Rattle.graph.specs.ReachSets.{reachAt}
-use Rattle.graph.proofs.CodeMembers.{Numbered, numbered-none, numbered-yes, numbered-no, numbered-end, component-is}
+use Rattle.graph.proofs.CodeMembers.{component-is}
+use Rattle.graph.proofs.CodeNumbers.{Numbered, numbered-none, numbered-yes, numbered-no, numbered-end}
 use borrow.Author.Needs.{needs}
 use Rattle.graph.proofs.find_component.list_members.Statement.{statement}
 use Rattle.graph.proofs.find_component.list_members.Tie as tie
@@ -69,10 +70,18 @@ loop-again c =
     let q : ℕ → Bool = λ x. ltb 0 (getD (p .t2) x 0) && reachAt (now (p .m)) x (p .s) in
     let e = c .before .is-member .ensures in
     ⊎-elim
-    (λ w. (omega arith, omega arith, rw (w .1, w .2, w .3)
-        (numbered-yes q (l .t) (l .count) (l .state) (l .index) (omega arith) (l .inv .2) (sym e ∙ w .0 .taken))))
-    (λ w. (omega arith, omega arith, rw (w .1, w .2, w .3)
-        (numbered-no q (l .t) (l .count) (l .state) (l .index) (omega arith) (l .inv .2) (sym e ∙ w .0 .left))))
+    (λ w. (
+      omega arith,
+      omega arith,
+      rw (w .1, w .2, w .3)
+          (numbered-yes q (l .t) (l .count) (l .state) (l .index) (omega arith) (l .inv .2) (sym e ∙ w .0 .taken)),
+    ))
+    (λ w. (
+      omega arith,
+      omega arith,
+      rw (w .1, w .2, w .3)
+          (numbered-no q (l .t) (l .count) (l .state) (l .index) (omega arith) (l .inv .2) (sym e ∙ w .0 .left)),
+    ))
     (c .if1 .came)
 
 returns : tie.Need-returns Inv-loop μ-loop
@@ -83,8 +92,8 @@ returns c =
     let q : ℕ → Bool = λ x. ltb 0 (getD (p .t2) x 0) && reachAt (now (p .m)) x (p .s) in
     let e : l .t ≡ p .k = omega arith in
     numbered-end q (p .k) (l .count) (l .state) (l .index) _ (c .before .before .pre .1)
-        (component-is (now (p .m)) (p .t2) (p .k) (c .before .before .pre .1) a (p .s) (c .before .before .pre .2))
-        (subst (λ n. Numbered q n (l .count) (l .state) (l .index)) e (l .inv .2))
+    (component-is (now (p .m)) (p .t2) (p .k) (c .before .before .pre .1) a (p .s) (c .before .before .pre .2))
+    (subst (λ n. Numbered q n (l .count) (l .state) (l .index)) e (l .inv .2))
 
 pub list-members-spec : {M : Type 1} → statement M
 list-members-spec =

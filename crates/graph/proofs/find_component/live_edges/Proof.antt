@@ -1,7 +1,6 @@
 -- Place x is for the state x / 16 and the state x % 16.
-use mathlib.Core.Path.{_≡_, refl, sym, ap, _∙_}
 use mathlib.Core.Bool.{false}
-use Prim.Native.Nat.{ℕ, _+_, _-_, _*_, _/_, _%_, _≤_, _<_}
+use Prim.Native.Nat.{_-_, _≤_, _<_}
 use native.Mathlib.Nat.{div-lt-iff-lt-mul, mod-lt}
 use native.Mathlib.Omega.{arith}
 use denote.Ref.{now}
@@ -57,9 +56,12 @@ loop-less c = search needs
 loop-again : tie.Need-loop-again Inv-loop μ-loop
 loop-again c =
     let l = c .before .before .before .loop in
-    let p = c .before .before .before .before .args in
-    (omega arith, omega arith, fill-more false (liveEdge (now (p .count)) (p .t2)) 256 (l .x) (l .r) _ (omega arith)
-        (c .all-above .ensures) (l .inv .2))
+    let p = c .before .before .before .before .args in (
+      omega arith,
+      omega arith,
+      fill-more false (liveEdge (now (p .count)) (p .t2)) 256 (l .x) (l .r) _ (omega arith)
+          (c .all-above .ensures) (l .inv .2),
+    )
 
 returns : tie.Need-returns Inv-loop μ-loop
 returns c = λ x h. c .before .loop .inv .2 .holds x (omega arith)

@@ -1,7 +1,5 @@
 -- The tests one after the other.
-use mathlib.Core.Path.{_≡_, refl, sym, ap, _∙_}
 use borrow.Author.Tests.{le-ltb, lt-ltb}
-use borrow.Author.Needs.{needs}
 use Rattle.graph.proofs.find_component.no_return.Statement.{statement}
 use Rattle.graph.proofs.find_component.no_return.Tie as tie
 

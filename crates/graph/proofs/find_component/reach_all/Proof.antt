@@ -1,6 +1,6 @@
 -- Rounds until nothing changes; further rounds change nothing, and as many as states are always enough.
-use mathlib.Core.Path.{_≡_, refl, sym, ap, _∙_}
-use Prim.Native.Nat.{ℕ, _+_, _-_, _*_, _≤_, _<_}
+use mathlib.Core.Path.{_≡_}
+use Prim.Native.Nat.{_-_, _≤_}
 use native.Mathlib.Omega.{arith}
 use denote.Ref.{now}
 use lib.ListN.{length}
@@ -23,13 +23,19 @@ mul-n c = search needs
 
 loop-holds : tie.Need-loop-holds Inv-loop μ-loop
 loop-holds c =
-    let a : length (c .themselves .result) ≡ 256 = search needs in
-    (c .before .pre .1, omega arith,
-        rounds-start (now (c .before .args .edge)) (c .before .args .k) (c .before .pre .1) (c .themselves .result) a (c .themselves .ensures))
+    let a : length (c .themselves .result) ≡ 256 = search needs in (
+      c .before .pre .1,
+      omega arith,
+      rounds-start (now (c .before .args .edge)) (c .before .args .k) (c .before .pre .1) (c .themselves .result) a
+          (c .themselves .ensures),
+    )
 
 reach-step-requires : tie.Need-reach-step-requires Inv-loop μ-loop
-reach-step-requires c κs =
-    (c .before .before .before .before .pre .0, c .before .before .loop .inv .2 .long, c .before .before .before .before .pre .1)
+reach-step-requires c κs = (
+  c .before .before .before .before .pre .0,
+  c .before .before .loop .inv .2 .long,
+  c .before .before .before .before .pre .1,
+)
 
 same-places-requires : tie.Need-same-places-requires Inv-loop μ-loop
 same-places-requires c κs =
@@ -40,8 +46,9 @@ returns : tie.Need-returns Inv-loop μ-loop
 returns c =
     let l = c .before .before .before .before .before .before .before .loop in
     let p = c .before .before .before .before .before .before .before .before .before .args in
-    rounds-still (now (p .edge)) (p .k) (l .inv .0) (l .m) (c .before .before .before .before .reach-step .result) (c .before .before .before .before .reach-step .ensures) (l .i) (l .inv .2)
-        (c .before .same-places .ensures (c .if1 .taken))
+    rounds-still (now (p .edge)) (p .k) (l .inv .0) (l .m) (c .before .before .before .before .reach-step .result)
+    (c .before .before .before .before .reach-step .ensures) (l .i) (l .inv .2)
+    (c .before .same-places .ensures (c .if1 .taken))
 
 add-i : tie.Need-add-i Inv-loop μ-loop
 add-i c = search needs
@@ -53,10 +60,13 @@ loop-again : tie.Need-loop-again Inv-loop μ-loop
 loop-again c =
     let a : length (c .before .before .before .before .reach-step .result) ≡ 256 = search needs in
     let l = c .before .before .before .before .before .before .before .loop in
-    let p = c .before .before .before .before .before .before .before .before .before .args in
-    (l .inv .0, omega arith,
-        rounds-more (now (p .edge)) (p .k) (l .inv .0) (l .m) (c .before .before .before .before .reach-step .result) (c .before .before .before .before .reach-step .ensures) (l .i) (l .inv .2)
-        (c .before .before .before .before .before .before .loop-test .taken) a)
+    let p = c .before .before .before .before .before .before .before .before .before .args in (
+      l .inv .0,
+      omega arith,
+      rounds-more (now (p .edge)) (p .k) (l .inv .0) (l .m) (c .before .before .before .before .reach-step .result)
+          (c .before .before .before .before .reach-step .ensures) (l .i) (l .inv .2)
+          (c .before .before .before .before .before .before .loop-test .taken) a,
+    )
 
 returns-2 : tie.Need-returns-2 Inv-loop μ-loop
 returns-2 c =

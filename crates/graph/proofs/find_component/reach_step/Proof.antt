@@ -1,7 +1,6 @@
 -- The new places go into a fresh array.
-use mathlib.Core.Path.{_≡_, refl, sym, ap, _∙_}
 use mathlib.Core.Bool.{false, _||_}
-use Prim.Native.Nat.{ℕ, _+_, _-_, _*_, _/_, _%_, _≤_, _<_}
+use Prim.Native.Nat.{_-_, _/_, _%_, _≤_}
 use native.Mathlib.Omega.{arith}
 use denote.Ref.{now}
 use lib.ListN.{getD}
@@ -14,7 +13,8 @@ use Rattle.graph.proofs.find_component.reach_step.Tie as tie
 
 abbrev Inv-loop : tie.InvT-loop
 Inv-loop edge m k r₀ n x₀ r x =
-    (x ≤ n) × (n ≤ 256) × Filled false (λ y. getD m y false || any (passesOn edge m (y / 16) (y % 16)) (range k)) 256 x r
+    (x ≤ n) × (n ≤ 256) × Filled false
+    (λ y. getD m y false || any (passesOn edge m (y / 16) (y % 16)) (range k)) 256 x r
 
 abbrev μ-loop : tie.MeasureT-loop
 μ-loop edge m k r₀ n x₀ r x = n - x
@@ -40,10 +40,13 @@ loop-less c = search needs
 loop-again : tie.Need-loop-again Inv-loop μ-loop
 loop-again c =
     let l = c .before .before .loop in
-    let p = c .before .before .before .args in
-    (omega arith, omega arith,
-        fill-more false (λ y. getD (now (p .m)) y false || any (passesOn (now (p .edge)) (now (p .m)) (y / 16) (y % 16)) (range (p .k)))
-        256 (l .x) (l .r) _ (omega arith) (c .reaches-on .ensures) (l .inv .2))
+    let p = c .before .before .before .args in (
+      omega arith,
+      omega arith,
+      fill-more false (λ y. getD (now (p .m)) y false || any (passesOn (now (p .edge)) (now (p .m)) (y / 16) (y % 16))
+          (range (p .k)))
+          256 (l .x) (l .r) _ (omega arith) (c .reaches-on .ensures) (l .inv .2),
+    )
 
 returns : tie.Need-returns Inv-loop μ-loop
 returns c = λ x h. c .before .loop .inv .2 .holds x (omega arith)

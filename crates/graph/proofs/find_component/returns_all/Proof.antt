@@ -1,7 +1,7 @@
 -- The states are tried one by one.
-use mathlib.Core.Path.{_≡_, refl, sym, ap, _∙_}
-use mathlib.Core.Bool.{Bool, true, false}
-use Prim.Native.Nat.{ℕ, _+_, _-_, _*_, _≤_, _<_}
+use mathlib.Core.Path.{_≡_, sym, _∙_}
+use mathlib.Core.Bool.{false}
+use Prim.Native.Nat.{ℕ, _-_, _≤_, _<_}
 use native.Mathlib.Omega.{arith}
 use borrow.Author.Count.{below-more}
 use denote.Ref.{now}
@@ -51,8 +51,11 @@ returns : tie.Need-returns Inv-loop μ-loop
 returns c =
     let p = c .before .before .before .before .before .before .args in
     let a : length (p .t2) ≡ 16 = search needs in
-    sym (fails-no (now (p .m)) (p .t2) (p .k) (c .before .before .before .before .before .before .pre .1) a (p .s) (c .before .before .before .before .before .loop .t) (c .before .before .before .before .before .before .pre .2) (c .before .before .before .before .loop-test .taken)
-        (sym (c .before .no-return .ensures) ∙ c .if1 .taken))
+    sym (fails-no (now (p .m)) (p .t2) (p .k) (c .before .before .before .before .before .before .pre .1) a (p .s)
+    (c .before .before .before .before .before .loop .t)
+    (c .before .before .before .before .before .before .pre .2)
+    (c .before .before .before .before .loop-test .taken)
+    (sym (c .before .no-return .ensures) ∙ c .if1 .taken))
 
 add-t : tie.Need-add-t Inv-loop μ-loop
 add-t c = search needs
@@ -61,14 +64,18 @@ loop-less : tie.Need-loop-less Inv-loop μ-loop
 loop-less c = search needs
 
 loop-again : tie.Need-loop-again Inv-loop μ-loop
-loop-again c =
-    (omega arith, below-more _ _ (c .before .before .before .before .before .loop .inv .1) (sym (c .before .no-return .ensures) ∙ c .if1 .left))
+loop-again c = (
+  omega arith,
+  below-more _ _ (c .before .before .before .before .before .loop .inv .1)
+      (sym (c .before .no-return .ensures) ∙ c .if1 .left),
+)
 
 returns-2 : tie.Need-returns-2 Inv-loop μ-loop
 returns-2 c =
     let p = c .before .before .args in
     let a : length (p .t2) ≡ 16 = search needs in
-    sym (fails-yes (now (p .m)) (p .t2) (p .k) (c .before .before .pre .1) a (p .s) (c .before .before .pre .2) (λ t h. c .before .loop .inv .1 t (omega arith)))
+    sym (fails-yes (now (p .m)) (p .t2) (p .k) (c .before .before .pre .1) a (p .s) (c .before .before .pre .2)
+    (λ t h. c .before .loop .inv .1 t (omega arith)))
 
 pub returns-all-spec : {M : Type 1} → statement M
 returns-all-spec =

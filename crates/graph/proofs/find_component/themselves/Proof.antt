@@ -1,7 +1,7 @@
 -- Place x is for the state x / 16 and the state x % 16.
-use mathlib.Core.Path.{_≡_, refl, sym, ap, _∙_}
+use mathlib.Core.Path.{refl}
 use mathlib.Core.Bool.{false}
-use Prim.Native.Nat.{ℕ, _+_, _-_, _*_, _/_, _%_, _≤_, _<_}
+use Prim.Native.Nat.{_-_, _/_, _%_, _≤_}
 use native.Mathlib.Omega.{arith}
 use lib.Dec.{eqb}
 use Rattle.graph.proofs.CodeLists.{Filled, fill-none, fill-more}
@@ -33,8 +33,12 @@ loop-less c = search needs
 
 loop-again : tie.Need-loop-again Inv-loop μ-loop
 loop-again c =
-    let l = c .before .loop in
-    (omega arith, omega arith, fill-more false (λ y. eqb (y / 16) (y % 16)) 256 (l .x) (l .r) _ (omega arith) refl (l .inv .2))
+    let l = c .before .loop in (
+      omega arith,
+      omega arith,
+      fill-more false (λ y. eqb (y / 16) (y % 16)) 256 (l .x) (l .r) _ (omega arith) refl
+          (l .inv .2),
+    )
 
 returns : tie.Need-returns Inv-loop μ-loop
 returns c = λ x h. c .before .loop .inv .2 .holds x (omega arith)

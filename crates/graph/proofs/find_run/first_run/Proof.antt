@@ -1,10 +1,9 @@
 -- The places are tried from the first on, and the first that ends a run ends the search.
-use mathlib.Core.Path.{_≡_, refl, sym, ap, subst, _∙_}
-use Prim.Native.Nat.{ℕ, _+_, _-_, _≤_, _<_}
+use mathlib.Core.Path.{_≡_, subst}
+use Prim.Native.Nat.{_-_, _≤_}
 use native.Mathlib.Omega.{arith}
-use lib.ListN.{length, getD, take}
+use lib.ListN.{length, take}
 use lib.Seq.{length-take-le}
-use Rattle.graph.specs.SplitParts.{RunTo, FirstRun}
 use Rattle.graph.proofs.CodeRun.{Without, without-more, first-found, first-nowhere}
 use borrow.Author.Needs.{needs}
 use Rattle.graph.proofs.find_run.first_run.Statement.{statement}
@@ -28,7 +27,8 @@ returns c =
     let p = c .before .before .before .before .before .args in
     let l = c .before .before .before .before .loop in
     let m : length (take (p .m) (p .weight)) ≡ p .m = length-take-le (p .m) (p .weight) (omega arith) in
-    first-found (p .n) (take (p .m) (p .weight)) (l .j) (c .before .before .run-to .result) (c .before .before .run-to .ensures) (c .if1 .taken) (omega arith) (l .inv .1)
+    first-found (p .n) (take (p .m) (p .weight)) (l .j) (c .before .before .run-to .result)
+    (c .before .before .run-to .ensures) (c .if1 .taken) (omega arith) (l .inv .1)
 
 add-j : tie.Need-add-j Inv-loop μ-loop
 add-j c = search needs
@@ -39,8 +39,11 @@ loop-less c = search needs
 loop-again : tie.Need-loop-again Inv-loop μ-loop
 loop-again c =
     let p = c .before .before .before .before .before .args in
-    let l = c .before .before .before .before .loop in
-    (omega arith, without-more (p .n) (take (p .m) (p .weight)) (l .j) (c .before .before .run-to .result) (c .before .before .run-to .ensures) (c .if1 .left) (l .inv .1))
+    let l = c .before .before .before .before .loop in (
+      omega arith,
+      without-more (p .n) (take (p .m) (p .weight)) (l .j) (c .before .before .run-to .result)
+          (c .before .before .run-to .ensures) (c .if1 .left) (l .inv .1),
+    )
 
 returns-2 : tie.Need-returns-2 Inv-loop μ-loop
 returns-2 c =

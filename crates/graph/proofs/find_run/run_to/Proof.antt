@@ -1,8 +1,8 @@
 -- The weights are summed from place j back, and the first sum that n divides is that of the shortest run.
-use mathlib.Core.Path.{_≡_, refl, sym, ap, _∙_}
-use Prim.Native.Nat.{ℕ, _+_, _-_, _*_, _≤_, _<_}
+use mathlib.Core.Path.{_≡_}
+use Prim.Native.Nat.{_+_, _-_, _≤_}
 use native.Mathlib.Omega.{arith}
-use lib.ListN.{length, getD, take}
+use lib.ListN.{length, take}
 use Rattle.graph.proofs.CodeRun.{Summed, summed-none, summed-more, stretch-small, run-found, run-none}
 use borrow.Author.Needs.{needs}
 use Rattle.graph.proofs.find_run.run_to.Statement.{statement}
@@ -28,7 +28,11 @@ add-total c =
     let a : length (c .before .before .args .t1) ≡ 16 = search needs in
     let p = c .before .before .args in
     let l = c .before .loop in
-    omega (arith, stretch-small (p .n) (p .t1) (p .m) (p .j) (l .i) (l .total) a (omega arith) (omega arith) (omega arith) (c .before .before .pre .3) (l .inv .1))
+    omega (
+      arith,
+      stretch-small (p .n) (p .t1) (p .m) (p .j) (l .i) (l .total) a (omega arith) (omega arith)
+          (omega arith) (c .before .before .pre .3) (l .inv .1),
+    )
 
 rem-if1 : tie.Need-rem-if1 Inv-loop μ-loop
 rem-if1 c = search needs
@@ -41,7 +45,8 @@ returns c =
     let a : length (c .before .before .before .args .t1) ≡ 16 = search needs in
     let p = c .before .before .before .args in
     let l = c .before .before .loop in
-    run-found (p .n) (p .t1) (p .m) (p .j) (l .i) (l .total) a (omega arith) (omega arith) (omega arith) (c .before .before .before .pre .3) (l .inv .1) (c .if1 .taken)
+    run-found (p .n) (p .t1) (p .m) (p .j) (l .i) (l .total) a (omega arith) (omega arith) (omega arith)
+    (c .before .before .before .pre .3) (l .inv .1) (c .if1 .taken)
 
 add-i : tie.Need-add-i Inv-loop μ-loop
 add-i c = search needs
@@ -53,8 +58,11 @@ loop-again : tie.Need-loop-again Inv-loop μ-loop
 loop-again c =
     let a : length (c .before .before .before .args .t1) ≡ 16 = search needs in
     let p = c .before .before .before .args in
-    let l = c .before .before .loop in
-    (omega arith, summed-more (p .n) (p .t1) (p .m) (p .j) (l .i) (l .total) a (omega arith) (omega arith) (omega arith) (c .before .before .before .pre .3) (l .inv .1) (c .if1 .left))
+    let l = c .before .before .loop in (
+      omega arith,
+      summed-more (p .n) (p .t1) (p .m) (p .j) (l .i) (l .total) a (omega arith) (omega arith)
+          (omega arith) (c .before .before .before .pre .3) (l .inv .1) (c .if1 .left),
+    )
 
 returns-2 : tie.Need-returns-2 Inv-loop μ-loop
 returns-2 c =

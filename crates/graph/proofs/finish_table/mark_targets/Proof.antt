@@ -1,7 +1,7 @@
 -- Each edge marks the state to which it leads.
 use mathlib.Core.Path.{_≡_, refl, sym, ap, _∙_}
 use mathlib.Core.Bool.{_||_, or-false}
-use Prim.Native.Nat.{ℕ, _+_, _-_, _%_, _≤_, _<_}
+use Prim.Native.Nat.{ℕ, _-_, _%_, _≤_, _<_}
 use native.Mathlib.Nat.{mod-lt}
 use native.Mathlib.Omega.{arith}
 use lib.Dec.{lit<}
@@ -9,7 +9,7 @@ use lib.ListN.{length, getD, take, set, length-set}
 use Rattle.laws.specs.Lists.{any}
 use Rattle.laws.specs.Sets.{member}
 use Rattle.graph.specs.TableParts.{enteredBy}
-use Rattle.graph.proofs.CodeClosure.{mark-more}
+use Rattle.graph.proofs.CodeMarks.{mark-more}
 use borrow.Author.Needs.{needs}
 use Rattle.graph.proofs.finish_table.mark_targets.Statement.{statement}
 use Rattle.graph.proofs.finish_table.mark_targets.Tie as tie
@@ -17,7 +17,7 @@ use Rattle.graph.proofs.finish_table.mark_targets.Tie as tie
 abbrev Inv-loop : tie.InvT-loop
 Inv-loop list r₀ n i₀ r i =
     (i ≤ n) × (n ≡ list .count) × (n ≤ 16) × (length r ≡ 128)
-        × ((x : ℕ) → member r x ≡ (member r₀ x || any (enteredBy x) (take i (list .key))))
+    × ((x : ℕ) → member r x ≡ (member r₀ x || any (enteredBy x) (take i (list .key))))
 
 abbrev μ-loop : tie.MeasureT-loop
 μ-loop list r₀ n i₀ r i = n - i
@@ -47,10 +47,14 @@ loop-again : tie.Need-loop-again Inv-loop μ-loop
 loop-again c =
     let l = c .before .before .loop in
     let p = c .before .before .before .args in
-    let a : length (p .t1 .key) ≡ 16 = search needs in
-    (omega arith, refl, omega arith, length-set (l .r) (getD (p .t1 .key) (l .i) 0 % 128) _ ∙ l .inv .3,
-        mark-more (p .set) (l .r) (p .t1 .key) (l .i) (l .inv .3) (omega arith)
-        (mod-lt (getD (p .t1 .key) (l .i) 0) {m = 128} (lit< tt)) (l .inv .4))
+    let a : length (p .t1 .key) ≡ 16 = search needs in (
+      omega arith,
+      refl,
+      omega arith,
+      length-set (l .r) (getD (p .t1 .key) (l .i) 0 % 128) _ ∙ l .inv .3,
+      mark-more (p .set) (l .r) (p .t1 .key) (l .i) (l .inv .3) (omega arith)
+          (mod-lt (getD (p .t1 .key) (l .i) 0) {m = 128} (lit< tt)) (l .inv .4),
+    )
 
 returns : tie.Need-returns Inv-loop μ-loop
 returns c =

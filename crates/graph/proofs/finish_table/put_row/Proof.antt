@@ -1,12 +1,12 @@
 -- The edges are laid one by one.
-use mathlib.Core.Path.{_≡_, refl, sym, ap, subst, _∙_}
-use Prim.Native.Nat.{ℕ, _+_, _-_, _*_, _/_, _%_, _≤_, _<_}
+use mathlib.Core.Path.{_≡_, subst}
+use Prim.Native.Nat.{_-_, _/_, _≤_, _<_}
 use native.Mathlib.Nat.{div-lt-iff-lt-mul, mod-lt}
 use native.Mathlib.Omega.{arith}
 use lib.Dec.{lit<}
 use lib.ListN.{length, getD}
 use Rattle.graph.specs.TableParts.{RowPut}
-use Rattle.graph.proofs.CodeTable.{put-start, put-more}
+use Rattle.graph.proofs.CodePut.{put-start, put-more}
 use borrow.Author.Needs.{needs}
 use Rattle.graph.proofs.finish_table.put_row.Statement.{statement}
 use Rattle.graph.proofs.finish_table.put_row.Tie as tie
@@ -32,7 +32,12 @@ element-copy-out-key c = search needs
 cast-r : tie.Need-cast-r Inv-loop μ-loop
 cast-r c =
     let h : getD (c .before .before .before .args .t2 .key) (c .before .before .loop .d) 0 / 128 < 256 =
-        div-lt-iff-lt-mul {k = 128} {y = 256} (lit< tt) .1 (omega (arith, c .before .before .before .pre .3 (c .before .before .loop .d) (c .before .loop-test .taken) .0)) in
+    div-lt-iff-lt-mul {k = 128} {y = 256} (lit< tt) .1
+    (omega (
+      arith,
+      c .before .before .before .pre .3 (c .before .before .loop .d)
+          (c .before .loop-test .taken) .0,
+    )) in
     omega arith
 
 mul-r : tie.Need-mul-r Inv-loop μ-loop
@@ -46,7 +51,11 @@ element-write-r c = search needs
 
 mul-r-2 : tie.Need-mul-r-2 Inv-loop μ-loop
 mul-r-2 c =
-    omega (arith, mod-lt (getD (c .before .before .before .args .t2 .key) (c .before .before .loop .d) 0) {m = 128} (lit< tt))
+    omega (
+      arith,
+      mod-lt (getD (c .before .before .before .args .t2 .key) (c .before .before .loop .d) 0) {m = 128}
+          (lit< tt),
+    )
 
 array-read-r : tie.Need-array-read-r Inv-loop μ-loop
 array-read-r c =
@@ -74,9 +83,11 @@ loop-less c = search needs
 loop-again : tie.Need-loop-again Inv-loop μ-loop
 loop-again c =
     let l = c .before .before .loop in
-    let p = c .before .before .before .args in
-    (omega arith, omega arith,
-        put-more (p .rows) (p .t2 .key) (p .t3) (p .n) (p .i) (l .d) (l .r) (omega arith) (omega arith) (l .inv .2))
+    let p = c .before .before .before .args in (
+      omega arith,
+      omega arith,
+      put-more (p .rows) (p .t2 .key) (p .t3) (p .n) (p .i) (l .d) (l .r) (omega arith) (omega arith) (l .inv .2),
+    )
 
 returns : tie.Need-returns Inv-loop μ-loop
 returns c =

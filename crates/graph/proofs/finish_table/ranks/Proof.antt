@@ -1,7 +1,7 @@
 -- The count so far is the rank.
-use mathlib.Core.Path.{_≡_, refl, sym, ap, _∙_}
+use mathlib.Core.Path.{_≡_, sym}
 use mathlib.Core.Logic.{⊎-elim}
-use Prim.Native.Nat.{ℕ, _+_, _-_, _≤_, _<_}
+use Prim.Native.Nat.{_-_, _≤_}
 use native.Mathlib.Omega.{arith}
 use Rattle.graph.specs.TableParts.{rank}
 use Rattle.graph.proofs.CodeLists.{Filled, fill-none, fill-more}

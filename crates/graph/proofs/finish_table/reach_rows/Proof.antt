@@ -1,17 +1,15 @@
 -- The edges of each state reached are followed once; in the end no edge leads out of the set.
-use mathlib.Core.Path.{_≡_, refl, sym, ap, subst, _∙_}
-use mathlib.Core.Bool.{Bool, true, false, not, _&&_, _||_}
-use Prim.Native.Nat.{ℕ, _+_, _-_, _≤_, _<_}
+use mathlib.Core.Path.{_≡_, refl, ap, _∙_}
+use mathlib.Core.Bool.{true, false, _||_}
+use Prim.Native.Nat.{_-_}
 use native.Mathlib.Omega.{arith}
-use lib.Dec.{T, eqb}
+use lib.Dec.{eqb}
 use lib.ListN.{length, replicate, length-replicate, length-set}
 use Rattle.laws.specs.Sets.{member}
-use Rattle.laws.proofs.Tests.{and→}
 use Rattle.graph.specs.EdgeKeys.{keysIn}
 use Rattle.graph.specs.TableParts.{Finished, Open}
-use Rattle.graph.proofs.CodeClosure.{
-  Forward, forward-start, forward-step, forward-end, opens, opens-less, put-member, blank-none, open-set, open-done
-}
+use Rattle.graph.proofs.CodeClosure.{Forward, forward-start, forward-step, forward-end}
+use Rattle.graph.proofs.CodeMarks.{opens, opens-less, put-member, blank-none, open-set, open-done}
 use borrow.Author.Needs.{needs}
 use Rattle.graph.proofs.finish_table.reach_rows.Statement.{statement}
 use Rattle.graph.proofs.finish_table.reach_rows.Tie as tie
@@ -31,12 +29,17 @@ next-open-requires c κs = c .pre .fits .few
 
 loop-holds : tie.Need-loop-holds Inv-loop μ-loop
 loop-holds c =
-    let p = c .before .args in
-    (c .before .pre, refl, c .next-open .ensures,
-        forward-start (p .n) (p .g) (c .before .pre) _ _ (length-set (replicate 128 false) 0 true ∙ length-replicate 128 false)
-        (length-replicate 128 false)
-        (λ x. put-member (replicate 128 false) 0 x (omega (arith, length-replicate 128 false)) ∙ ap (λ b. b || eqb 0 x) (blank-none 128 x))
-        (blank-none 128))
+    let p = c .before .args in (
+      c .before .pre,
+      refl,
+      c .next-open .ensures,
+      forward-start (p .n) (p .g) (c .before .pre) _ _
+          (length-set (replicate 128 false) 0 true ∙ length-replicate 128 false)
+          (length-replicate 128 false)
+          (λ x. put-member (replicate 128 false) 0 x (omega (arith, length-replicate 128 false))
+          ∙ ap (λ b. b || eqb 0 x) (blank-none 128 x))
+          (blank-none 128),
+    )
 
 first-edges-requires : tie.Need-first-edges-requires Inv-loop μ-loop
 first-edges-requires c κs = (c .before .before .before .pre .fits, c .before .before .before .pre .few)
@@ -54,19 +57,26 @@ loop-less : tie.Need-loop-less Inv-loop μ-loop
 loop-less c =
     let l = c .before .before .before .before .loop in
     let o = l .inv .2 .here (c .before .before .before .loop-test .taken) in
-    opens-less (l .done) (l .s) (c .before .before .before .before .before .before .args .g .states) (c .before .before .before .loop-test .taken)
-        (let m = l .inv .3 .longD in omega (arith, c .before .before .before .before .before .before .pre .fits .few)) (open-done (member (l .set) (l .s)) (member (l .done) (l .s)) o)
+    opens-less (l .done) (l .s) (c .before .before .before .before .before .before .args .g .states)
+    (c .before .before .before .loop-test .taken)
+    (let m = l .inv .3 .longD in omega (arith, c .before .before .before .before .before .before .pre .fits .few))
+    (open-done (member (l .set) (l .s)) (member (l .done) (l .s)) o)
 
 loop-again : tie.Need-loop-again Inv-loop μ-loop
 loop-again c =
     let l = c .before .before .before .before .loop in
     let p = c .before .before .before .before .before .before .args in
     let o = l .inv .2 .here (c .before .before .before .loop-test .taken) in
-    let a : length (c .before .mark-targets .result) ≡ 128 = search needs in
-    (l .inv .0, refl, c .next-open2 .ensures,
-        forward-step (p .n) (p .g) (l .inv .0) (l .set) (l .done) (l .inv .3) (l .s) (c .before .before .before .loop-test .taken)
-        (open-set (member (l .set) (l .s)) (member (l .done) (l .s)) o) (keysIn (c .before .before .first-edges .result)) (c .before .before .first-edges .ensures .0)
-        (c .before .mark-targets .result) a (c .before .mark-targets .ensures))
+    let a : length (c .before .mark-targets .result) ≡ 128 = search needs in (
+      l .inv .0,
+      refl,
+      c .next-open2 .ensures,
+      forward-step (p .n) (p .g) (l .inv .0) (l .set) (l .done) (l .inv .3) (l .s)
+          (c .before .before .before .loop-test .taken)
+          (open-set (member (l .set) (l .s)) (member (l .done) (l .s)) o)
+          (keysIn (c .before .before .first-edges .result)) (c .before .before .first-edges .ensures .0)
+          (c .before .mark-targets .result) a (c .before .mark-targets .ensures),
+    )
 
 returns : tie.Need-returns Inv-loop μ-loop
 returns c =

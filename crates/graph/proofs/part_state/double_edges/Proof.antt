@@ -1,12 +1,10 @@
 -- Each edge into s is appended once more, to the new state. There is room, since the edges after it were counted.
-use mathlib.Core.Path.{_≡_, refl, sym, ap, subst, _∙_}
+use mathlib.Core.Path.{_≡_, refl, subst}
 use mathlib.Core.Logic.{⊎-elim}
-use Prim.Native.Nat.{ℕ, _+_, _-_, _≤_, _<_}
+use Prim.Native.Nat.{_-_, _≤_, _<_}
 use native.Mathlib.Omega.{arith}
-use lib.ListN.{length, getD}
-use Rattle.graph.proofs.CodePart.{
-  Grown, grown-none, grown-yes, grown-no, grown-room, grown-end
-}
+use lib.ListN.{length}
+use Rattle.graph.proofs.CodePart.{Grown, grown-none, grown-yes, grown-no, grown-room, grown-end}
 use borrow.Author.Needs.{needs}
 use Rattle.graph.proofs.part_state.double_edges.Statement.{statement}
 use Rattle.graph.proofs.part_state.double_edges.Tie as tie
@@ -40,7 +38,12 @@ element-copy-out-h c = search needs
 element-write-h : tie.Need-element-write-h Inv-loop μ-loop
 element-write-h c =
     let l = c .before .before .before .before .loop in
-    omega (arith, grown-room (c .before .before .before .before .before .args .t1) (c .before .before .before .before .before .args .s) (l .h) (l .m) (l .i) (l .inv .4) (omega arith) (c .before .if1 .taken))
+    omega (
+      arith,
+      grown-room (c .before .before .before .before .before .args .t1)
+          (c .before .before .before .before .before .args .s) (l .h) (l .m) (l .i) (l .inv .4) (omega arith)
+          (c .before .if1 .taken),
+    )
 
 element-copy-out-h-2 : tie.Need-element-copy-out-h-2 Inv-loop μ-loop
 element-copy-out-h-2 c = search needs
@@ -48,12 +51,22 @@ element-copy-out-h-2 c = search needs
 element-write-h-2 : tie.Need-element-write-h-2 Inv-loop μ-loop
 element-write-h-2 c =
     let l = c .before .before .before .before .before .loop in
-    omega (arith, grown-room (c .before .before .before .before .before .before .args .t1) (c .before .before .before .before .before .before .args .s) (l .h) (l .m) (l .i) (l .inv .4) (omega arith) (c .before .before .if1 .taken))
+    omega (
+      arith,
+      grown-room (c .before .before .before .before .before .before .args .t1)
+          (c .before .before .before .before .before .before .args .s) (l .h) (l .m) (l .i) (l .inv .4) (omega arith)
+          (c .before .before .if1 .taken),
+    )
 
 element-write-h-3 : tie.Need-element-write-h-3 Inv-loop μ-loop
 element-write-h-3 c =
     let l = c .before .before .before .before .before .loop in
-    omega (arith, grown-room (c .before .before .before .before .before .before .args .t1) (c .before .before .before .before .before .before .args .s) (l .h) (l .m) (l .i) (l .inv .4) (omega arith) (c .before .before .if1 .taken))
+    omega (
+      arith,
+      grown-room (c .before .before .before .before .before .before .args .t1)
+          (c .before .before .before .before .before .before .args .s) (l .h) (l .m) (l .i) (l .inv .4) (omega arith)
+          (c .before .before .if1 .taken),
+    )
 
 add-m : tie.Need-add-m Inv-loop μ-loop
 add-m c = search needs
@@ -70,12 +83,21 @@ loop-again c =
     let p = c .before .before .before .before .args in
     ⊎-elim
     (λ w.
-        let k : l .m < 2048 =
-            omega (arith, grown-room (p .t1) (p .s) (l .h) (l .m) (l .i) (l .inv .4) (omega arith) (w .0 .taken)) in
-        (omega arith, refl, omega (arith, w .4), refl,
-            rw (w .3, w .4) (grown-yes (p .t1) (p .s) (l .h) (l .m) (l .i) (l .inv .4) k (w .0 .taken))))
-    (λ w. (omega arith, refl, omega (arith, w .2), refl,
-        rw (w .1, w .2) (grown-no (p .t1) (p .s) (l .h) (l .m) (l .i) (l .inv .4) (w .0 .left))))
+    let k : l .m < 2048 =
+    omega (arith, grown-room (p .t1) (p .s) (l .h) (l .m) (l .i) (l .inv .4) (omega arith) (w .0 .taken)) in (
+      omega arith,
+      refl,
+      omega (arith, w .4),
+      refl,
+      rw (w .3, w .4) (grown-yes (p .t1) (p .s) (l .h) (l .m) (l .i) (l .inv .4) k (w .0 .taken)),
+    ))
+    (λ w. (
+      omega arith,
+      refl,
+      omega (arith, w .2),
+      refl,
+      rw (w .1, w .2) (grown-no (p .t1) (p .s) (l .h) (l .m) (l .i) (l .inv .4) (w .0 .left)),
+    ))
     (c .if1 .came)
 
 returns : tie.Need-returns Inv-loop μ-loop

@@ -1,7 +1,7 @@
 -- The edges into s are counted.
-use mathlib.Core.Path.{_≡_, refl, sym, ap, _∙_}
+use mathlib.Core.Path.{_≡_, refl, ap, _∙_}
 use mathlib.Core.Logic.{⊎-elim}
-use Prim.Native.Nat.{ℕ, _+_, _-_, _≤_, _<_}
+use Prim.Native.Nat.{_-_, _≤_}
 use native.Mathlib.Omega.{arith}
 use lib.ListN.{length}
 use Rattle.graph.proofs.CodePart.{entered, entered-no, count-yes}
@@ -38,8 +38,22 @@ loop-again : tie.Need-loop-again Inv-loop μ-loop
 loop-again c =
     let l = c .before .before .before .loop in
     let p = c .before .before .before .before .args in
-    ⊎-elim (λ w. (omega arith, refl, omega arith, omega (arith, w .1), omega (arith, w .1, count-yes (p .t1) (p .s) (l .i) (w .0 .taken))))
-        (λ w. (omega arith, refl, omega arith, omega (arith, w .1), omega (arith, w .1, ap length (entered-no (p .t1) (p .s) (l .i) (w .0 .left)))))
+    ⊎-elim (λ w. (
+      omega arith,
+      refl,
+      omega arith,
+      omega (arith, w .1),
+      omega
+          (arith, w .1, count-yes (p .t1) (p .s) (l .i) (w .0 .taken)),
+    ))
+    (λ w. (
+      omega arith,
+      refl,
+      omega arith,
+      omega (arith, w .1),
+      omega
+          (arith, w .1, ap length (entered-no (p .t1) (p .s) (l .i) (w .0 .left))),
+    ))
     (c .if1 .came)
 
 returns : tie.Need-returns Inv-loop μ-loop

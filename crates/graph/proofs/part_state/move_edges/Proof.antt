@@ -1,14 +1,22 @@
 -- Each edge out of s whose key is not in the run gets the new state as its source.
-use mathlib.Core.Path.{_≡_, refl, sym, ap, subst, _∙_}
+use mathlib.Core.Path.{_≡_, refl, sym, subst, _∙_}
 use mathlib.Core.Logic.{⊎-elim}
 use mathlib.Core.List.{map}
-use Prim.Native.Nat.{ℕ, _+_, _-_, _*_, _≤_, _<_}
+use Prim.Native.Nat.{_-_, _≤_}
 use native.Mathlib.Omega.{arith}
-use lib.ListN.{length, getD, take, drop}
+use lib.ListN.{length, take, drop}
 use Rattle.graph.specs.EdgeKeys.{keysIn, arcOf}
 use Rattle.graph.specs.SplitParts.{keptArcs}
-use Rattle.graph.proofs.CodePart.{
-  Resourced, resource-none, resource-put, resource-stay, resource-end, newSource, new-off, new-kept, new-moved
+use Rattle.graph.proofs.CodeMove.{
+  Resourced,
+  resource-none,
+  resource-put,
+  resource-stay,
+  resource-end,
+  newSource,
+  new-off,
+  new-kept,
+  new-moved,
 }
 use Rattle.graph.proofs.CodeKept.{among-kept}
 use borrow.Author.Needs.{needs}
@@ -19,7 +27,7 @@ use Rattle.graph.proofs.part_state.move_edges.Tie as tie
 abbrev Inv-loop : tie.InvT-loop
 Inv-loop s list g h₀ n from count fresh i₀ h i =
     (i ≤ n) × (n ≡ g .edges) × (n ≤ 2048) × (fresh ≡ g .states)
-        × Resourced g (newSource g s (map (arcOf s) (take count (drop from (keysIn list))))) i h
+    × Resourced g (newSource g s (map (arcOf s) (take count (drop from (keysIn list))))) i h
 
 abbrev μ-loop : tie.MeasureT-loop
 μ-loop s list g h₀ n from count fresh i₀ h i = n - i
@@ -46,7 +54,11 @@ cast-key c = search needs
 
 mul-key : tie.Need-mul-key Inv-loop μ-loop
 mul-key c =
-    omega (arith, c .before .before .before .before .before .pre .0 .word (c .before .before .before .before .loop .i) (omega arith))
+    omega (
+      arith,
+      c .before .before .before .before .before .pre .0 .word (c .before .before .before .before .loop .i)
+          (omega arith),
+    )
 
 element-copy-out-key-2 : tie.Need-element-copy-out-key-2 Inv-loop μ-loop
 element-copy-out-key-2 c = search needs
@@ -56,8 +68,14 @@ cast-key-2 c = search needs
 
 add-key : tie.Need-add-key Inv-loop μ-loop
 add-key c =
-    omega (arith, c .before .before .before .before .before .before .pre .0 .word (c .before .before .before .before .before .loop .i) (omega arith), c .before .before .before .before .before .before .pre .0 .few,
-        c .before .before .before .before .before .before .pre .0 .target (c .before .before .before .before .before .loop .i) (omega arith))
+    omega (
+      arith,
+      c .before .before .before .before .before .before .pre .0 .word
+          (c .before .before .before .before .before .loop .i) (omega arith),
+      c .before .before .before .before .before .before .pre .0 .few,
+      c .before .before .before .before .before .before .pre .0 .target
+          (c .before .before .before .before .before .loop .i) (omega arith),
+    )
 
 among-keys-requires : tie.Need-among-keys-requires Inv-loop μ-loop
 among-keys-requires c κs = search needs
@@ -79,16 +97,36 @@ loop-again c =
     let K = take (p .run .count) (drop (p .run .from) (keysIn (p .list))) in
     let f = newSource g (p .s) (map (arcOf (p .s)) K) in
     ⊎-elim
-    (λ w. (omega arith, refl, omega arith, refl, rw (w .5) (resource-put g f (l .i) (l .h) (l .inv .4) (g .states) (omega arith)
-        (new-moved g (p .s) (map (arcOf (p .s)) K) (l .i) (w .0 .taken)
-        (sym (among-kept g (p .s) (l .i) K (c .before .before .before .before .pre .0) (omega arith) (w .0 .taken)) ∙ sym (w .3 .ensures) ∙ not-true (w .3 .result) (w .4 .taken))))))
+    (λ w. (
+      omega arith,
+      refl,
+      omega arith,
+      refl,
+      rw (w .5) (resource-put g f (l .i) (l .h) (l .inv .4) (g .states) (omega arith)
+          (new-moved g (p .s) (map (arcOf (p .s)) K) (l .i) (w .0 .taken)
+          (sym (among-kept g (p .s) (l .i) K (c .before .before .before .before .pre .0) (omega arith) (w .0 .taken))
+          ∙ sym (w .3 .ensures) ∙ not-true (w .3 .result) (w .4 .taken)))),
+    ))
     (λ u. ⊎-elim
-        (λ w. (omega arith, refl, omega arith, refl, rw (w .5) (resource-stay g f (l .i) (l .h) (l .inv .4)
-            (new-kept g (p .s) (map (arcOf (p .s)) K) (l .i)
-            (sym (among-kept g (p .s) (l .i) K (c .before .before .before .before .pre .0) (omega arith) (w .0 .taken)) ∙ sym (w .3 .ensures) ∙ not-false (w .3 .result) (w .4 .left))))))
-        (λ w. (omega arith, refl, omega arith, refl, rw (w .1) (resource-stay g f (l .i) (l .h) (l .inv .4)
-            (new-off g (p .s) (map (arcOf (p .s)) K) (l .i) (w .0 .left)))))
-        u)
+    (λ w. (
+      omega arith,
+      refl,
+      omega arith,
+      refl,
+      rw (w .5) (resource-stay g f (l .i) (l .h) (l .inv .4)
+          (new-kept g (p .s) (map (arcOf (p .s)) K) (l .i)
+          (sym (among-kept g (p .s) (l .i) K (c .before .before .before .before .pre .0) (omega arith) (w .0 .taken))
+          ∙ sym (w .3 .ensures) ∙ not-false (w .3 .result) (w .4 .left)))),
+    ))
+    (λ w. (
+      omega arith,
+      refl,
+      omega arith,
+      refl,
+      rw (w .1) (resource-stay g f (l .i) (l .h) (l .inv .4)
+          (new-off g (p .s) (map (arcOf (p .s)) K) (l .i) (w .0 .left))),
+    ))
+    u)
     (c .if1 .came)
 
 returns : tie.Need-returns Inv-loop μ-loop
@@ -97,7 +135,8 @@ returns c =
     let p = c .before .before .args in
     let e : l .i ≡ p .t1 .edges = omega arith in
     resource-end (p .t1) (p .s) (keptArcs (p .s) (p .list) (p .run)) (l .h)
-        (subst (λ k. Resourced (p .t1) (newSource (p .t1) (p .s) (keptArcs (p .s) (p .list) (p .run))) k (l .h)) e (l .inv .4))
+    (subst (λ k. Resourced (p .t1) (newSource (p .t1) (p .s) (keptArcs (p .s) (p .list) (p .run))) k (l .h)) e
+    (l .inv .4))
 
 pub move-edges-spec : {M : Type 1} → statement M
 move-edges-spec =

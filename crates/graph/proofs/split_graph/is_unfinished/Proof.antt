@@ -1,9 +1,9 @@
 -- The states are tried one by one.
-use mathlib.Core.Path.{_≡_, refl, sym, ap, subst, _∙_}
-use Prim.Native.Nat.{ℕ, _+_, _-_, _≤_, _<_}
+use mathlib.Core.Path.{sym}
+use Prim.Native.Nat.{ℕ, _-_, _≤_, _<_}
 use native.Mathlib.Omega.{arith}
 use borrow.Author.Count.{below-more}
-use lib.ListN.{length, getD}
+use lib.ListN.{getD}
 use Rattle.graph.proofs.CodeLoop.{unfinished-yes, unfinished-no}
 use borrow.Author.Needs.{needs}
 use Rattle.graph.proofs.split_graph.is_unfinished.Statement.{statement}
@@ -30,7 +30,8 @@ array-read-if1 c = search needs
 returns : tie.Need-returns Inv-loop μ-loop
 returns c =
     let e = c .before .before .before .out-counts .ensures (c .before .before .loop .s) (omega arith) in
-    sym (unfinished-yes (c .before .before .before .before .args .n) (c .before .before .before .before .args .g) (c .before .before .loop .s) (omega arith) (omega (arith, c .if1 .taken)))
+    sym (unfinished-yes (c .before .before .before .before .args .n) (c .before .before .before .before .args .g)
+    (c .before .before .loop .s) (omega arith) (omega (arith, c .if1 .taken)))
 
 add-s : tie.Need-add-s Inv-loop μ-loop
 add-s c = search needs
@@ -46,7 +47,7 @@ returns-2 : tie.Need-returns-2 Inv-loop μ-loop
 returns-2 c =
     let l = c .before .loop in
     sym (unfinished-no (c .before .before .before .args .n) (c .before .before .before .args .g)
-        (λ j h. let e = c .before .before .out-counts .ensures j h in omega (arith, l .inv .2 j (omega arith))))
+    (λ j h. let e = c .before .before .out-counts .ensures j h in omega (arith, l .inv .2 j (omega arith))))
 
 pub is-unfinished-spec : {M : Type 1} → statement M
 is-unfinished-spec =

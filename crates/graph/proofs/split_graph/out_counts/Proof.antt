@@ -1,6 +1,6 @@
 -- Each edge counts at its source.
-use mathlib.Core.Path.{_≡_, refl, sym, ap, subst, _∙_}
-use Prim.Native.Nat.{ℕ, _+_, _-_, _*_, _≤_, _<_}
+use mathlib.Core.Path.{_≡_, refl, ap, _∙_}
+use Prim.Native.Nat.{_-_, _≤_, _<_}
 use native.Mathlib.Omega.{arith}
 use lib.ListN.{length, getD}
 use Rattle.graph.proofs.CodeLoop.{Counted, counted-none, counted-more, left}
@@ -34,7 +34,11 @@ array-read-r c = small (c .before)
 
 add-r : tie.Need-add-r Inv-loop μ-loop
 add-r c =
-    omega (arith, c .before .before .loop .inv .3 .low (getD (c .before .before .before .args .t1 .source) (c .before .before .loop .i) 0) (small (c .before)))
+    omega (
+      arith,
+      c .before .before .loop .inv .3 .low
+          (getD (c .before .before .before .args .t1 .source) (c .before .before .loop .i) 0) (small (c .before)),
+    )
 
 mul-r-2 : tie.Need-mul-r-2 Inv-loop μ-loop
 mul-r-2 c = omega (arith, small (c .before))
@@ -50,14 +54,20 @@ loop-less c = search needs
 
 loop-again : tie.Need-loop-again Inv-loop μ-loop
 loop-again c =
-    let l = c .before .before .loop in
-    (omega arith, refl, omega arith, counted-more (c .before .before .before .args .t1) (l .i) (l .r) (small (c .before)) (l .inv .3))
+    let l = c .before .before .loop in (
+      omega arith,
+      refl,
+      omega arith,
+      counted-more (c .before .before .before .args .t1) (l .i) (l .r)
+          (small (c .before)) (l .inv .3),
+    )
 
 returns : tie.Need-returns Inv-loop μ-loop
 returns c =
     let l = c .before .loop in
     let e : l .i ≡ c .before .before .args .t1 .edges = omega arith in
-    λ s h. l .inv .3 .holds s (omega (arith, c .before .before .pre .few)) ∙ ap (λ k. length (left (c .before .before .args .t1) k s)) e
+    λ s h. l .inv .3 .holds s (omega (arith, c .before .before .pre .few))
+    ∙ ap (λ k. length (left (c .before .before .args .t1) k s)) e
 
 pub out-counts-spec : {M : Type 1} → statement M
 out-counts-spec =

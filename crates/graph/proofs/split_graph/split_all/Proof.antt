@@ -1,14 +1,21 @@
--- Each split makes one state more, and no state weighs 0, so the loop ends; the splits left lead from the graph in work to the end.
-use mathlib.Core.Path.{_≡_, refl, sym, ap, subst, _∙_}
-use Prim.Native.Nat.{ℕ, _+_, _-_, _≤_, _<_}
+-- Each split makes one state more, and no state weighs 0, so the loop ends; the splits left lead from the graph in
+-- work to the end.
+use mathlib.Core.Path.{_≡_, sym, _∙_}
+use Prim.Native.Nat.{_-_}
 use native.Mathlib.Omega.{arith}
 use mathlib.Core.Bool.{true}
 use Rattle.graph.specs.Splitting.{unfinished}
 use Rattle.graph.specs.Value.{workIn}
 use Rattle.graph.proofs.CodeLoop.{
-  Going, going-start, going-room, going-splits, going-on, going-grows, going-crowded, going-end
+  Going,
+  going-start,
+  going-room,
+  going-splits,
+  going-on,
+  going-grows,
+  going-crowded,
+  going-end,
 }
-use borrow.Author.Needs.{needs}
 use Rattle.graph.proofs.split_graph.split_all.Statement.{statement}
 use Rattle.graph.proofs.split_graph.split_all.Tie as tie
 
@@ -29,16 +36,21 @@ split-requires : tie.Need-split-requires Inv-loop μ-loop
 split-requires c κs =
     let l = c .before .loop in
     let p = c .before .before .before .args in
-    let u : unfinished (p .n) (workIn (l .h)) ≡ true = sym (l .inv .1) ∙ c .loop-test .taken in
-    (l .inv .0 .fits, going-room (p .n) (p .g) (l .h) (c .before .before .before .pre) (l .inv .0) u, c .before .before .before .pre .some, c .before .before .before .pre .few,
-        going-splits (p .n) (p .g) (l .h) (c .before .before .before .pre) (l .inv .0) u)
+    let u : unfinished (p .n) (workIn (l .h)) ≡ true = sym (l .inv .1) ∙ c .loop-test .taken in (
+      l .inv .0 .fits,
+      going-room (p .n) (p .g) (l .h) (c .before .before .before .pre) (l .inv .0) u,
+      c .before .before .before .pre .some,
+      c .before .before .before .pre .few,
+      going-splits (p .n) (p .g) (l .h) (c .before .before .before .pre) (l .inv .0) u,
+    )
 
 returns : tie.Need-returns Inv-loop μ-loop
 returns c =
     let l = c .before .before .before .loop in
     let p = c .before .before .before .before .before .args in
     let u : unfinished (p .n) (workIn (l .h)) ≡ true = sym (l .inv .1) ∙ c .before .before .loop-test .taken in
-    going-crowded (p .n) (p .g) (l .h) (c .before .before .before .before .before .pre) (l .inv .0) u (c .before .split .result) (c .before .split .ensures) (c .if1 .taken)
+    going-crowded (p .n) (p .g) (l .h) (c .before .before .before .before .before .pre) (l .inv .0) u
+    (c .before .split .result) (c .before .split .ensures) (c .if1 .taken)
 
 is-unfinished-requires-2 : tie.Need-is-unfinished-requires-2 Inv-loop μ-loop
 is-unfinished-requires-2 c κs = c .before .before .split .ensures .fits (c .before .if1 .left)
@@ -47,16 +59,27 @@ loop-less : tie.Need-loop-less Inv-loop μ-loop
 loop-less c =
     let l = c .before .before .before .before .before .loop in
     let p = c .before .before .before .before .before .before .before .args in
-    let u : unfinished (p .n) (workIn (l .h)) ≡ true = sym (l .inv .1) ∙ c .before .before .before .before .loop-test .taken in
-    omega (arith, going-room (p .n) (p .g) (l .h) (c .before .before .before .before .before .before .before .pre) (l .inv .0) u,
-        going-grows (p .n) (p .g) (l .h) (c .before .before .before .before .before .before .before .pre) (l .inv .0) u (c .before .before .before .split .result) (c .before .before .before .split .ensures) (c .before .before .if1 .left))
+    let u : unfinished (p .n) (workIn (l .h)) ≡ true = sym (l .inv .1)
+    ∙ c .before .before .before .before .loop-test .taken in
+    omega (
+      arith,
+      going-room (p .n) (p .g) (l .h) (c .before .before .before .before .before .before .before .pre) (l .inv .0) u,
+      going-grows (p .n) (p .g) (l .h) (c .before .before .before .before .before .before .before .pre) (l .inv .0) u
+          (c .before .before .before .split .result) (c .before .before .before .split .ensures)
+          (c .before .before .if1 .left),
+    )
 
 loop-again : tie.Need-loop-again Inv-loop μ-loop
 loop-again c =
     let l = c .before .before .before .before .before .loop in
     let p = c .before .before .before .before .before .before .before .args in
-    let u : unfinished (p .n) (workIn (l .h)) ≡ true = sym (l .inv .1) ∙ c .before .before .before .before .loop-test .taken in
-    (going-on (p .n) (p .g) (l .h) (c .before .before .before .before .before .before .before .pre) (l .inv .0) u (c .before .before .before .split .result) (c .before .before .before .split .ensures) (c .before .before .if1 .left), c .is-unfinished2 .ensures)
+    let u : unfinished (p .n) (workIn (l .h)) ≡ true = sym (l .inv .1)
+    ∙ c .before .before .before .before .loop-test .taken in (
+      going-on (p .n) (p .g) (l .h) (c .before .before .before .before .before .before .before .pre) (l .inv .0) u
+          (c .before .before .before .split .result) (c .before .before .before .split .ensures)
+          (c .before .before .if1 .left),
+      c .is-unfinished2 .ensures,
+    )
 
 returns-2 : tie.Need-returns-2 Inv-loop μ-loop
 returns-2 c =

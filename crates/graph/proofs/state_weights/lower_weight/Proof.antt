@@ -1,9 +1,8 @@
 -- The terms are summed over the states.
-use mathlib.Core.Path.{_≡_, refl, sym, ap, subst, _∙_}
-use Prim.Native.Nat.{ℕ, _+_, _-_, _*_, _/_, _≤_, _<_}
+use mathlib.Core.Path.{_≡_, ap, _∙_}
+use Prim.Native.Nat.{_+_, _-_, _*_, _/_, _≤_}
 use native.Mathlib.Omega.{arith}
 use denote.Ref.{now}
-use lib.ListN.{length, getD}
 use Rattle.laws.specs.Lists.{range}
 use Rattle.laws.specs.Sums.{tot}
 use Rattle.graph.specs.PowerTable.{termBy, lowerBy}
@@ -19,8 +18,10 @@ abbrev μ-loop : tie.MeasureT-loop
 μ-loop count k s n v sum₀ t₀ sum t = k - t
 
 small : (c : tie.In-loop Inv-loop μ-loop)
-    → termBy (now (c .before .before .args .count)) (c .before .before .args .t2) (c .before .before .args .s) (c .before .loop .t) ≤ 4096
-small c = term-small _ _ (c .before .before .pre .4 (c .before .before .args .s * 16 + c .before .loop .t) (omega arith)) (c .before .before .pre .5 (c .before .loop .t) (omega arith))
+    → termBy (now (c .before .before .args .count)) (c .before .before .args .t2) (c .before .before .args .s)
+    (c .before .loop .t) ≤ 4096
+small c = term-small _ _ (c .before .before .pre .4 (c .before .before .args .s * 16 + c .before .loop .t)
+    (omega arith)) (c .before .before .pre .5 (c .before .loop .t) (omega arith))
 
 loop-holds : tie.Need-loop-holds Inv-loop μ-loop
 loop-holds c = search needs
@@ -58,8 +59,12 @@ loop-less c = search needs
 loop-again : tie.Need-loop-again Inv-loop μ-loop
 loop-again c =
     let l = c .before .before .loop in
-    let p = c .before .before .before .args in
-    (omega arith, omega (arith, small (c .before)), omega (arith, tot-more (termBy (now (p .count)) (p .t2) (p .s)) (l .t)))
+    let p = c .before .before .before .args in (
+      omega arith,
+      omega (arith, small (c .before)),
+      omega
+          (arith, tot-more (termBy (now (p .count)) (p .t2) (p .s)) (l .t)),
+    )
 
 div-least : tie.Need-div-least Inv-loop μ-loop
 div-least c = search needs
@@ -77,7 +82,7 @@ returns c =
     let p = c .before .before .before .args in
     let e : l .t ≡ p .k = omega arith in
     let q : l .sum ≡ tot (termBy (now (p .count)) (p .t2) (p .s)) (range (p .k)) =
-        l .inv .2 ∙ ap (λ k. tot (termBy (now (p .count)) (p .t2) (p .s)) (range k)) e in
+    l .inv .2 ∙ ap (λ k. tot (termBy (now (p .count)) (p .t2) (p .s)) (range k)) e in
     let d = ap (λ x. x / p .n) q in
     omega arith
 
@@ -94,7 +99,7 @@ returns-2 c =
     let p = c .before .before .before .args in
     let e : l .t ≡ p .k = omega arith in
     let q : l .sum ≡ tot (termBy (now (p .count)) (p .t2) (p .s)) (range (p .k)) =
-        l .inv .2 ∙ ap (λ k. tot (termBy (now (p .count)) (p .t2) (p .s)) (range k)) e in
+    l .inv .2 ∙ ap (λ k. tot (termBy (now (p .count)) (p .t2) (p .s)) (range k)) e in
     let d = ap (λ x. x / p .n) q in
     omega arith
 

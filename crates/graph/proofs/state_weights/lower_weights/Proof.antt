@@ -1,9 +1,7 @@
 -- The new weights go into a fresh array, so that all are replaced together.
-use mathlib.Core.Path.{_≡_, refl, sym, ap, subst, _∙_}
-use Prim.Native.Nat.{ℕ, _+_, _-_, _*_, _≤_, _<_}
+use Prim.Native.Nat.{_-_, _≤_}
 use native.Mathlib.Omega.{arith}
 use denote.Ref.{now}
-use lib.ListN.{getD}
 use Rattle.graph.specs.PowerTable.{lowerBy}
 use Rattle.graph.proofs.CodeLists.{Filled, fill-none, fill-more}
 use borrow.Author.Needs.{needs}
@@ -20,8 +18,14 @@ loop-holds : tie.Need-loop-holds Inv-loop μ-loop
 loop-holds c = (omega arith, fill-none 0 _ 16 0)
 
 lower-weight-requires : tie.Need-lower-weight-requires Inv-loop μ-loop
-lower-weight-requires c κs =
-    (c .before .before .pre .0, c .before .before .pre .1, c .loop-test .taken, c .before .before .pre .2, c .before .before .pre .3, c .before .before .pre .4)
+lower-weight-requires c κs = (
+  c .before .before .pre .0,
+  c .before .before .pre .1,
+  c .loop-test .taken,
+  c .before .before .pre .2,
+  c .before .before .pre .3,
+  c .before .before .pre .4,
+)
 
 mul-r : tie.Need-mul-r Inv-loop μ-loop
 mul-r c = search needs
@@ -38,9 +42,11 @@ loop-less c = search needs
 loop-again : tie.Need-loop-again Inv-loop μ-loop
 loop-again c =
     let l = c .before .before .loop in
-    let p = c .before .before .before .args in
-    (omega arith, fill-more 0 (λ x. lowerBy (now (p .count)) (p .v) (p .k) x (p .n)) 16 (l .s) (l .r) _ (omega arith)
-        (c .lower-weight .ensures) (l .inv .1))
+    let p = c .before .before .before .args in (
+      omega arith,
+      fill-more 0 (λ x. lowerBy (now (p .count)) (p .v) (p .k) x (p .n)) 16 (l .s) (l .r) _ (omega arith)
+          (c .lower-weight .ensures) (l .inv .1),
+    )
 
 returns : tie.Need-returns Inv-loop μ-loop
 returns c = λ s h. c .before .loop .inv .1 .holds s (omega arith)

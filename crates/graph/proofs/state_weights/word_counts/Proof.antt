@@ -1,11 +1,9 @@
 -- Place x gets the count for state x / 16 and target x % 16.
-use mathlib.Core.Path.{_≡_, refl, sym, ap, subst, _∙_}
-use Prim.Native.Nat.{ℕ, _+_, _-_, _*_, _/_, _%_, _≤_, _<_}
+use Prim.Native.Nat.{_-_, _/_, _%_, _≤_, _<_}
 use native.Mathlib.Nat.{div-lt-iff-lt-mul, mod-lt}
 use native.Mathlib.Omega.{arith}
 use denote.Ref.{now}
 use lib.Dec.{lit<}
-use lib.ListN.{getD}
 use Rattle.graph.specs.PowerTable.{wordCount}
 use Rattle.graph.proofs.CodeLists.{Filled, fill-none, fill-more}
 use Rattle.graph.proofs.CodeWeights.{count-le}
@@ -30,8 +28,12 @@ cast-words-between : tie.Need-cast-words-between Inv-loop μ-loop
 cast-words-between c = omega (arith, mod-lt (c .before .loop .x) {m = 16} (lit< tt))
 
 words-between-requires : tie.Need-words-between-requires Inv-loop μ-loop
-words-between-requires c κs =
-    (c .before .before .pre .0, c .before .before .pre .1, div-lt-iff-lt-mul {k = 16} {y = 16} (lit< tt) .1 (omega arith))
+words-between-requires c κs = (
+  c .before .before .pre .0,
+  c .before .before .pre .1,
+  div-lt-iff-lt-mul {k = 16} {y = 16} (lit< tt) .1
+      (omega arith),
+)
 
 mul-r : tie.Need-mul-r Inv-loop μ-loop
 mul-r c = search needs
@@ -48,17 +50,27 @@ loop-less c = search needs
 loop-again : tie.Need-loop-again Inv-loop μ-loop
 loop-again c =
     let l = c .before .before .loop in
-    let p = c .before .before .before .args in
-    (omega arith, omega arith,
-        fill-more 0 (λ y. wordCount (now (p .power)) (p .words) (y / 16) (y % 16)) 256 (l .x) (l .r) _ (omega arith)
-        (c .words-between .ensures .0) (l .inv .2))
+    let p = c .before .before .before .args in (
+      omega arith,
+      omega arith,
+      fill-more 0 (λ y. wordCount (now (p .power)) (p .words) (y / 16) (y % 16)) 256 (l .x) (l .r) _ (omega arith)
+          (c .words-between .ensures .0) (l .inv .2),
+    )
 
 returns : tie.Need-returns Inv-loop μ-loop
 returns c =
     let l = c .before .loop in
     let p = c .before .before .args in
-    λ x h. (l .inv .2 .holds x (omega arith),
-        omega (arith, l .inv .2 .holds x (omega arith), c .before .before .pre .1, count-le (now (p .power)) (p .words) (x / 16) (x % 16)))
+    λ x h. (
+      l .inv .2 .holds x (omega arith),
+      omega (
+        arith,
+        l .inv .2 .holds x (omega arith),
+        c .before .before .pre .1,
+        count-le (now (p .power)) (p .words)
+            (x / 16) (x % 16),
+      ),
+    )
 
 pub word-counts-spec : {M : Type 1} → statement M
 word-counts-spec =

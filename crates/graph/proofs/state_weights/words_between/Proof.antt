@@ -1,7 +1,7 @@
 -- The words are tried one by one.
-use mathlib.Core.Path.{_≡_, refl, sym, ap, _∙_}
+use mathlib.Core.Path.{_≡_, sym, ap, _∙_}
 use mathlib.Core.Logic.{⊎-elim}
-use Prim.Native.Nat.{ℕ, _+_, _-_, _≤_, _<_}
+use Prim.Native.Nat.{_-_, _≤_}
 use native.Mathlib.Omega.{arith}
 use denote.Ref.{now}
 use Rattle.graph.specs.PowerTable.{wordCount}
@@ -42,8 +42,18 @@ loop-again c =
     let l = c .before .before .before .loop in
     let p = c .before .before .before .before .args in
     ⊎-elim
-    (λ u. (omega arith, omega (arith, u .1), omega (arith, u .1, count-yes (now (p .power)) (p .s) (p .t) (l .w) (u .0 .taken))))
-    (λ u. (omega arith, omega (arith, u .1), omega (arith, u .1, count-no (now (p .power)) (p .s) (p .t) (l .w) (u .0 .left))))
+    (λ u. (
+      omega arith,
+      omega (arith, u .1),
+      omega
+          (arith, u .1, count-yes (now (p .power)) (p .s) (p .t) (l .w) (u .0 .taken)),
+    ))
+    (λ u. (
+      omega arith,
+      omega (arith, u .1),
+      omega
+          (arith, u .1, count-no (now (p .power)) (p .s) (p .t) (l .w) (u .0 .left)),
+    ))
     (c .if1 .came)
 
 returns : tie.Need-returns Inv-loop μ-loop
