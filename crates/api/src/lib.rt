@@ -5,6 +5,8 @@ ghost use Rattle.answer.specs.Outcomes.{answerOf, outputOf};
 ghost use lib.ListN.{length};
 ghost use Rattle.record.specs.Checks.{checkedOnly};
 ghost use Rattle.codec.specs.Answers.{encodeUnder, decodeUnder};
+ghost use Rattle.compiler.specs.Compile.{compileJob, compileRunLength};
+ghost use Rattle.compiler.specs.Listing.{listInto};
 ghost use Rattle.api.specs.Words.{held, wordOf};
 use answer::Answer;
 
@@ -65,4 +67,41 @@ pub extern "C" fn sbc_decode(bytes: &[u8], words: &[u8], out: &mut [u8]) -> u64
     }
 {
     word(codec::decoding::decode(bytes, words, out))
+}
+
+// A job compiled to a record: 8 below four bytes, 1, K by 2, 8, next states by 2, 3, 4, 5, 6, 13; otherwise how many bytes
+// were written.
+#[no_mangle]
+pub extern "C" fn sbc_compile(job: &[u8], out: &mut [u8]) -> u64
+    ensures answer { λ r. ⌜ r ≡ wordOf (answerOf (compileJob (now (job .entry)) (length (now (out .entry))))) ⌝ }
+    ensures written {
+        λ r. ⌜ now (out .exit)
+        ≡ outputOf (compileJob (now (job .entry)) (length (now (out .entry)))) (now (out .entry)) ⌝
+    }
+{
+    word(compiler::bytes::compile_job(job, out))
+}
+
+// A run-length job compiled to a record: 8, 1, 2, 3, 4, 5, 6, 13; otherwise how many bytes were written.
+#[no_mangle]
+pub extern "C" fn sbc_compile_run_length(job: &[u8], out: &mut [u8]) -> u64
+    ensures answer { λ r. ⌜ r ≡ wordOf (answerOf (compileRunLength (now (job .entry)) (length (now (out .entry))))) ⌝ }
+    ensures written {
+        λ r. ⌜ now (out .exit)
+        ≡ outputOf (compileRunLength (now (job .entry)) (length (now (out .entry)))) (now (out .entry)) ⌝
+    }
+{
+    word(compiler::bytes::compile_run_length(job, out))
+}
+
+// The listing of a run-length job: 8, 1, 2, 3, 4, 5, 6, 13; otherwise how many bytes were written.
+#[no_mangle]
+pub extern "C" fn sbc_listing(job: &[u8], out: &mut [u8]) -> u64
+    ensures answer { λ r. ⌜ r ≡ wordOf (answerOf (listInto (now (job .entry)) (length (now (out .entry))))) ⌝ }
+    ensures written {
+        λ r. ⌜ now (out .exit)
+        ≡ outputOf (listInto (now (job .entry)) (length (now (out .entry)))) (now (out .entry)) ⌝
+    }
+{
+    word(compiler::bytes::list_run_length(job, out))
 }
