@@ -65,7 +65,7 @@ add-e : tie.Need-add-e Inv-loop μ-loop
 add-e c = omega (arith, place-small (c .before))
 
 element-copy-out-out : tie.Need-element-copy-out-out Inv-loop μ-loop
-element-copy-out-out c = place-small (c .before)
+element-copy-out-out c = omega (arith, place-small (c .before))
 
 slice-write-out : tie.Need-slice-write-out Inv-loop μ-loop
 slice-write-out c = omega (arith, c .before .before .before .loop .inv .2 .long)
