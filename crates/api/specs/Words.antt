@@ -9,6 +9,7 @@ use Rattle.answer.specs.Answers.{answerNumber, answerValue}
 abbrev pub held : ℕ → ℕ
 held v = min v 72057594037927935
 
--- the refusal's number (0 for a result) times 2^56, plus the value: the bytes written, or the place that the refusal names
+-- the refusal's number (0 for a result) times 2^56, plus the value: the bytes written, or the place that the refusal
+-- names
 unfoldable pub wordOf : Answer → ℕ
 wordOf a = answerNumber a * 72057594037927936 + held (answerValue a)

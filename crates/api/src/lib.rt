@@ -37,8 +37,8 @@ pub extern "C" fn sbc_check(bytes: &[u8]) -> u64
     word(record::loading::check(bytes))
 }
 
-// Blocks recorded under a record: the record's refusals, 13, 11 with the place of the first bad block; otherwise how many
-// words were written. A refusal changes no byte of the output, and bytes past the words stay as lent.
+// Blocks recorded under a record: the record's refusals, 13, 11 with the place of the first bad block; otherwise how
+// many words were written. A refusal changes no byte of the output, and bytes past the words stay as lent.
 #[no_mangle]
 pub extern "C" fn sbc_encode(bytes: &[u8], blocks: &[u8], out: &mut [u8]) -> u64
     ensures answer {
@@ -53,8 +53,8 @@ pub extern "C" fn sbc_encode(bytes: &[u8], blocks: &[u8], out: &mut [u8]) -> u64
     word(codec::encoding::encode(bytes, blocks, out))
 }
 
-// Words decoded under a record: the record's refusals, 12, 13, 11 with the place of the first bad word; otherwise how many
-// blocks were written. A refusal changes no byte of the output, and bytes past the blocks stay as lent.
+// Words decoded under a record: the record's refusals, 12, 13, 11 with the place of the first bad word; otherwise how
+// many blocks were written. A refusal changes no byte of the output, and bytes past the blocks stay as lent.
 #[no_mangle]
 pub extern "C" fn sbc_decode(bytes: &[u8], words: &[u8], out: &mut [u8]) -> u64
     ensures answer {
@@ -69,8 +69,8 @@ pub extern "C" fn sbc_decode(bytes: &[u8], words: &[u8], out: &mut [u8]) -> u64
     word(codec::decoding::decode(bytes, words, out))
 }
 
-// A job compiled to a record: 8 below four bytes, 1, K by 2, 8, next states by 2, 3, 4, 5, 6, 13; otherwise how many bytes
-// were written.
+// A job compiled to a record: 8 below four bytes, 1, K by 2, 8, next states by 2, 3, 4, 5, 6, 13; otherwise how many
+// bytes were written.
 #[no_mangle]
 pub extern "C" fn sbc_compile(job: &[u8], out: &mut [u8]) -> u64
     ensures answer { λ r. ⌜ r ≡ wordOf (answerOf (compileJob (now (job .entry)) (length (now (out .entry))))) ⌝ }

@@ -1,6 +1,6 @@
 -- Compiling stage by stage: what each stage of the code needs, and what compiling comes to at each of its returns.
--- In order: compile-none, compile-heavy, compile-crowded, compile-table; crowded-stays; has-states, held-powers, held-component;
--- begun-splits, begun-crowded, begun-room, begun-short, begun-work, begun-finished.
+-- In order: compile-none, compile-heavy, compile-crowded, compile-table; crowded-stays; has-states, held-powers,
+-- held-component; begun-splits, begun-crowded, begun-room, begun-short, begun-work, begun-finished.
 -- Assumes nothing.
 use mathlib.Core.Path.{_≡_, sym, ap, ap₂, subst, _∙_}
 use mathlib.Core.Bool.{Bool, true, false, not, _&&_}

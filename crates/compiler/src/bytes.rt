@@ -47,8 +47,8 @@ fn list_into(j: JobValue, out: &mut [u8]) -> Answer
     }
 }
 
-// The record of the job that bytes hold, in the output: "8 below four bytes, 1, K by 2, 8, next states by 2, 3, 4, 5, 6,
-// 13".
+// The record of the job that bytes hold, in the output: "8 below four bytes, 1, K by 2, 8, next states by 2, 3, 4, 5,
+// 6, 13".
 pub fn compile_job(job: &[u8], out: &mut [u8]) -> Answer
     ensures answer { λ r. ⌜ r ≡ answerOf (compileJob (now (job .entry)) (length (now (out .entry)))) ⌝ }
     ensures written { λ r. ⌜

@@ -48,7 +48,8 @@ reason xs =
     go true pa true pb true pc true pd false pe f pf =
         disobedient (sized pa pb pc) (yes-so (restGood (headerOf xs) (bitsOf xs)) pd) pe
     go true pa true pb true pc true pd true pe false pf =
-        windowless (sized pa pb pc) (yes-so (restGood (headerOf xs) (bitsOf xs)) pd) (yes-so (obeys (codeFrom xs)) pe) pf
+        windowless (sized pa pb pc) (yes-so (restGood (headerOf xs) (bitsOf xs)) pd)
+        (yes-so (obeys (codeFrom xs)) pe) pf
     go true pa true pb true pc true pd true pe true pf =
         accepted (sized pa pb pc) (yes-so (restGood (headerOf xs) (bitsOf xs)) pd) (yes-so (obeys (codeFrom xs)) pe)
         (yes-so (works (codeFrom xs .table) (codeFrom xs .window)) pf)

@@ -1,6 +1,7 @@
 -- The main theorems, each written out in full; its proof is one citation.
 -- In order: no-code, greatest, each-split, splits-end, shortest-idle, least-window, no-window, compiled-passes,
--- run-length-passes, checker-exact, record-order, records, returns, recognised, demand-3, local, different-data, grows, sets.
+-- run-length-passes, checker-exact, record-order, records, returns, recognised, demand-3, local, different-data, grows,
+-- sets.
 -- Assumes nothing.
 use mathlib.Core.Path.{_≡_}
 use mathlib.Core.Logic.{_↔_}
@@ -97,7 +98,7 @@ pub run-length-passes : (xs : List ℕ) (room : ℕ) (r : List ℕ) → compileR
     → (j : Job) × (c : Code) × (readRunLength xs ≡ done j) × (compile j ≡ done c) × (pack c ≡ r) × (parse r ≡ done c)
 run-length-passes = compiler.run-length-passes
 
--- The checker accepts exactly the records of tables whose every recording obeys and whose every window settles its block.
+-- The checker accepts exactly the tables whose every recording obeys and whose every window settles its block.
 pub checker-exact : (xs : List ℕ) → Below 256 xs
     → (checkedOnly xs ≡ done []) ↔ ((c : Code) × T (formed c) × (pack c ≡ xs) × Accepted c)
 checker-exact = check-exact

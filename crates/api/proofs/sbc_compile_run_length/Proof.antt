@@ -1,4 +1,5 @@
--- `sbc_compile_run_length` meets its contract: it is the answer of the call below it as one number, and the bytes are its.
+-- `sbc_compile_run_length` meets its contract: it is the answer of the call below it as one number, and the bytes
+-- are its.
 -- Assumes nothing.
 use mathlib.Core.Path.{ap, _∙_}
 use borrow.Author.Needs.{needs}

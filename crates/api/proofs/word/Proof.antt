@@ -42,7 +42,8 @@ returns : tie.Need-returns
 unfolding wordOf
 returns c =
     let n = c .before .before in
-    ap₂ (λ a b. a * 72057594037927936 + b) (n .answer-number .ensures) (c .hold .ensures ∙ ap held (c .before .answer-value .ensures))
+    ap₂ (λ a b. a * 72057594037927936 + b) (n .answer-number .ensures)
+    (c .hold .ensures ∙ ap held (c .before .answer-value .ensures))
 
 pub word-spec : {M : Type 1} → statement M
 word-spec =

@@ -1,5 +1,5 @@
--- `put_lines` meets its contract. The loop's invariant: the lines of the edges passed stand from the first place on, and
--- all other bytes are as they were. The measure is what is left of the edges.
+-- `put_lines` meets its contract. The loop's invariant: the lines of the edges passed stand from the first place on,
+-- and all other bytes are as they were. The measure is what is left of the edges.
 -- Assumes nothing.
 use mathlib.Core.Path.{_≡_, sym, ap, subst}
 use Prim.Native.Nat.{_+_, _*_, _/_, _%_, _-_, _≤_, _<_}

@@ -38,7 +38,8 @@ returns-2 : tie.Need-returns-2
 returns-2 c =
     let r = c .before .before .before .before in
     let xs = now (r .before .before .args .bytes) in
-    (c .judge .ensures .0 ∙ sym (parse-read xs (r .read .result) (r .read .ensures .0) (c .before .enum-told .given .1)),
+    (c .judge .ensures .0
+    ∙ sym (parse-read xs (r .read .result) (r .read .ensures .0) (c .before .enum-told .given .1)),
     c .judge .ensures .1)
 
 pub load-spec : {M : Type 1} → statement M
