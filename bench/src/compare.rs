@@ -87,6 +87,29 @@ fn decode(numbers: &mut Numbers, record: &[u8], p: usize, q: usize) -> u64 {
     ours.0
 }
 
+/// A job's bytes, sometimes damaged, compiled; and listed, if it is a run-length job.
+fn compile(numbers: &mut Numbers) -> u64 {
+    let mut below = |bound| numbers.below(bound) as u8;
+    let states = below(5) + 1;
+    let mut general = vec![below(3) + 1, below(4) + 1, below(6) + 1, states];
+    (0..2 * states).for_each(|_| general.push(if below(5) == 0 { 255 } else { below(usize::from(states)) }));
+    let run_length = [below(4), below(9), below(4) + 1, below(6) + 1, below(9) + 1];
+    let general = if numbers.below(4) == 0 { damaged(numbers, &general) } else { general };
+    let run_length = if numbers.below(4) == 0 { damaged(numbers, &run_length) } else { run_length.to_vec() };
+    let mut out = vec![0xa5; numbers.below(300)];
+    let ours = library::compile(&general, &mut out);
+    agree("compile", &general, ours, &out, &reference::calls::compile_job(&general, out.len()));
+    let mut out = vec![0xa5; numbers.below(300)];
+    let answer = library::compile_run_length(&run_length, &mut out);
+    agree("run-length", &run_length, answer, &out, &reference::calls::compile_run_length(&run_length, out.len()));
+    let mut out = vec![0xa5; 30000];
+    let listed = library::listing(&run_length, &mut out);
+    if listed.0 == 0 {
+        agree("listing", &run_length, listed, &out, &reference::calls::listing(&run_length, out.len()));
+    }
+    ours.0
+}
+
 /// Compares for as long as it is told, and says how many calls agreed.
 pub fn for_seconds(seconds: u64) {
     let records = records();
@@ -96,7 +119,8 @@ pub fn for_seconds(seconds: u64) {
     while Instant::now() < end {
         let (record, p, q) = &records[numbers.below(records.len())];
         let bytes = if numbers.below(8) == 0 { damaged(&mut numbers, record) } else { record.clone() };
-        let refusal = match numbers.below(3) {
+        let refusal = match numbers.below(4) {
+            3 => compile(&mut numbers),
             0 => check(&damaged(&mut numbers, record)),
             1 => encode(&mut numbers, &bytes, *p),
             _ => decode(&mut numbers, &bytes, *p, *q),

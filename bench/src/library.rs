@@ -3,6 +3,9 @@ extern "C" {
     fn sbc_check(record: *const u8, length: usize) -> u64;
     fn sbc_encode(r: *const u8, rl: usize, blocks: *const u8, bl: usize, out: *mut u8, ol: usize) -> u64;
     fn sbc_decode(r: *const u8, rl: usize, words: *const u8, wl: usize, out: *mut u8, ol: usize) -> u64;
+    fn sbc_compile(job: *const u8, jl: usize, out: *mut u8, ol: usize) -> u64;
+    fn sbc_compile_run_length(job: *const u8, jl: usize, out: *mut u8, ol: usize) -> u64;
+    fn sbc_listing(job: *const u8, jl: usize, out: *mut u8, ol: usize) -> u64;
 }
 
 /// An answer taken apart: the refusal's number (0 for a result) and the value.
@@ -27,4 +30,19 @@ pub fn encode(record: &[u8], blocks: &[u8], out: &mut [u8]) -> (u64, u64) {
 pub fn decode(record: &[u8], words: &[u8], out: &mut [u8]) -> (u64, u64) {
     let (r, w, o) = (record.as_ptr(), words.as_ptr(), out.as_mut_ptr());
     parts(unsafe { sbc_decode(r, record.len(), w, words.len(), o, out.len()) })
+}
+
+/// A job compiled to a record.
+pub fn compile(job: &[u8], out: &mut [u8]) -> (u64, u64) {
+    parts(unsafe { sbc_compile(job.as_ptr(), job.len(), out.as_mut_ptr(), out.len()) })
+}
+
+/// A run-length job compiled to a record.
+pub fn compile_run_length(job: &[u8], out: &mut [u8]) -> (u64, u64) {
+    parts(unsafe { sbc_compile_run_length(job.as_ptr(), job.len(), out.as_mut_ptr(), out.len()) })
+}
+
+/// The listing of a run-length job.
+pub fn listing(job: &[u8], out: &mut [u8]) -> (u64, u64) {
+    parts(unsafe { sbc_listing(job.as_ptr(), job.len(), out.as_mut_ptr(), out.len()) })
 }

@@ -4,15 +4,17 @@ mod compare;
 mod library;
 mod plain;
 mod speed;
+mod sweep;
 
 fn main() {
     let arguments: Vec<String> = std::env::args().collect();
     match arguments.get(1).map(String::as_str) {
         Some("speed") => speed::all(),
+        Some("sweep") => sweep::all(),
         Some("compare") => {
             let seconds = arguments.get(2).and_then(|s| s.parse().ok()).unwrap_or(10);
             compare::for_seconds(seconds);
         }
-        _ => eprintln!("usage: bench/run speed | bench/run compare SECONDS"),
+        _ => eprintln!("usage: bench/run speed | bench/run sweep | bench/run compare SECONDS"),
     }
 }
