@@ -7,9 +7,9 @@ ghost use Rattle.table.specs.Value.{codeIn};
 ghost use Rattle.table.specs.Obeys.{obeys};
 ghost use Rattle.obeying.specs.Obeying.{stateAfter, pairAfter, Closure, Queue, Grown};
 ghost use Rattle.obeying.specs.Obeying.{findsAt, pairFinds, eachFinds, Followable};
+use constraint::power;
 use table::Table;
 use table::chains;
-use constraint::power;
 
 // The constraint state to which datum d leads from the pair at x, 255 for none.
 fn state_after(word: &[u8; 2048], power: &[u8; 4096], x: usize, d: usize) -> usize

@@ -8,15 +8,15 @@ ghost use Rattle.table.specs.Search.{window};
 ghost use Rattle.table.specs.Edges.{arrays, rowsOf, Linked};
 ghost use Rattle.windows.specs.PairSets.{pairsIn};
 ghost use Rattle.windows.specs.Steps.{size, Reached, Leading, Room, foundSize};
-use table::Table;
-use table::chains::chain;
-use table::chains::ways;
-use crate::pair_sets::same_pairs;
 use crate::Pasts;
 use crate::begin;
 use crate::emptied;
 use crate::hits_of;
 use crate::more;
+use crate::pair_sets::same_pairs;
+use table::Table;
+use table::chains::chain;
+use table::chains::ways;
 
 // Memory and lookahead of a window; 16 and 16 for none.
 struct Best {
