@@ -4,9 +4,21 @@
 use Prim.Native.Nat.{_≤_}
 use native.Mathlib.Omega.{arith}
 use Rattle.answer.specs.declared.Refusal.{Refusal}
-use Rattle.answer.specs.declared.Refusal.the-variants.{Parameters, States, NoCode, TooHeavy, TooManyEdges, NoWindow}
-use Rattle.answer.specs.declared.Refusal.the-variants.{Field, Length, Disobeys, WindowFails, BadByte, TooFewWords}
-use Rattle.answer.specs.declared.Refusal.the-variants.{ShortOutput}
+use Rattle.answer.specs.declared.Refusal.the-variants.{
+  Parameters,
+  States,
+  NoCode,
+  TooHeavy,
+  TooManyEdges,
+  NoWindow,
+  Field,
+  Length,
+  Disobeys,
+  WindowFails,
+  BadByte,
+  TooFewWords,
+  ShortOutput,
+}
 use Rattle.answer.specs.declared.Answer.{Answer}
 use Rattle.answer.specs.declared.Answer.the-variants.{Done, Refused}
 use Rattle.answer.specs.Refusals.{numberOf}
