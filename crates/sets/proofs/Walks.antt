@@ -1,6 +1,7 @@
 -- The walk of a set, step by step as the code goes.
 -- In order: after; walk-cut, walk-whole, a record at an offset; check-bad, check-good, the checker's answer; step-cut,
--- step-whole, step-stop, step-on, a step; Walking, set-empty, walking-start, walking-stop, walking-on, walking-left, walking-end, the loop.
+-- step-whole, step-stop, step-on, a step; Walking, set-empty, walking-start, walking-stop, walking-on, walking-left,
+-- walking-end, the loop.
 -- Assumes nothing.
 use mathlib.Core.Path.{_≡_, refl, sym, ap, ap₂, subst, _∙_}
 use mathlib.Core.Bool.{Bool, true, false}
@@ -189,9 +190,10 @@ said : (s : List ℕ) (count number at : ℕ) (t : Step) → number < count → 
     → (setAnswer (readSet s) ≡ after number (walked (suc (count - (number + 1))) number (drop at s)))
     × Said (count - (number + 1)) number s at t
 said s count number at t h w e =
-    let left : count - number ≡ suc (count - (number + 1)) = omega arith in
-    (w ∙ ap (λ n. after number (walked n number (drop at s))) left,
-    subst (Said (count - (number + 1)) number s at) e (step-says (count - (number + 1)) number s at))
+    let left : count - number ≡ suc (count - (number + 1)) = omega arith in (
+      w ∙ ap (λ n. after number (walked n number (drop at s))) left,
+      subst (Said (count - (number + 1)) number s at) e (step-says (count - (number + 1)) number s at),
+    )
 
 -- a bad record ends the walk
 pub walking-stop : (s : List ℕ) (count number at : ℕ) (r : Refusal) → number < count → Walking s count number at

@@ -3,13 +3,13 @@ ghost use mathlib.Core.Path.{_≡_};
 ghost use Rattle.sets.specs.Sets.{readSet};
 ghost use Rattle.sets.specs.Offsets.{recordPlace};
 ghost use Rattle.sets.specs.Results.{setAnswer, setNumber, setValue, stepAt};
+use super::Place;
+use super::SetAnswer;
+use super::read;
 use answer::Answer;
 use answer::Refusal;
 use answer::refusal_number;
 use record::loading::check;
-use super::Place;
-use super::SetAnswer;
-use super::read;
 
 // One step of the walk: a good record that ends at an offset; or the refusal that ends the walk.
 pub enum Step {
@@ -39,7 +39,10 @@ pub fn check_set(set: &[u8]) -> SetAnswer
     ensures answer { λ r. ⌜ r ≡ setAnswer (readSet (now (set .entry))) ⌝ }
 {
     if set.len() == 0 {
-        return SetAnswer::Bad { number: 0, refusal: Refusal::Length };
+        return SetAnswer::Bad {
+            number: 0,
+            refusal: Refusal::Length,
+        };
     }
     let count = set[0] as usize;
     let mut number = 0;
@@ -56,7 +59,10 @@ pub fn check_set(set: &[u8]) -> SetAnswer
         }
     }
     if at < set.len() {
-        return SetAnswer::Bad { number: count, refusal: Refusal::Length };
+        return SetAnswer::Bad {
+            number: count,
+            refusal: Refusal::Length,
+        };
     }
     SetAnswer::Good(count)
 }
@@ -71,16 +77,16 @@ pub fn find(set: &[u8], i: usize) -> Place
     if set[0] as usize <= i {
         return Place::Nowhere;
     }
-    let mut number = 0;
+    let mut passed = 0;
     let mut at = 1;
-    while number < i {
+    while passed < i {
         match read(set, at) {
             Place::Nowhere => {
                 return Place::Nowhere;
             }
             Place::At { start, len } => {
                 at = start + len;
-                number += 1;
+                passed += 1;
             }
         }
     }

@@ -60,8 +60,8 @@ loop-again c =
     let l = r .before .before in
     let s = now (l .before .before .before .before .args .set) in
     let w =
-        walking-on s _ (l .loop .number) (l .loop .at) _ (omega arith) (l .loop .inv .2)
-        (sym (r .step-at .ensures) ∙ c .before .end .given .1) in
+    walking-on s _ (l .loop .number) (l .loop .at) _ (omega arith) (l .loop .inv .2)
+    (sym (r .step-at .ensures) ∙ c .before .end .given .1) in
     (omega arith, l .loop .inv .1, w .1)
 
 returns-3 : tie.Need-returns-3 Inv-loop μ-loop

@@ -12,10 +12,10 @@ use Rattle.sets.proofs.walking.find.Statement.{statement}
 use Rattle.sets.proofs.walking.find.Tie as tie
 
 abbrev Inv-loop : tie.InvT-loop
-Inv-loop set i number₀ at₀ number at = (number ≤ i) × (i < getD set 0 0) × (at ≡ offsetOf set number)
+Inv-loop set i passed₀ at₀ passed at = (passed ≤ i) × (i < getD set 0 0) × (at ≡ offsetOf set passed)
 
 abbrev μ-loop : tie.MeasureT-loop
-μ-loop set i number₀ at₀ number at = i - number
+μ-loop set i passed₀ at₀ passed at = i - passed
 
 returns : tie.Need-returns Inv-loop μ-loop
 returns c =
@@ -48,7 +48,7 @@ returns-3 c =
     let l = r .before .before in
     let a = l .before .before .before .before .before .args in
     let s = now (a .set) in
-    sym (record-cut s (l .loop .number) (a .i) (omega arith) (l .loop .inv .1)
+    sym (record-cut s (l .loop .passed) (a .i) (omega arith) (l .loop .inv .1)
     (sym (ap (placeAt s) (l .loop .inv .2)) ∙ sym (r .read .ensures) ∙ c .enum-told .given .1))
 
 enum-known-start : tie.Need-enum-known-start Inv-loop μ-loop
@@ -58,21 +58,21 @@ enum-known-start c = search needs
 onward : (c : tie.After-known-told Inv-loop μ-loop)
     → (c .before .start .given .0 .0 + c .before .start .given .0 .1 .0
     ≡ offsetOf (now (c .before .before .before .before .before .before .before .before .before .before .args .set))
-    (c .before .before .before .before .before .loop .number + 1))
+    (c .before .before .before .before .before .loop .passed + 1))
     × (c .before .start .given .0 .0 + c .before .start .given .0 .1 .0
     ≤ length (now (c .before .before .before .before .before .before .before .before .before .before .args .set)))
 onward c =
     let r = c .before .before .before in
     let l = r .before .before in
     let s = now (l .before .before .before .before .before .args .set) in
-    record-next s (l .loop .number) _ _
+    record-next s (l .loop .passed) _ _
     (sym (ap (placeAt s) (l .loop .inv .2)) ∙ sym (r .read .ensures) ∙ c .before .start .given .1)
 
 add-at : tie.Need-add-at Inv-loop μ-loop
 add-at c = let f = onward c in omega arith
 
-add-number : tie.Need-add-number Inv-loop μ-loop
-add-number c = omega arith
+add-passed : tie.Need-add-passed Inv-loop μ-loop
+add-passed c = omega arith
 
 loop-less : tie.Need-loop-less Inv-loop μ-loop
 loop-less c = omega arith
@@ -90,7 +90,7 @@ returns-4 c =
     let l = c .before .before in
     let a = l .before .before .before .before .before .args in
     let s = now (a .set) in
-    let e : l .loop .number ≡ a .i = omega arith in
+    let e : l .loop .passed ≡ a .i = omega arith in
     c .read2 .ensures ∙ ap (placeAt s) (l .loop .inv .2 ∙ ap (offsetOf s) e)
     ∙ sym (record-at s (a .i) (l .loop .inv .1))
 
@@ -110,7 +110,7 @@ find-spec =
     returns-3
     enum-known-start
     add-at
-    add-number
+    add-passed
     loop-less
     loop-again
     read-requires-2
