@@ -38,7 +38,9 @@ cast-second : tie.Need-cast-second
 cast-second c = omega (arith, c .shared-slice-known2 .given (c .before .before .before .before .args .at + 1))
 
 mul-len : tie.Need-mul-len
-mul-len c = omega (arith, c .before .shared-slice-known .given (c .before .before .before .before .args .at))
+mul-len c =
+    let at = c .before .before .before .before .args .at in
+    omega (arith, c .before .shared-slice-known .given at, c .shared-slice-known2 .given (at + 1))
 
 add-len : tie.Need-add-len
 add-len c =
