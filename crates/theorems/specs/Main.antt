@@ -38,17 +38,8 @@ use Rattle.graph.specs.Invariant.{Inv, Part}
 use Rattle.graph.proofs.Split.{split-part}
 use Rattle.graph.proofs.RunUnique as runs
 use Rattle.compiler.specs.Jobs.{Job, readJob, readRunLength, Allowed}
-use Rattle.compiler.specs.Compile.{
-  ways,
-  Vector,
-  weightsOf,
-  componentOf,
-  finishedOf,
-  tableFor,
-  compile,
-  compileJob,
-  compileRunLength,
-}
+use Rattle.compiler.specs.Compile.{ways, Vector, weightsOf, componentOf, finishedOf, tableFor, compile, compileJob}
+use Rattle.compiler.specs.Compile.{compileRunLength}
 use Rattle.compiler.proofs.Compile.{no-code-exact, weights-vector, greatest-vector}
 use Rattle.compiler.proofs.Promises as compiler
 use Rattle.sets.specs.Sets.{codes, readSet, writeSet, Readable}
