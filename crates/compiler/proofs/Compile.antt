@@ -24,17 +24,8 @@ use Rattle.graph.specs.Weights.{AtMost}
 use Rattle.graph.specs.Component.{componentStates, componentGraph, weightOf}
 use Rattle.graph.proofs.Weights.{weights-length, weights-enough, weights-greatest, weights-cap}
 use Rattle.compiler.specs.Jobs.{Job, Allowed}
-use Rattle.compiler.specs.Compile.{
-  ways,
-  graphOf,
-  weightsOf,
-  componentOf,
-  finishedOf,
-  tableFor,
-  code,
-  compile,
-  Vector,
-}
+use Rattle.compiler.specs.Compile.{ways, graphOf, weightsOf, componentOf, finishedOf, tableFor, code, compile}
+use Rattle.compiler.specs.Compile.{Vector}
 use Rattle.compiler.proofs.Compiled.{none-weighs}
 
 -- why compiling comes to an outcome

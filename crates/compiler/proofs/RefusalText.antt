@@ -7,21 +7,9 @@ use Prim.Native.Nat.{ℕ, _+_, _≤_, _<_}
 use native.Mathlib.Omega.{arith}
 use lib.ListN.{length, length-append}
 use Rattle.answer.specs.declared.Refusal.{Refusal}
-use Rattle.answer.specs.declared.Refusal.the-variants.{
-  Parameters,
-  States,
-  NoCode,
-  TooHeavy,
-  TooManyEdges,
-  NoWindow,
-  Field,
-  Length,
-  Disobeys,
-  WindowFails,
-  BadByte,
-  TooFewWords,
-  ShortOutput,
-}
+use Rattle.answer.specs.declared.Refusal.the-variants.{Parameters, States, NoCode, TooHeavy, TooManyEdges}
+use Rattle.answer.specs.declared.Refusal.the-variants.{NoWindow, Field, Length, Disobeys, WindowFails}
+use Rattle.answer.specs.declared.Refusal.the-variants.{BadByte, TooFewWords, ShortOutput}
 use Rattle.answer.specs.declared.Answer.the-variants.{Done, Refused}
 use Rattle.answer.specs.Refusals.{numberOf}
 use Rattle.answer.specs.Outcomes.{fitting, answerOf, outputOf}

@@ -9,20 +9,20 @@ ghost use Rattle.compiler.specs.Compile.{ways, graphOf, weightsOf, compi
 ghost use Rattle.compiler.specs.JobValues.{jobIn, JobReady};
 ghost use Rattle.compiler.specs.Texts.{Listed};
 ghost use Rattle.compiler.specs.Stages.{windowed, Begun, withSize};
-use answer::Refusal;
-use constraint::power::power_codes;
 use crate::JobValue;
-use graph::Graph;
+use answer::Refusal;
 use component::component_graph::ComponentAnswer;
 use component::component_graph::find_component;
+use constraint::power::power_codes;
 use finish::finish_table::finish_table;
-use splitting::split_graph::split_all;
-use weights::state_weights::state_weights;
+use graph::Graph;
 use record::Reading;
 use record::Verdict;
 use record::bad;
+use splitting::split_graph::split_all;
 use table::Table;
 use table::chains::ways;
+use weights::state_weights::state_weights;
 use windows::least::Found;
 use windows::least::least_window;
 

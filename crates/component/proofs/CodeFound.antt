@@ -42,16 +42,8 @@ use Rattle.weights.specs.PowerTable.{entryAt, wordAt, wordsAt, tabled, Powers}
 use Rattle.reach.specs.ReachSets.{rowsOf, Listed}
 use Rattle.component.specs.ComponentParts.{placeOf, rowKeeps, rowArc, rowArcs, rowOfState, Added, FoundIn}
 use Rattle.graph.proofs.CodeLists.{length-map-range, map-range-same}
-use Rattle.graph.proofs.CodeMaps.{
-  filter-same,
-  filter-map,
-  filter-both,
-  filter-concat,
-  filter-never,
-  map-concat,
-  map-each,
-  map-map,
-}
+use Rattle.graph.proofs.CodeMaps.{filter-same, filter-map, filter-both, filter-concat, filter-never}
+use Rattle.graph.proofs.CodeMaps.{map-concat, map-each, map-map}
 use Rattle.graph.proofs.CodeValue.{fits-from, Bounded, Low}
 use Rattle.component.proofs.CodeLinked.{live-lt}
 

@@ -1,11 +1,11 @@
 // The component as a graph in work: "Renumber in rising order."
 use graph::Graph;
+use graph::NextGraph;
 use reach::reaching::Members;
 use reach::reaching::first_returning;
 use reach::reaching::list_members;
 use reach::reaching::live_edges;
 use reach::reaching::reach_all;
-use graph::NextGraph;
 use weights::state_weights::word_counts;
 ghost use mathlib.Core.Path.{_≡_};
 ghost use mathlib.Core.List.{[], map};

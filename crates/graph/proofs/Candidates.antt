@@ -13,20 +13,8 @@ use lib.ListN.{length, take, drop}
 use Rattle.laws.specs.Lists.{if_then_else_, filter, any, first}
 use Rattle.laws.proofs.Tests.{→orL}
 use Rattle.laws.specs.Sums.{Each, tot, mask, one}
-use Rattle.laws.proofs.Sums.{
-  each-map,
-  each-always,
-  each-filter,
-  each-take,
-  first-passes,
-  tot-filter,
-  tot-eq,
-  tot-add,
-  tot-length,
-  tot-take-drop,
-  any→count,
-  count→any,
-}
+use Rattle.laws.proofs.Sums.{each-map, each-always, each-filter, each-take, first-passes, tot-filter, tot-eq}
+use Rattle.laws.proofs.Sums.{tot-add, tot-length, tot-take-drop, any→count, count→any}
 use Rattle.graph.proofs.Arcs.{among→count, each-among, tot-sort, tot-same}
 use Rattle.graph.specs.Invariant.{count}
 use Rattle.graph.specs.Arcs.{Arc, arc}

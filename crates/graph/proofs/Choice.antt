@@ -16,7 +16,8 @@ use lib.ListN.{length, getD}
 use Rattle.laws.specs.Lists.{from, range, any}
 use Rattle.laws.proofs.Tests.{and→, →and, or→, any-below→, →any-below}
 use Rattle.laws.specs.Sums.{Each}
-use Rattle.laws.proofs.Sums.{each-map, each-always, each-both, filter-each, each-any, first-passes, tot-le, tot-const}
+use Rattle.laws.proofs.Sums.{each-map, each-always, each-both, filter-each, each-any, first-passes, tot-le}
+use Rattle.laws.proofs.Sums.{tot-const}
 use Rattle.graph.specs.Invariant.{Inside, Stays, Inv}
 use Rattle.graph.specs.Arcs.{Arc, Work, leaves, out}
 use Rattle.graph.specs.Weights.{weight, total}

@@ -13,51 +13,19 @@ use lib.ListN.{length, getD, length-map}
 use Rattle.laws.specs.Lists.{range, sum, first, elem, indexOf}
 use Rattle.laws.proofs.Tests.{and→, →and, Whether, so, nay, eqb-is, T→true, getD-map-lt}
 use Rattle.laws.specs.Sums.{Each, tot, mask, one, times}
-use Rattle.laws.proofs.Sums.{
-  each-map,
-  each-always,
-  each-both,
-  each-filter,
-  filter-each,
-  first-passes,
-  each-image,
-  image-each,
-  tot-filter,
-  tot-le,
-  tot-map,
-}
+use Rattle.laws.proofs.Sums.{each-map, each-always, each-both, each-filter, filter-each, first-passes, each-image}
+use Rattle.laws.proofs.Sums.{image-each, tot-filter, tot-le, tot-map}
 use Rattle.graph.proofs.Arcs.{same-is, same-refl}
 use Rattle.graph.specs.Invariant.{count, Inside, Stays, Joined, Inv}
 use Rattle.graph.specs.Arcs.{Arc, arc, leaves, out}
 use Rattle.graph.specs.Weights.{weight, total}
 use Rattle.graph.specs.Splitting.{same}
-use Rattle.graph.specs.Component.{
-  reachings,
-  reaches,
-  returning,
-  both,
-  within,
-  renamed,
-  renumbered,
-  weighs,
-  live,
-  componentStates,
-  componentGraph,
-}
+use Rattle.graph.specs.Component.{reachings, reaches, returning, both, within, renamed, renumbered, weighs}
+use Rattle.graph.specs.Component.{live, componentStates, componentGraph}
 use Rattle.laws.proofs.Anys.{each-range}
 use Rattle.graph.proofs.Reach.{reaches-is}
-use Rattle.laws.proofs.Elems.{
-  each-elem,
-  elem-filter,
-  →elem-filter,
-  each-at,
-  elem-range,
-  range-once,
-  tot-filter-le,
-  index-lt,
-  at-index,
-  index-at,
-}
+use Rattle.laws.proofs.Elems.{each-elem, elem-filter, →elem-filter, each-at, elem-range, range-once, tot-filter-le}
+use Rattle.laws.proofs.Elems.{index-lt, at-index, index-at}
 use Rattle.graph.proofs.Component.{good-some, start-in, C-closed, C-joined}
 
 module _ (v : List ℕ) (g : List Arc) (i : Each (Inside (length v)) g) (z : ℕ) (ez : T (elem z (live v))) where

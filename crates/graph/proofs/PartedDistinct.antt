@@ -12,18 +12,8 @@ use borrow.Author.Tests.{eq-eqb, ne-eqb}
 use Rattle.laws.specs.Lists.{if_then_else_, filter}
 use Rattle.laws.proofs.Tests.{Whether, so, nay, eqb-is}
 use Rattle.laws.specs.Sums.{Each, tot, mask, one}
-use Rattle.laws.proofs.Sums.{
-  each-map,
-  each-always,
-  each-append,
-  each-filter,
-  each-image,
-  tot-append,
-  tot-filter,
-  tot-le,
-  tot-add,
-  tot-map,
-}
+use Rattle.laws.proofs.Sums.{each-map, each-always, each-append, each-filter, each-image, tot-append, tot-filter}
+use Rattle.laws.proofs.Sums.{tot-le, tot-add, tot-map}
 use Rattle.graph.specs.Invariant.{count, Inside}
 use Rattle.graph.specs.Arcs.{Arc, arc, leaves, enters}
 use Rattle.graph.specs.Splitting.{same, among, moved, redirected, doubled}

@@ -12,16 +12,8 @@ use borrow.Author.Tests.{eq-eqb}
 use Rattle.laws.specs.Lists.{if_then_else_, filter}
 use Rattle.laws.proofs.Tests.{and→, →and, Whether, so, nay, eqb-is}
 use Rattle.laws.specs.Sums.{Each, tot, mask}
-use Rattle.laws.proofs.Sums.{
-  each-map,
-  each-both,
-  each-front,
-  each-back,
-  filter-each,
-  image-each,
-  tot-filter,
-  tot-some,
-}
+use Rattle.laws.proofs.Sums.{each-map, each-both, each-front, each-back, filter-each, image-each, tot-filter}
+use Rattle.laws.proofs.Sums.{tot-some}
 use Rattle.graph.specs.Invariant.{Stays, Joined}
 use Rattle.graph.specs.Arcs.{Arc, leaves, enters, out}
 use Rattle.graph.specs.Weights.{weight, total}

@@ -14,28 +14,12 @@ use Rattle.graph.proofs.Arcs.{tot-sort, length-sort}
 use Rattle.graph.specs.Invariant.{count, Inside, Inv, Part}
 use Rattle.graph.specs.Arcs.{Arc, Work, leaves, out}
 use Rattle.graph.specs.Weights.{weight, total}
-use Rattle.graph.specs.Splitting.{
-  sort,
-  same,
-  greatest,
-  lighter,
-  chosen,
-  candidates,
-  firstRun,
-  kept,
-  split,
-  unfinished,
-}
+use Rattle.graph.specs.Splitting.{sort, same, greatest, lighter, chosen, candidates, firstRun, kept, split}
+use Rattle.graph.specs.Splitting.{unfinished}
 use Rattle.graph.proofs.PartedInv.{parted-inv, parted-length, count-out}
 use Rattle.graph.proofs.Choice.{Chosen, chosen-is}
-use Rattle.graph.proofs.Candidates.{
-  each-sort,
-  any-sort,
-  candidates-length,
-  candidates-tot,
-  candidates-lt,
-  candidates-each,
-}
+use Rattle.graph.proofs.Candidates.{each-sort, any-sort, candidates-length, candidates-tot, candidates-lt}
+use Rattle.graph.proofs.Candidates.{candidates-each}
 use Rattle.graph.proofs.Runs.{PartOf, run-is}
 
 module _ (n S : ℕ) (x : Work) (hn : 0 < n) (I : Inv n S x) (t : T (unfinished n x)) where

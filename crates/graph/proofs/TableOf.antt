@@ -22,16 +22,8 @@ use Rattle.graph.specs.TableOf.{row, tableStates, named, tableOf}
 use Rattle.laws.proofs.Anys.{each-union, each-range}
 use Rattle.graph.proofs.Candidates.{each-sort, length-take-le}
 use Rattle.graph.proofs.Reach.{reaches-is, reach-trans, reach-edge}
-use Rattle.laws.proofs.Elems.{
-  each-elem,
-  elem-each,
-  elem-filter,
-  →elem-filter,
-  each-at,
-  elem-range,
-  index-lt,
-  at-index,
-}
+use Rattle.laws.proofs.Elems.{each-elem, elem-each, elem-filter, →elem-filter, each-at, elem-range, index-lt}
+use Rattle.laws.proofs.Elems.{at-index}
 
 -- a table of rows of n edges, whose edges lie over P under the roots; the root of state 0 is 0
 pub record Tabled (P : ℕ → ℕ → ℕ → Type 0) (n : ℕ) (t : Rows) (root : ℕ → ℕ) : Type 0 where

@@ -1,9 +1,9 @@
 // "s keeps the run's edges and weight w; a new last state takes all other edges of s and weight M − w. Then every
 // edge into s becomes two, to s and to the new state."
-use graph::Graph;
 use crate::choose::candidate_keys;
 use crate::find_run::Run;
 use crate::find_run::first_run;
+use graph::Graph;
 use order::keys::Keys;
 use order::keys::among_keys;
 use order::keys::key_weights;

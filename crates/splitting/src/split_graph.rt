@@ -1,10 +1,10 @@
 // "Splitting, while some state has fewer than n edges out."
-use graph::Graph;
-use graph::NextGraph;
 use crate::choose::choose;
 use crate::choose::greatest_weight;
 use crate::part_state::enter_count;
 use crate::part_state::part_state;
+use graph::Graph;
+use graph::NextGraph;
 ghost use mathlib.Core.Path.{_≡_};
 ghost use Prim.Native.Nat.{ℕ, _+_, _≤_, _<_};
 ghost use lib.Dec.{T};

@@ -1,6 +1,7 @@
 -- The main theorems, each written out in full; its proof is one citation.
 -- In order: no-code, greatest, each-split, splits-end, shortest-idle, least-window, no-window, compiled-passes,
--- checker-exact, record-order, records, returns, recognised, demand-3, local, different-data, sets. Assumes nothing.
+-- checker-exact, record-order, records, returns, recognised, demand-3, local, different-data, sets.
+-- Assumes nothing.
 use mathlib.Core.Path.{_≡_}
 use mathlib.Core.Logic.{_↔_}
 use mathlib.Core.List.{List, []}
@@ -35,17 +36,8 @@ use Rattle.graph.specs.Invariant.{Inv, Part}
 use Rattle.graph.proofs.Split.{split-part}
 use Rattle.graph.proofs.RunUnique as runs
 use Rattle.compiler.specs.Jobs.{Job, readJob, readRunLength, Allowed}
-use Rattle.compiler.specs.Compile.{
-  ways,
-  Vector,
-  weightsOf,
-  componentOf,
-  finishedOf,
-  tableFor,
-  compile,
-  compileJob,
-  compileRunLength,
-}
+use Rattle.compiler.specs.Compile.{ways, Vector, weightsOf, componentOf, finishedOf, tableFor, compile, compileJob}
+use Rattle.compiler.specs.Compile.{compileRunLength}
 use Rattle.compiler.proofs.Compile.{no-code-exact, weights-vector, greatest-vector}
 use Rattle.compiler.proofs.Promises as compiler
 use Rattle.sets.specs.Sets.{codes, readSet, writeSet, Readable}

@@ -10,17 +10,8 @@ use denote.Ref.{now}
 use lib.Dec.{leb, eqb}
 use lib.ListN.{length, getD}
 use Rattle.compiler.specs.Jobs.{goodParameters}
-use Rattle.compiler.proofs.JobSteps.{
-  in-range,
-  jobOf,
-  job-short,
-  job-parameters,
-  job-count,
-  job-length,
-  job-states,
-  job-good,
-  job-ready,
-}
+use Rattle.compiler.proofs.JobSteps.{in-range, jobOf, job-short, job-parameters, job-count, job-length}
+use Rattle.compiler.proofs.JobSteps.{job-states, job-good, job-ready}
 use borrow.Author.Needs.{needs}
 use borrow.Author.Needs.{needs}
 use Rattle.compiler.proofs.reading.read_job.Statement.{statement}

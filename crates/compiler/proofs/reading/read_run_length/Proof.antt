@@ -10,15 +10,8 @@ use denote.Ref.{now}
 use lib.Dec.{leb, eqb}
 use lib.ListN.{length, getD}
 use Rattle.compiler.specs.Jobs.{goodParameters}
-use Rattle.compiler.proofs.JobSteps.{
-  in-range,
-  jobOf,
-  run-length-size,
-  run-length-parameters,
-  run-length-range,
-  run-length-good,
-  run-length-ready,
-}
+use Rattle.compiler.proofs.JobSteps.{in-range, jobOf, run-length-size, run-length-parameters, run-length-range}
+use Rattle.compiler.proofs.JobSteps.{run-length-good, run-length-ready}
 use borrow.Author.Needs.{needs}
 use borrow.Author.Needs.{needs}
 use Rattle.compiler.proofs.reading.read_run_length.Statement.{statement}
