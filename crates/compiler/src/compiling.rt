@@ -1,6 +1,6 @@
 // A job compiled: weights, component, splits, table, window, with refusals "3, 4, 5, 6" in this order.
 ghost use mathlib.Core.Path.{_≡_};
-ghost use Rattle.table.specs.Steps.{foundSize};
+ghost use Rattle.windows.specs.Steps.{foundSize};
 ghost use Rattle.table.specs.Value.{codeIn, Ready};
 ghost use Rattle.record.specs.declared.Verdict.the-variants.{Read};
 ghost use Rattle.record.specs.Checks.{outcomeIn};
@@ -22,9 +22,9 @@ use record::bad;
 use splitting::split_graph::split_all;
 use table::Table;
 use table::chains::ways;
-use table::least::Found;
-use table::least::least_window;
 use weights::state_weights::state_weights;
+use windows::least::Found;
+use windows::least::least_window;
 
 // The component of a job, with n ways out of each state to come.
 fn component_of(j: JobValue, n: usize) -> ComponentAnswer
