@@ -13,7 +13,7 @@ ghost use Rattle.graph.specs.Arcs.{out};
 ghost use Rattle.graph.specs.Splitting.{greatest, splittable, chosen, lighter, candidates, sort};
 ghost use Rattle.graph.specs.Value.{weightsIn, arcsIn, Fits};
 ghost use Rattle.order.specs.EdgeKeys.{keysIn, arcOf};
-ghost use Rattle.splitting.specs.SplitParts.{lowerSource};
+ghost use Rattle.choice.specs.ChoiceParts.{lowerSource};
 
 // The greatest weight.
 pub fn greatest_weight(g: Graph) -> u8

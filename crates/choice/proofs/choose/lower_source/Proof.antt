@@ -1,8 +1,8 @@
 -- The tests are those of the definition, one after the other.
 use native.Mathlib.Omega.{arith}
 use borrow.Author.Tests.{le-ltb, lt-ltb, eq-eqb, ne-eqb}
-use Rattle.splitting.proofs.choose.lower_source.Statement.{statement}
-use Rattle.splitting.proofs.choose.lower_source.Tie as tie
+use Rattle.choice.proofs.choose.lower_source.Statement.{statement}
+use Rattle.choice.proofs.choose.lower_source.Tie as tie
 
 returns : tie.Need-returns
 returns c =

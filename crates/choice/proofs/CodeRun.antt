@@ -14,11 +14,11 @@ use lib.ListN.{length, getD, take, drop, length-map}
 use lib.Seq.{drop-cons, getD-take, length-take-le}
 use Rattle.laws.specs.Lists.{sum, any}
 use Rattle.laws.proofs.Tests.{map-range-at}
-use Rattle.splitting.specs.declared.find_run.Run.{Run}
+use Rattle.choice.specs.declared.find_run.Run.{Run}
 use Rattle.graph.specs.Arcs.{Arc}
 use Rattle.graph.specs.Weights.{weight, total}
 use Rattle.graph.specs.Splitting.{stretch, runsTo, divisible}
-use Rattle.splitting.specs.SplitParts.{RunTo, FirstRun}
+use Rattle.choice.specs.ChoiceParts.{RunTo, FirstRun}
 use Rattle.graph.proofs.CodeLists.{any-false, length-map-range}
 use Rattle.graph.proofs.CodeFind.{first-at, first-part, first-none}
 use Rattle.graph.proofs.CodeMaps.{map-take, map-drop}

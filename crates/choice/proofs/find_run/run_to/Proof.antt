@@ -3,10 +3,10 @@ use mathlib.Core.Path.{_≡_}
 use Prim.Native.Nat.{_+_, _-_, _≤_}
 use native.Mathlib.Omega.{arith}
 use lib.ListN.{length, take}
-use Rattle.splitting.proofs.CodeRun.{Summed, summed-none, summed-more, stretch-small, run-found, run-none}
+use Rattle.choice.proofs.CodeRun.{Summed, summed-none, summed-more, stretch-small, run-found, run-none}
 use borrow.Author.Needs.{needs}
-use Rattle.splitting.proofs.find_run.run_to.Statement.{statement}
-use Rattle.splitting.proofs.find_run.run_to.Tie as tie
+use Rattle.choice.proofs.find_run.run_to.Statement.{statement}
+use Rattle.choice.proofs.find_run.run_to.Tie as tie
 
 abbrev Inv-loop : tie.InvT-loop
 Inv-loop m n j weight total₀ i₀ total i = (i ≤ j + 1) × Summed n (take m weight) j i total

@@ -2,10 +2,10 @@
 use mathlib.Core.Path.{_≡_, refl, sym, subst}
 use Prim.Native.Nat.{_+_, _-_, _≤_}
 use native.Mathlib.Omega.{arith}
-use Rattle.splitting.proofs.CodeChoose.{Lowest, lowest-none, lowest-more, lightens, sourceAt, choose-is}
+use Rattle.choice.proofs.CodeChoose.{Lowest, lowest-none, lowest-more, lightens, sourceAt, choose-is}
 use borrow.Author.Needs.{needs}
-use Rattle.splitting.proofs.choose.choose.Statement.{statement}
-use Rattle.splitting.proofs.choose.choose.Tie as tie
+use Rattle.choice.proofs.choose.choose.Statement.{statement}
+use Rattle.choice.proofs.choose.choose.Tie as tie
 
 abbrev Inv-loop : tie.InvT-loop
 Inv-loop m g best₀ n i₀ best i = (i ≤ n) × (n ≡ g .edges) × Lowest (lightens g m) (sourceAt g m) i best

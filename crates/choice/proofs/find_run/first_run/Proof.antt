@@ -4,10 +4,10 @@ use Prim.Native.Nat.{_-_, _≤_}
 use native.Mathlib.Omega.{arith}
 use lib.ListN.{length, take}
 use lib.Seq.{length-take-le}
-use Rattle.splitting.proofs.CodeRun.{Without, without-more, first-found, first-nowhere}
+use Rattle.choice.proofs.CodeRun.{Without, without-more, first-found, first-nowhere}
 use borrow.Author.Needs.{needs}
-use Rattle.splitting.proofs.find_run.first_run.Statement.{statement}
-use Rattle.splitting.proofs.find_run.first_run.Tie as tie
+use Rattle.choice.proofs.find_run.first_run.Statement.{statement}
+use Rattle.choice.proofs.find_run.first_run.Tie as tie
 
 abbrev Inv-loop : tie.InvT-loop
 Inv-loop weight m n j₀ j = (j ≤ m) × Without n (take m weight) j

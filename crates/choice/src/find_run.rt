@@ -2,7 +2,7 @@
 ghost use mathlib.Core.Path.{_≡_};
 ghost use Prim.Native.Nat.{ℕ, _+_, _*_, _≤_, _<_};
 ghost use lib.ListN.{length, getD, take};
-ghost use Rattle.splitting.specs.SplitParts.{RunTo, FirstRun};
+ghost use Rattle.choice.specs.ChoiceParts.{RunTo, FirstRun};
 
 // A run of `count` edges from place `from` on, with the sum of their weights.
 pub struct Run {

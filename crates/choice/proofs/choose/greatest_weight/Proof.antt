@@ -7,10 +7,10 @@ use native.Mathlib.Omega.{arith}
 use Rattle.laws.specs.Lists.{range}
 use Rattle.graph.specs.Splitting.{greatest}
 use Rattle.graph.specs.Value.{weightAt}
-use Rattle.splitting.proofs.CodeChoose.{greatest-more}
+use Rattle.choice.proofs.CodeChoose.{greatest-more}
 use borrow.Author.Needs.{needs}
-use Rattle.splitting.proofs.choose.greatest_weight.Statement.{statement}
-use Rattle.splitting.proofs.choose.greatest_weight.Tie as tie
+use Rattle.choice.proofs.choose.greatest_weight.Statement.{statement}
+use Rattle.choice.proofs.choose.greatest_weight.Tie as tie
 
 abbrev Inv-loop : tie.InvT-loop
 Inv-loop g n m₀ i₀ m i =

@@ -21,7 +21,7 @@ use Rattle.graph.specs.Splitting.{sort, lighter, other, candidates}
 use Rattle.graph.specs.Value.{arcsIn, weightsIn, Fits}
 use Rattle.order.specs.EdgeKeys.{arcOf, keysFrom, admitted, firstKeys, keysIn}
 use Rattle.graph.proofs.Candidates.{any-sort}
-use Rattle.splitting.proofs.CodeKept.{same-arcs}
+use Rattle.order.proofs.CodeKept.{same-arcs}
 use Rattle.order.proofs.CodeOrder.{sort-keys, keys-small, weights-small}
 use Rattle.graph.proofs.CodeFind.{first-yes, first-no}
 use Rattle.graph.proofs.CodeMaps.{map-take, filter-same, filter-map}

@@ -1,11 +1,11 @@
 -- The first edge to a lighter state is the first of the edges with that test; the others are the first n − 1 with
 -- another key.
 use native.Mathlib.Omega.{arith}
-use Rattle.splitting.proofs.CodeCandidates.{candidates-keys}
+use Rattle.choice.proofs.CodeCandidates.{candidates-keys}
 use borrow.Author.Needs.{needs}
 use borrow.Author.Needs.{needs}
-use Rattle.splitting.proofs.choose.candidate_keys.Statement.{statement}
-use Rattle.splitting.proofs.choose.candidate_keys.Tie as tie
+use Rattle.choice.proofs.choose.candidate_keys.Statement.{statement}
+use Rattle.choice.proofs.choose.candidate_keys.Tie as tie
 
 first-edges-requires : tie.Need-first-edges-requires
 first-edges-requires c κs = search needs
