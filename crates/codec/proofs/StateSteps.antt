@@ -22,7 +22,7 @@ use Rattle.table.specs.Edges.{Arrays, edgeOf, rowsOf, places, isEdge, wordOf, n
 use Rattle.table.proofs.Marks.{found, some-at, Left, left-start}
 use Rattle.table.proofs.Edges.{bears-edge, bears-word}
 use Rattle.table.proofs.RowsOf.{length-rows, row-long, edge-at, place, place-state, place-lt, place-edge, place-next}
-use Rattle.table.proofs.PairSets.{map-same}
+use Rattle.table.proofs.EqualGrids.{map-same}
 use Rattle.codec.specs.Reading.{everyState, oneState, leadsBy, leads, reachable, along, enters, back}
 use Rattle.codec.specs.StateSets.{statesIn}
 

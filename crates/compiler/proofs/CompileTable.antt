@@ -12,20 +12,20 @@ use Rattle.answer.specs.declared.Refusal.the-variants.{NoWindow}
 use Rattle.answer.specs.Outcomes.{Outcome, done, refused, unless}
 use Rattle.answer.proofs.Outcomes.{unless-false}
 use Rattle.table.specs.declared.Table.{Table}
-use Rattle.table.specs.declared.least.Found.{Found}
+use Rattle.windows.specs.declared.least.Found.{Found}
 use Rattle.table.specs.Rows.{Size, Code, edge, at}
 use Rattle.table.specs.Search.{window}
 use Rattle.table.specs.Edges.{lent}
-use Rattle.table.specs.Steps.{foundSize}
+use Rattle.windows.specs.Steps.{foundSize}
 use Rattle.table.specs.Value.{wordAt, nextAt, rowsIn, codeIn, Ready}
 use Rattle.table.proofs.RowsOf.{length-rows, edge-at}
 use Rattle.graph.specs.declared.Graph.{Graph}
-use Rattle.graph.specs.declared.split_graph.NextGraph.{NextGraph}
-use Rattle.graph.specs.declared.finish_table.TableRows.{TableRows}
+use Rattle.graph.specs.declared.NextGraph.{NextGraph}
+use Rattle.finish.specs.declared.finish_table.TableRows.{TableRows}
 use Rattle.graph.specs.Splitting.{crowded}
 use Rattle.graph.specs.TableOf.{tableOf}
-use Rattle.graph.specs.SplitParts.{SplitAllInto}
-use Rattle.graph.specs.TableParts.{TableIn, rowsOfTable}
+use Rattle.splitting.specs.SplitParts.{SplitAllInto}
+use Rattle.finish.specs.TableParts.{TableIn, rowsOfTable}
 use Rattle.compiler.specs.declared.JobValue.{JobValue}
 use Rattle.compiler.specs.Compile.{tableFor, compile}
 use Rattle.compiler.specs.JobValues.{jobIn, JobReady}

@@ -1,30 +1,30 @@
 // A job compiled: weights, component, splits, table, window, with refusals "3, 4, 5, 6" in this order.
 ghost use mathlib.Core.Path.{_≡_};
-ghost use Rattle.table.specs.Steps.{foundSize};
+ghost use Rattle.windows.specs.Steps.{foundSize};
 ghost use Rattle.table.specs.Value.{codeIn, Ready};
 ghost use Rattle.record.specs.declared.Verdict.the-variants.{Read};
 ghost use Rattle.record.specs.Checks.{outcomeIn};
-ghost use Rattle.graph.specs.ComponentParts.{FoundIn};
+ghost use Rattle.component.specs.ComponentParts.{FoundIn};
 ghost use Rattle.compiler.specs.Compile.{ways, graphOf, weightsOf, compile};
 ghost use Rattle.compiler.specs.JobValues.{jobIn, JobReady};
 ghost use Rattle.compiler.specs.Texts.{Listed};
 ghost use Rattle.compiler.specs.Stages.{windowed, Begun, withSize};
-use answer::Refusal;
-use constraint::power::power_codes;
 use crate::JobValue;
+use answer::Refusal;
+use component::component_graph::ComponentAnswer;
+use component::component_graph::find_component;
+use constraint::power::power_codes;
+use finish::finish_table::finish_table;
 use graph::Graph;
-use graph::component_graph::ComponentAnswer;
-use graph::component_graph::find_component;
-use graph::finish_table::finish_table;
-use graph::split_graph::split_all;
-use graph::state_weights::state_weights;
 use record::Reading;
 use record::Verdict;
 use record::bad;
+use splitting::split_graph::split_all;
 use table::Table;
 use table::chains::ways;
-use table::least::Found;
-use table::least::least_window;
+use weights::state_weights::state_weights;
+use windows::least::Found;
+use windows::least::least_window;
 
 // The component of a job, with n ways out of each state to come.
 fn component_of(j: JobValue, n: usize) -> ComponentAnswer

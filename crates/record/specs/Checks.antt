@@ -15,7 +15,7 @@ use Rattle.table.specs.Rows.{Code}
 use Rattle.table.specs.Formed.{Head}
 use Rattle.table.specs.declared.Table.{Table}
 use Rattle.table.specs.Value.{codeIn}
-use Rattle.table.specs.Obeying.{Followable}
+use Rattle.obeying.specs.Obeying.{Followable}
 use Rattle.record.specs.declared.Front.{Front}
 use Rattle.record.specs.declared.Verdict.{Verdict}
 use Rattle.record.specs.declared.Verdict.the-variants.{Read, Bad}

@@ -15,10 +15,10 @@ fn judge(t: Table) -> super::Reading
     ensures answer { λ r. ⌜ outcomeIn r ≡ judged (codeIn t) ⌝ }
     ensures kept { λ r. ⌜ (r .verdict ≡ Read → Ready (r .table)) ⌝ }
 {
-    if !table::obeying::obeys(t) {
+    if !obeying::obeys(t) {
         return super::bad(Refusal::Disobeys);
     }
-    if !table::windows::works(t, t.memory, t.lookahead) {
+    if !windows::works(t, t.memory, t.lookahead) {
         return super::bad(Refusal::WindowFails);
     }
     super::Reading {

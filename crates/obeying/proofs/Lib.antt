@@ -1,0 +1,3 @@
+pub mod PairQueue
+pub mod PairTests
+pub mod PairPlaces

@@ -1,0 +1,69 @@
+-- The data below d find their way; the first that does not ends the loop.
+use mathlib.Core.Path.{sym, _∙_}
+use Prim.Native.Nat.{ℕ, _-_, _≤_, _<_}
+use native.Mathlib.Nat.{not-suc-le-zero}
+use native.Mathlib.Omega.{arith}
+use borrow.Author.Needs.{needs}
+use borrow.Author.Count.{below-more}
+use denote.Ref.{now}
+use lib.Dec.{T}
+use Rattle.obeying.specs.Obeying.{stateAfter, findsAt}
+use Rattle.table.proofs.LoopTests.{all-passed, all-failed}
+use Rattle.obeying.proofs.PairTests.{other-than, same-as}
+use Rattle.obeying.proofs.finds_all.Statement.{statement}
+use Rattle.obeying.proofs.finds_all.Tie as tie
+
+abbrev Inv-loop : tie.InvT-loop
+Inv-loop word power n x d₀ d = (d ≤ n) × ((i : ℕ) → i < d → T (findsAt word power x i))
+
+abbrev μ-loop : tie.MeasureT-loop
+μ-loop word power n x d₀ d = n - d
+
+loop-holds : tie.Need-loop-holds Inv-loop μ-loop
+loop-holds c = (omega arith, λ i h. absurd (not-suc-le-zero h))
+
+state-after-requires : tie.Need-state-after-requires Inv-loop μ-loop
+state-after-requires c κs = search needs
+
+returns : tie.Need-returns Inv-loop μ-loop
+returns c =
+    let a = c .before .before .before .before .args in
+    let l = c .before .before .before .loop in
+    all-failed (findsAt (now (a .word)) (now (a .power)) (a .x)) (a .n) (l .d) (omega arith)
+    (same-as (stateAfter (now (a .word)) (now (a .power)) (a .x) (l .d)) 255
+    (sym (c .before .state-after .ensures .0) ∙ c .if1 .taken))
+
+add-d : tie.Need-add-d Inv-loop μ-loop
+add-d c = search needs
+
+loop-less : tie.Need-loop-less Inv-loop μ-loop
+loop-less c = search needs
+
+loop-again : tie.Need-loop-again Inv-loop μ-loop
+loop-again c =
+    let a = c .before .before .before .before .args in
+    let l = c .before .before .before .loop in (
+      omega arith,
+      below-more _ (l .d) (l .inv .1)
+          (other-than (stateAfter (now (a .word)) (now (a .power)) (a .x) (l .d)) 255
+          (λ z. c .if1 .left (c .before .state-after .ensures .0 ∙ z))),
+    )
+
+returns-2 : tie.Need-returns-2 Inv-loop μ-loop
+returns-2 c =
+    let l = c .before .loop in
+    all-passed _ (c .before .before .args .n) (l .d) (omega arith) (l .inv .1)
+
+pub finds-all-spec : {M : Type 1} → statement M
+finds-all-spec =
+    tie.close
+    (tie.spec
+    Inv-loop
+    μ-loop
+    loop-holds
+    state-after-requires
+    returns
+    add-d
+    loop-less
+    loop-again
+    returns-2)

@@ -1,0 +1,59 @@
+-- Each turn puts the place of one datum.
+use mathlib.Core.Path.{_≡_}
+use Prim.Native.Nat.{_-_, _≤_}
+use native.Mathlib.Omega.{arith}
+use borrow.Author.Needs.{needs}
+use Rattle.obeying.specs.Obeying.{pairAfter, Grown}
+use Rattle.obeying.proofs.PairQueue.{grown-none, grown-more}
+use Rattle.obeying.proofs.put_targets.Statement.{statement}
+use Rattle.obeying.proofs.put_targets.Tie as tie
+
+abbrev Inv-loop : tie.InvT-loop
+Inv-loop word next power n x m set₀ list₀ count₀ d₀ set list count d =
+    (d ≤ n) × Grown (pairAfter word next power x) d set₀ list₀ m set list count
+
+abbrev μ-loop : tie.MeasureT-loop
+μ-loop word next power n x m set₀ list₀ count₀ d₀ set list count d = n - d
+
+loop-holds : tie.Need-loop-holds Inv-loop μ-loop
+loop-holds c = (omega arith, grown-none _ _ _ _ (c .pre .2))
+
+pair-after-requires : tie.Need-pair-after-requires Inv-loop μ-loop
+pair-after-requires c κs = search needs
+
+put-requires : tie.Need-put-requires Inv-loop μ-loop
+put-requires c κs = c .before .before .before .before .loop .inv .1 .queue
+
+add-d : tie.Need-add-d Inv-loop μ-loop
+add-d c = search needs
+
+loop-less : tie.Need-loop-less Inv-loop μ-loop
+loop-less c = search needs
+
+loop-again : tie.Need-loop-again Inv-loop μ-loop
+loop-again c =
+    let l = c .before .before .before .before .before .loop in (
+      omega arith,
+      grown-more _ (l .d) _ (l .set) _ _ (l .list) _ _ (l .count) _ (c .before .before .before .pair-after .result)
+          (c .before .before .before .pair-after .ensures) (l .inv .1) (c .put .ensures),
+    )
+
+returns : tie.Need-returns Inv-loop μ-loop
+returns c =
+    let l = c .before .loop in
+    let e : l .d ≡ c .before .before .args .n = omega arith in
+    rw (← e) (l .inv .1)
+
+pub put-targets-spec : {M : Type 1} → statement M
+put-targets-spec =
+    tie.close
+    (tie.spec
+    Inv-loop
+    μ-loop
+    loop-holds
+    pair-after-requires
+    put-requires
+    add-d
+    loop-less
+    loop-again
+    returns)

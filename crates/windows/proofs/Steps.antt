@@ -1,0 +1,106 @@
+-- Laws of the sets of pairs that the search for a window keeps.
+-- In order: iterate-add; step-more, reached-more, reached-hits; Stepped, stepped-start to stepped-rest.
+-- Assumes nothing.
+use mathlib.Core.Path.{_≡_, sym, ap, ap₂, _∙_}
+use mathlib.Core.Bool.{Bool, true, false}
+use mathlib.Core.List.{List}
+use Prim.Native.Nat.{ℕ, zero, suc, _+_, _-_, _≤_, _<_}
+use native.Mathlib.Numerals.{add-one}
+use native.Mathlib.Nat.{zero-add, suc-add}
+use native.Mathlib.Omega.{arith}
+use native.Mathlib.Decide.{decLt}
+use borrow.Author.Count.{below-more}
+use Rattle.laws.specs.Lists.{iterate}
+use Rattle.laws.specs.Sets.{Pairs}
+use Rattle.laws.proofs.Settle.{iterate-suc, iterate-fixed}
+use Rattle.table.specs.Rows.{Rows}
+use Rattle.table.specs.Works.{into, reversed, allPairs, startPair}
+use Rattle.table.specs.Search.{hits, union, starts, pasts, empty}
+use Rattle.windows.specs.declared.Pasts.{Pasts}
+use Rattle.windows.specs.PairSets.{pairsIn}
+use Rattle.windows.specs.Steps.{Reached, Emptied}
+
+pub iterate-add : {A : Type 0} (f : A → A) (k i : ℕ) (x : A) → iterate f (k + i) x ≡ iterate f i (iterate f k x)
+iterate-add f zero i x = ap (λ n. iterate f n x) (zero-add i)
+iterate-add f (suc k) i x = ap (λ n. iterate f n x) (suc-add k i) ∙ iterate-add f k i (f x)
+
+module _ (t : Rows) where
+  -- one step more, in the code's way to count
+  pub step-more : (i : ℕ) (H : Pairs)
+      → iterate (into (reversed t)) (i + 1) H ≡ into (reversed t) (iterate (into (reversed t)) i H)
+  step-more i H =
+      ap (λ k. iterate (into (reversed t)) k H) (add-one i) ∙ iterate-suc (into (reversed t)) i H
+
+  module _ (n : ℕ) where
+    pub reached-more : (i : ℕ) (g r : Pasts) → pairsIn n (r .all) ≡ into (reversed t) (pairsIn n (g .all))
+        → pairsIn n (r .first) ≡ into (reversed t) (pairsIn n (g .first))
+        → pairsIn n (r .earlier) ≡ union t (pairsIn n (g .earlier)) (pairsIn n (g .first))
+        → Reached t n i g → Reached t n (i + 1) r
+    reached-more i g r a f e h = record {
+      all = a ∙ ap (into (reversed t)) (h .all) ∙ sym (step-more i (allPairs t));
+      first = f ∙ ap (into (reversed t)) (h .first) ∙ sym (step-more i (startPair t));
+      earlier = e ∙ ap₂ (union t) (h .earlier) (h .first) ∙ ap (starts t) (sym (add-one i));
+    }
+
+    pub reached-hits : (i : ℕ) (g : Pasts) (P R : List Bool)
+        → pairsIn n P ≡ union t (pairsIn n (g .all)) (pairsIn n (g .earlier)) → pairsIn n R ≡ hits t (pairsIn n P)
+        → Reached t n i g → pairsIn n R ≡ hits t (pasts t i)
+    reached-hits i g P R p r h = r ∙ ap (hits t) (p ∙ ap₂ (union t) (h .all) (h .earlier))
+
+-- ---- steps until a set is empty: the set after k of them, none of those before it empty
+pub record Stepped (t : Rows) (n : ℕ) (H : Pairs) (most : ℕ) (cur : List Bool) (k : ℕ) : Type 0 where
+  pub within : k ≤ most
+  pub set : pairsIn n cur ≡ iterate (into (reversed t)) k H
+  pub sooner : (j : ℕ) → j < k → empty t (iterate (into (reversed t)) j H) ≡ false
+
+module _ (t : Rows) (n : ℕ) (H : Pairs) (most : ℕ) (cur : List Bool) where
+  pub stepped-start : pairsIn n cur ≡ H → Stepped t n H most cur 0
+  stepped-start e = record { within = omega arith; set = e; sooner = λ j h. absurd (omega arith) }
+
+  pub stepped-more : (k : ℕ) (r : List Bool) → Stepped t n H most cur k → k < most
+      → empty t (pairsIn n cur) ≡ false → pairsIn n r ≡ into (reversed t) (pairsIn n cur)
+      → Stepped t n H most r (k + 1)
+  stepped-more k r h l e s = record {
+    within = omega arith;
+    set = s ∙ ap (into (reversed t)) (h .set) ∙ sym (step-more t k H);
+    sooner = below-more (λ j. empty t (iterate (into (reversed t)) j H) ≡ false) k (h .sooner)
+        (sym (ap (empty t) (h .set)) ∙ e);
+  }
+
+  pub stepped-stop : (k : ℕ) → Stepped t n H most cur k → empty t (pairsIn n cur) ≡ true → Emptied t H most k
+  stepped-stop k h e = record {
+    within = omega (arith, h .within);
+    sooner = h .sooner;
+    there = λ l. sym (ap (empty t) (h .set)) ∙ e;
+  }
+
+  pub stepped-end : (k : ℕ) → Stepped t n H most cur k → most ≤ k → empty t (pairsIn n cur) ≡ false
+      → Emptied t H most (k + 1)
+  stepped-end k h l e = record {
+    within = omega (arith, h .within);
+    sooner = below-more (λ j. empty t (iterate (into (reversed t)) j H) ≡ false) k (h .sooner)
+        (sym (ap (empty t) (h .set)) ∙ e);
+    there = λ m. absurd (omega arith);
+  }
+
+  -- a set that one word leads to itself stays
+  pub stepped-rest : (k : ℕ) (r : List Bool) → Stepped t n H most cur k → empty t (pairsIn n cur) ≡ false
+      → pairsIn n r ≡ into (reversed t) (pairsIn n cur) → pairsIn n r ≡ pairsIn n cur → Emptied t H most (most + 1)
+  stepped-rest k r h e s q = record {
+    within = omega arith;
+    sooner = λ j l. go j (decLt j k);
+    there = λ m. absurd (omega arith);
+  }
+    where
+      f : Pairs → Pairs
+      f = into (reversed t)
+
+      fixed : f (iterate f k H) ≡ iterate f k H
+      fixed = sym (ap f (h .set)) ∙ sym s ∙ q ∙ h .set
+
+      go : (j : ℕ) → Dec (j < k) → empty t (iterate f j H) ≡ false
+      go j (yes l) = h .sooner j l
+      go j (no l) =
+          let d : j ≡ k + (j - k) = omega arith in
+          ap (empty t) (ap (λ i. iterate f i H) d ∙ iterate-add f k (j - k) H
+          ∙ iterate-fixed f (j - k) (iterate f k H) fixed ∙ sym (h .set)) ∙ e

@@ -1,0 +1,121 @@
+-- After k turns the set is the one after k steps, and none of the sets before it was empty.
+use Prim.Native.Nat.{_-_}
+use mathlib.Core.Path.{refl, sym, _∙_}
+use native.Mathlib.Omega.{arith}
+use denote.Ref.{now}
+use Rattle.table.specs.Edges.{Arrays, arrays, rowsOf}
+use Rattle.table.proofs.RowsOf.{length-rows}
+use Rattle.windows.specs.PairSets.{pairsIn}
+use Rattle.windows.proofs.SetLaws.{same-pairs}
+use Rattle.windows.proofs.Steps.{
+  Stepped,
+  stepped-start,
+  stepped-more,
+  stepped-stop,
+  stepped-end,
+  stepped-rest,
+}
+use borrow.Author.Needs.{needs}
+use Rattle.windows.proofs.emptied.Statement.{statement}
+use Rattle.windows.proofs.emptied.Tie as tie
+
+abbrev Inv-loop : tie.InvT-loop
+Inv-loop states n word next head link most cur₀ k₀ cur k =
+    Stepped (rowsOf (arrays states n word next)) states (pairsIn states cur₀) most cur k
+
+abbrev μ-loop : tie.MeasureT-loop
+μ-loop states n word next head link most cur₀ k₀ cur k = most - k
+
+abbrev table : tie.Start Inv-loop μ-loop → Arrays
+table s = arrays (s .args .states) (s .args .n) (now (s .args .word)) (now (s .args .next))
+
+loop-holds : tie.Need-loop-holds Inv-loop μ-loop
+loop-holds c = stepped-start _ _ _ _ _ refl
+
+is-empty-requires : tie.Need-is-empty-requires Inv-loop μ-loop
+is-empty-requires c κs = search needs
+
+returns : tie.Need-returns Inv-loop μ-loop
+returns c =
+    let l = c .before .before .before .before .loop in
+    let t = table (c .before .before .before .before .before) in
+    stepped-stop (rowsOf t) _ _ _ (l .cur) (l .k) (l .inv)
+    (sym (c .before .is-empty .ensures (rowsOf t) (length-rows t)) ∙ c .if1 .taken)
+
+forward-requires : tie.Need-forward-requires Inv-loop μ-loop
+forward-requires c κs = search needs
+
+same-pairs-requires : tie.Need-same-pairs-requires Inv-loop μ-loop
+same-pairs-requires c κs = search needs
+
+add-result : tie.Need-add-result Inv-loop μ-loop
+add-result c = search needs
+
+returns-2 : tie.Need-returns-2 Inv-loop μ-loop
+returns-2 c =
+    let f = c .before .before .before .before in
+    let e = f .before .before in
+    let l = e .before .before .before .before .loop in
+    let s = e .before .before .before .before .before in
+    let t = table s in
+    stepped-rest (rowsOf t) (s .args .states) _ _ (l .cur) (l .k) (f .forward .result) (l .inv)
+    (sym (e .before .is-empty .ensures (rowsOf t) (length-rows t)) ∙ e .if1 .left) (f .forward .ensures)
+    (same-pairs (s .args .states) (f .forward .result) (l .cur) (s .pre .0 .fits .few)
+    (sym (c .before .same-pairs .ensures) ∙ c .if2 .taken))
+
+add-k : tie.Need-add-k Inv-loop μ-loop
+add-k c = search needs
+
+loop-less : tie.Need-loop-less Inv-loop μ-loop
+loop-less c = search needs
+
+loop-again : tie.Need-loop-again Inv-loop μ-loop
+loop-again c =
+    let f = c .before .before .before .before in
+    let e = f .before .before in
+    let l = e .before .before .before .before .loop in
+    let s = e .before .before .before .before .before in
+    let t = table s in
+    stepped-more (rowsOf t) (s .args .states) _ _ (l .cur) (l .k) (f .forward .result) (l .inv) (omega arith)
+    (sym (e .before .is-empty .ensures (rowsOf t) (length-rows t)) ∙ e .if1 .left) (f .forward .ensures)
+
+is-empty-requires-2 : tie.Need-is-empty-requires-2 Inv-loop μ-loop
+is-empty-requires-2 c κs = search needs
+
+returns-3 : tie.Need-returns-3 Inv-loop μ-loop
+returns-3 c =
+    let l = c .before .before .before .before .loop in
+    let t = table (c .before .before .before .before .before) in
+    stepped-stop (rowsOf t) _ _ _ (l .cur) (l .k) (l .inv)
+    (sym (c .before .is-empty2 .ensures (rowsOf t) (length-rows t)) ∙ c .if3 .taken)
+
+add-result-2 : tie.Need-add-result-2 Inv-loop μ-loop
+add-result-2 c = search needs
+
+returns-4 : tie.Need-returns-4 Inv-loop μ-loop
+returns-4 c =
+    let l = c .before .before .before .before .loop in
+    let t = table (c .before .before .before .before .before) in
+    stepped-end (rowsOf t) _ _ _ (l .cur) (l .k) (l .inv) (omega arith)
+    (sym (c .before .is-empty2 .ensures (rowsOf t) (length-rows t)) ∙ c .if3 .left)
+
+pub emptied-spec : {M : Type 1} → statement M
+emptied-spec =
+    tie.close
+    (tie.spec
+    Inv-loop
+    μ-loop
+    loop-holds
+    is-empty-requires
+    returns
+    forward-requires
+    same-pairs-requires
+    add-result
+    returns-2
+    add-k
+    loop-less
+    loop-again
+    is-empty-requires-2
+    returns-3
+    add-result-2
+    returns-4)

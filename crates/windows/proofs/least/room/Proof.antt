@@ -1,0 +1,22 @@
+-- The rest of the sum, or 15 where the rest is more.
+use mathlib.Core.Path.{refl}
+use mathlib.Core.Logic.{inl, inr}
+use native.Mathlib.Omega.{arith}
+use borrow.Author.Needs.{needs}
+use Rattle.windows.proofs.least.room.Statement.{statement}
+use Rattle.windows.proofs.least.room.Tie as tie
+
+add-left : tie.Need-add-left
+add-left c = search needs
+
+sub-left : tie.Need-sub-left
+sub-left c = search needs
+
+returns : tie.Need-returns
+returns c = record { small = omega arith; fits = omega arith; most = inr (omega arith) }
+
+returns-2 : tie.Need-returns-2
+returns-2 c = record { small = omega arith; fits = omega arith; most = inl refl }
+
+pub room-spec : {M : Type 1} → statement M
+room-spec = tie.close (tie.spec add-left sub-left returns returns-2)

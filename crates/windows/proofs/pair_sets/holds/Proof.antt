@@ -1,0 +1,26 @@
+-- The two answers of the test of the second state.
+use mathlib.Core.Path.{sym, ap}
+use mathlib.Core.Bool.{_&&_}
+use Prim.Native.Nat.{_%_}
+use borrow.Author.Tests.{lt-ltb, le-ltb}
+use denote.Ref.{now}
+use Rattle.laws.specs.Sets.{member}
+use borrow.Author.Needs.{needs}
+use Rattle.windows.proofs.pair_sets.holds.Statement.{statement}
+use Rattle.windows.proofs.pair_sets.holds.Tie as tie
+
+element-copy-out-result : tie.Need-element-copy-out-result
+element-copy-out-result c = search needs
+
+returns : tie.Need-returns
+returns c =
+    let a = c .before .before .args in
+    sym (ap (λ b. b && member (now (a .pairs)) (a .z)) (lt-ltb (a .z % 128) (a .states) (c .before .if1 .taken)))
+
+returns-2 : tie.Need-returns-2
+returns-2 c =
+    let a = c .before .args in
+    sym (ap (λ b. b && member (now (a .pairs)) (a .z)) (le-ltb (a .z % 128) (a .states) (c .if1 .left)))
+
+pub holds-spec : {M : Type 1} → statement M
+holds-spec = tie.close (tie.spec element-copy-out-result returns returns-2)

@@ -1,0 +1,77 @@
+-- The loop has found no pair at the places that it has passed.
+use mathlib.Core.Path.{_≡_, sym, ap, _∙_}
+use mathlib.Core.Bool.{true, false, not}
+use Prim.Native.Nat.{_-_, _*_, _≤_}
+use native.Mathlib.Omega.{arith}
+use denote.Ref.{now}
+use Rattle.table.specs.Marks.{some}
+use Rattle.table.proofs.Marks.{none-start, none-more, some-stop}
+use Rattle.windows.specs.PairSets.{holdsAt}
+use Rattle.windows.proofs.SetLaws.{empty-of}
+use borrow.Author.Needs.{needs}
+use Rattle.windows.proofs.pair_sets.is_empty.Statement.{statement}
+use Rattle.windows.proofs.pair_sets.is_empty.Tie as tie
+
+abbrev Inv-loop : tie.InvT-loop
+Inv-loop states pairs z₀ z = (z ≤ states * 128) × (some (holdsAt states pairs) z ≡ false)
+
+abbrev μ-loop : tie.MeasureT-loop
+μ-loop states pairs z₀ z = states * 128 - z
+
+loop-holds : tie.Need-loop-holds Inv-loop μ-loop
+loop-holds c = (omega arith, none-start _)
+
+mul-loop : tie.Need-mul-loop Inv-loop μ-loop
+mul-loop c = search needs
+
+holds-requires : tie.Need-holds-requires Inv-loop μ-loop
+holds-requires c κs = search needs
+
+returns : tie.Need-returns Inv-loop μ-loop
+returns c = λ t e.
+    let s = c .before .before .before .before in
+    let a = s .args in
+    let f = holdsAt (a .states) (now (a .pairs)) in
+    let q : some f (a .states * 128) ≡ true =
+    some-stop f (a .states * 128) (c .before .before .before .loop .z) (c .before .before .loop-test .taken)
+    (sym (c .before .holds .ensures) ∙ c .if1 .taken) in
+    sym (ap not q) ∙ empty-of t (a .states) (now (a .pairs)) e (s .pre)
+
+add-z : tie.Need-add-z Inv-loop μ-loop
+add-z c = search needs
+
+loop-less : tie.Need-loop-less Inv-loop μ-loop
+loop-less c = search needs
+
+loop-again : tie.Need-loop-again Inv-loop μ-loop
+loop-again c =
+    let a = c .before .before .before .before .args in
+    let l = c .before .before .before .loop in (
+      omega arith,
+      none-more (holdsAt (a .states) (now (a .pairs))) (l .z) (l .inv .1)
+          (sym (c .before .holds .ensures) ∙ c .if1 .left),
+    )
+
+returns-2 : tie.Need-returns-2 Inv-loop μ-loop
+returns-2 c = λ t e.
+    let s = c .before .before in
+    let a = s .args in
+    let f = holdsAt (a .states) (now (a .pairs)) in
+    let k : c .before .loop .z ≡ a .states * 128 = omega arith in
+    let q : some f (a .states * 128) ≡ false = sym (ap (some f) k) ∙ c .before .loop .inv .1 in
+    sym (ap not q) ∙ empty-of t (a .states) (now (a .pairs)) e (s .pre)
+
+pub is-empty-spec : {M : Type 1} → statement M
+is-empty-spec =
+    tie.close
+    (tie.spec
+    Inv-loop
+    μ-loop
+    loop-holds
+    mul-loop
+    holds-requires
+    returns
+    add-z
+    loop-less
+    loop-again
+    returns-2)

@@ -1,0 +1,15 @@
+-- The two answers by `apart`.
+use mathlib.Core.Path.{sym, ap}
+use Prim.Native.Nat.{_%_}
+use Rattle.laws.specs.Lists.{if_then_else_}
+use Rattle.windows.proofs.pairs.left_out.Statement.{statement}
+use Rattle.windows.proofs.pairs.left_out.Tie as tie
+
+returns : tie.Need-returns
+returns c = sym (ap (λ b. if b then c .before .args .i % 16 else 16) (c .if1 .taken))
+
+returns-2 : tie.Need-returns-2
+returns-2 c = sym (ap (λ b. if b then c .before .args .i % 16 else 16) (c .if1 .left))
+
+pub left-out-spec : {M : Type 1} → statement M
+left-out-spec = tie.close (tie.spec returns returns-2)

@@ -1,0 +1,2 @@
+pub mod PairSets
+pub mod Steps

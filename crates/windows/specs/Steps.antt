@@ -1,0 +1,52 @@
+-- What the search for a window keeps while it steps sets of pairs.
+-- In order: size; Reached, the sets that i common words lead to; Emptied, the number of steps until a set is empty;
+-- Leading, the best window so far; foundSize; Room.
+-- Assumes nothing.
+use mathlib.Core.Path.{_≡_}
+use mathlib.Core.Bool.{true, false}
+use mathlib.Core.Logic.{_⊎_}
+use Prim.Native.Nat.{ℕ, _+_, _≤_, _<_}
+use lib.Dec.{T}
+use Rattle.laws.specs.Lists.{iterate}
+use Rattle.laws.specs.Sets.{Pairs}
+use Rattle.table.specs.Rows.{Rows, Size}
+use Rattle.table.specs.Works.{into, reversed, past, started, works}
+use Rattle.table.specs.Window.{NoLater}
+use Rattle.table.specs.Search.{noSize, starts, empty}
+use Rattle.windows.specs.declared.Pasts.{Pasts}
+use Rattle.windows.specs.declared.least.Found.{Found}
+use Rattle.windows.specs.declared.least.Found.the-variants.{None, Window}
+use Rattle.windows.specs.PairSets.{pairsIn}
+
+-- memory m and lookahead a
+abbrev pub size : ℕ → ℕ → Size
+size m a = record { memory = m; lookahead = a }
+
+-- the pairs that i common words lead to from any two states and from the start, and those that fewer lead to from the
+-- start
+pub record Reached (t : Rows) (n i : ℕ) (g : Pasts) : Type 0 where
+  pub all : pairsIn n (g .all) ≡ past t i
+  pub first : pairsIn n (g .first) ≡ started t i
+  pub earlier : pairsIn n (g .earlier) ≡ starts t i
+
+-- after r steps forward, and not before, no pair of H is left; where r is over `most`, one is left after `most` steps
+pub record Emptied (t : Rows) (H : Pairs) (most r : ℕ) : Type 0 where
+  pub within : r ≤ most + 1
+  pub sooner : (k : ℕ) → k < r → empty t (iterate (into (reversed t)) k H) ≡ false
+  pub there : r ≤ most → empty t (iterate (into (reversed t)) r H) ≡ true
+
+-- z is the best of the working windows with memory below m, or the mark where there is none
+pub record Leading (t : Rows) (m : ℕ) (z : Size) : Type 0 where
+  pub better : (w : Size) → w .memory < m → w .lookahead < 16 → T (works t w) → NoLater z w
+  pub known : (z ≡ noSize) ⊎ ((z .memory < m) × (z .lookahead < 16) × T (works t z))
+
+-- the size that the code's answer names, or the mark for none
+abbrev pub foundSize : Found → Size
+foundSize None = noSize
+foundSize (Window memory lookahead) = size memory lookahead
+
+-- r is the most lookahead with which memory m can be better than b
+pub record Room (b : Size) (m r : ℕ) : Type 0 where
+  pub small : r ≤ 15
+  pub fits : m + r ≤ b .memory + b .lookahead
+  pub most : (r ≡ 15) ⊎ (m + r ≡ b .memory + b .lookahead)
