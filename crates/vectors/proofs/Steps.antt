@@ -1,34 +1,44 @@
 -- One case more in the tally of the walk.
--- In order: told-set, told-right, told-wrong; nothing-at, few-nothing, few-more; step-walked.
+-- In order: told-right, told-wrong; kind-set, kind-call; nothing-at, few-nothing, few-more; step-walked.
 -- Assumes nothing.
 use mathlib.Core.Path.{_≡_, refl, sym, ap, subst, _∙_}
 use mathlib.Core.Bool.{Bool, true, false}
 use mathlib.Core.List.{List, [], _∷_}
 use Prim.Native.Nat.{ℕ, zero, suc, _+_, _≤_, _<_}
 use native.Mathlib.Omega.{arith}
+use borrow.Author.Tests.{eq-eqb, ne-eqb}
 use lib.Dec.{T}
 use lib.ListN.{length, getD, set, replicate}
+use Rattle.laws.specs.Lists.{if_then_else_}
 use Rattle.vectors.specs.declared.cases.Case.{Case}
 use Rattle.vectors.specs.declared.walk.Tally.{Tally}
 use Rattle.vectors.specs.Cases.{caseAt, Whole}
 use Rattle.vectors.specs.Agreeing.{Says}
-use Rattle.vectors.specs.Walking.{CaseAgrees, Told, Ran, nothing, more, withCase, Walked, begun, next, Few}
+use Rattle.vectors.specs.Walking.{CallAgrees, SetCaseAgrees, CaseAgrees, Told, nothing, more}
+use Rattle.vectors.specs.Walking.{withCase, Walked, begun, next, Few}
 use Rattle.vectors.proofs.Placing.{case-long}
 
 -- ---- the verdict on a case
 module _ (xs : List ℕ) (c : Case) where
-  pub told-set : c .kind ≡ 6 → Told xs c 0
-  told-set e = record { right = λ z ne. absurd (ne e); wrong = λ g. refl; small = omega arith }
-
   pub told-right : (r : Bool) → Says r (CaseAgrees xs c) → r ≡ true → Told xs c 0
-  told-right r (p, q) e = record { right = λ z ne. p e; wrong = λ g. refl; small = omega arith }
+  told-right r (p, q) e = record { right = λ z. p e; wrong = λ g. refl; small = omega arith }
 
   pub told-wrong : (r : Bool) → Says r (CaseAgrees xs c) → r ≡ false → Told xs c 1
   told-wrong r (p, q) e = record {
-    right = λ z ne. absurd (omega arith);
+    right = λ z. absurd (omega arith);
     wrong = λ g. absurd (subst T (sym (q g) ∙ e) tt);
     small = omega arith;
   }
+
+-- what a case is held to goes by its kind
+pub kind-set : (xs : List ℕ) (c : Case) (r : Bool) → c .kind ≡ 6 → Says r (SetCaseAgrees xs c) → Says r (CaseAgrees xs c)
+unfolding CaseAgrees
+kind-set xs c r e s = subst (λ b. Says r (if b then SetCaseAgrees xs c else CallAgrees xs c)) (sym (eq-eqb _ _ e)) s
+
+pub kind-call : (xs : List ℕ) (c : Case) (r : Bool) → (c .kind ≡ 6 → ⊥) → Says r (CallAgrees xs c)
+    → Says r (CaseAgrees xs c)
+unfolding CaseAgrees
+kind-call xs c r e s = subst (λ b. Says r (if b then SetCaseAgrees xs c else CallAgrees xs c)) (sym (ne-eqb _ _ e)) s
 
 -- ---- counts stay small
 set-le : (xs : List ℕ) (n v k m : ℕ) → v ≤ k → ((m : ℕ) → getD xs m 0 ≤ k) → getD (set xs n v) m 0 ≤ k
@@ -58,39 +68,34 @@ pub few-nothing : Few nothing
 unfolding nothing
 few-nothing = record {
   cases = omega arith;
-  run = omega arith;
   wrong = omega arith;
   kinds = λ k. let e = zeros 8 k in omega arith;
   differ = λ k. let e = zeros 8 k in omega arith;
 }
 
-few-more : (t : Tally) (c : Case) (run differs : ℕ) → Few t → t .at < c .end → run ≤ 1 → differs ≤ 1
-    → Few (withCase t c run differs)
+few-more : (t : Tally) (c : Case) (differs : ℕ) → Few t → t .at < c .end → differs ≤ 1 → Few (withCase t c differs)
 unfolding withCase
-few-more t c run differs f l h g = record {
+few-more t c differs f l g = record {
   cases = let k = f .cases in omega arith;
-  run = let k = f .run in omega arith;
   wrong = let k = f .wrong in omega arith;
   kinds = λ k. more-le (t .kinds) (c .kind) 1 (t .at) (c .end) k (omega arith) l (f .kinds);
   differ = λ k. more-le (t .differ) (c .kind) differs (t .at) (c .end) k g l (f .differ);
 }
 
-end-is : (t : Tally) (c : Case) (run differs : ℕ) → withCase t c run differs .at ≡ c .end
+end-is : (t : Tally) (c : Case) (differs : ℕ) → withCase t c differs .at ≡ c .end
 unfolding withCase
-end-is t c run differs = refl
+end-is t c differs = refl
 
 -- THEOREM: the tally with the case that it has reached
-pub step-walked : (xs : List ℕ) (t r : Tally) (c : Case) (run differs : ℕ) → c ≡ caseAt xs (t .at)
-    → r ≡ withCase t c run differs → Walked xs t → Whole xs (caseAt xs (t .at)) → Ran (c .kind) run → Told xs c differs
-    → Few t → Walked xs r × ((t .at < r .at) × (r .at ≤ length xs) × Few r)
-step-walked xs t r c run differs e q walked whole ran told few =
+pub step-walked : (xs : List ℕ) (t r : Tally) (c : Case) (differs : ℕ) → c ≡ caseAt xs (t .at)
+    → r ≡ withCase t c differs → Walked xs t → Whole xs (caseAt xs (t .at)) → Told xs c differs → Few t
+    → Walked xs r × ((t .at < r .at) × (r .at ≤ length xs) × Few r)
+step-walked xs t r c differs e q walked whole told few =
     let C = caseAt xs (t .at) in
-    let ran′ : Ran (C .kind) run = subst (λ x. Ran (x .kind) run) e ran in
     let told′ : Told xs C differs = subst (λ x. Told xs x differs) e told in
-    let z : withCase t C run differs ≡ r = ap (λ x. withCase t x run differs) (sym e) ∙ sym q in
+    let z : withCase t C differs ≡ r = ap (λ x. withCase t x differs) (sym e) ∙ sym q in
     let long : t .at < C .end = case-long xs (t .at) in
-    let at = end-is t C run differs in
+    let at = end-is t C differs in
     let last = whole .last in
     subst (λ x. Walked xs x × ((t .at < x .at) × (x .at ≤ length xs) × Few x)) z
-    (next run differs walked whole ran′ told′,
-    (omega arith, omega arith, few-more t C run differs few long (ran′ .small) (told′ .small)))
+    (next differs walked whole told′, (omega arith, omega arith, few-more t C differs few long (told′ .small)))

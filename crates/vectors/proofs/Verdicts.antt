@@ -1,6 +1,6 @@
 -- Tests that are exact, what the call of a kind comes to, and when a case agrees.
 -- In order: says-yes, says-no; same-outcome, out-compile, out-run-length, out-check, out-encode, out-decode, out-list;
--- checked-out; number-differs, value-differs, agrees-so.
+-- checked-out; number-differs, value-differs, agrees-so; set-so.
 -- Assumes nothing.
 use mathlib.Core.Path.{_≡_, refl, sym, ap, subst, _∙_}
 use mathlib.Core.Bool.{Bool, true, false}
@@ -19,7 +19,10 @@ use Rattle.record.specs.Checks.{checkedOnly}
 use Rattle.codec.specs.Answers.{encodeUnder, decodeUnder}
 use Rattle.compiler.specs.Compile.{compileJob, compileRunLength}
 use Rattle.compiler.specs.Listing.{listingOf}
-use Rattle.vectors.specs.Agreeing.{outcomeOf, Stands, Agrees, Says}
+use Rattle.sets.specs.declared.SetAnswer.{SetAnswer}
+use Rattle.sets.specs.Sets.{readSet}
+use Rattle.sets.specs.Results.{setAnswer, setNumber, setValue}
+use Rattle.vectors.specs.Agreeing.{outcomeOf, Stands, Agrees, SetAgrees, Says}
 
 -- ---- tests
 pub says-yes : {P : Type 0} → P → Says true P
@@ -93,3 +96,12 @@ module _ (kind : ℕ) (first second : List ℕ) (room refusal value : ℕ) (outp
         output = subst (λ X. Stands X output) e (p t);
       }),
       (λ g. q (subst (λ X. Stands X output) (sym e) (g .output))))
+
+-- ---- a set agrees
+pub set-so : (set : List ℕ) (refusal value size : ℕ) (a : SetAnswer) (n v : ℕ) → a ≡ setAnswer (readSet set) → size ≡ 0
+    → n ≡ setNumber a → n ≡ refusal → v ≡ setValue a → v ≡ value → Says true (SetAgrees set refusal value size)
+set-so set refusal value size a n v e z en hn ev hv = says-yes (record {
+  none = z;
+  number = ap setNumber (sym e) ∙ sym en ∙ hn;
+  value = ap setValue (sym e) ∙ sym ev ∙ hv;
+})

@@ -1,6 +1,6 @@
 -- When a case comes out as it says.
--- In order: outcomeOf, what the call of a kind comes to; Stands, an output in front of lent bytes; Agrees; Says, a test
--- that is exact.
+-- In order: outcomeOf, what the call of a kind comes to; Stands, an output in front of lent bytes; Agrees, SetAgrees;
+-- Says, a test that is exact.
 -- Assumes nothing.
 use mathlib.Core.Path.{_≡_}
 use mathlib.Core.Bool.{Bool, true}
@@ -15,6 +15,8 @@ use Rattle.record.specs.Checks.{checkedOnly}
 use Rattle.codec.specs.Answers.{encodeUnder, decodeUnder}
 use Rattle.compiler.specs.Compile.{compileJob, compileRunLength}
 use Rattle.compiler.specs.Listing.{listingOf}
+use Rattle.sets.specs.Sets.{readSet}
+use Rattle.sets.specs.Results.{setAnswer, setNumber, setValue}
 
 -- what the call of a kind comes to: 1 compiles a job, 2 a run-length job, 3 checks a record, 4 encodes, 5 decodes, and
 -- any other lists
@@ -37,6 +39,12 @@ pub record Agrees (kind : ℕ) (first second : List ℕ) (room refusal answered 
   pub number : answerNumber (answerOf (outcomeOf kind first second room)) ≡ refusal
   pub value : answerValue (answerOf (outcomeOf kind first second room)) ≡ answered
   pub output : Stands (outputOf (outcomeOf kind first second room) (replicate room 165)) bytes
+
+-- the walk of a set answers this refusal and this value, and the case has no output
+pub record SetAgrees (set : List ℕ) (refusal answered size : ℕ) : Type 0 where
+  pub none : size ≡ 0
+  pub number : setNumber (setAnswer (readSet set)) ≡ refusal
+  pub value : setValue (setAnswer (readSet set)) ≡ answered
 
 -- the test r is true exactly when P holds
 abbrev pub Says : Bool → Type 0 → Type 0

@@ -4,7 +4,7 @@ ghost use mathlib.Core.Bool.{true};
 ghost use lib.ListN.{length, getD, replicate};
 ghost use Rattle.answer.specs.Outcomes.{answerOf, outputOf, fitting};
 ghost use Rattle.compiler.specs.Listing.{listingOf};
-ghost use Rattle.vectors.specs.Agreeing.{outcomeOf, Stands, Agrees, Says};
+ghost use Rattle.vectors.specs.Agreeing.{outcomeOf, Stands, Agrees, SetAgrees, Says};
 use answer::Answer;
 use answer::answer_number;
 use answer::answer_value;
@@ -16,6 +16,9 @@ use compiler::bytes::compile_run_length;
 use compiler::bytes::list_run_length;
 use compiler::listing::put_refusal;
 use record::loading::check;
+use sets::walking::check_set;
+use sets::walking::set_number;
+use sets::walking::set_value;
 
 // The text of the listing program in the output: the listing of a job, or `refused` and the number.
 fn list_or_tell(job: &[u8], out: &mut [u8]) -> Answer
@@ -123,4 +126,21 @@ pub fn agrees(
         return false;
     }
     stands(out, output)
+}
+
+// Whether the walk of a set answers this refusal and this value; `size` is how many bytes the case has as output.
+pub fn set_agrees(set: &[u8], refusal: usize, value: usize, size: usize) -> bool
+    ensures answer { λ r. ⌜ Says r (SetAgrees (now (set .entry)) refusal value size) ⌝ }
+{
+    if size != 0 {
+        return false;
+    }
+    let a = check_set(set);
+    if set_number(a) as usize != refusal {
+        return false;
+    }
+    if set_value(a) != value {
+        return false;
+    }
+    true
 }

@@ -5,8 +5,10 @@ ghost use Prim.Native.Nat.{_+_, _≤_, _<_};
 ghost use lib.ListN.{length};
 ghost use Rattle.vectors.specs.Cases.{caseAt, Whole};
 ghost use Rattle.vectors.specs.Agreeing.{Says};
-ghost use Rattle.vectors.specs.Walking.{CaseAgrees, Told, Ran, nothing, withCase, Few, Walked};
+ghost use Rattle.vectors.specs.Walking.{CallAgrees, SetCaseAgrees, CaseAgrees, Told};
+ghost use Rattle.vectors.specs.Walking.{nothing, withCase, Few, Walked};
 use crate::calls::agrees;
+use crate::calls::set_agrees;
 use crate::cases::Case;
 use crate::cases::case_at;
 use crate::cases::is_case;
@@ -14,21 +16,20 @@ use crate::report::say_file;
 use crate::report::say_kind;
 use crate::report::say_number;
 
-// The place that the walk reached; how many cases there were, how many of them were run and how many differ; and for
-// each kind how many cases it has and how many of them differ.
+// The place that the walk reached; how many cases there were, and how many of them differ; and for each kind how many
+// cases it has and how many of them differ.
 pub struct Tally {
     pub at: usize,
     pub cases: u64,
-    pub run: u64,
     pub wrong: u64,
     pub kinds: [u64; 8],
     pub differ: [u64; 8],
 }
 
-// Whether a case comes out as it says.
-fn case_agrees(bytes: &[u8], c: Case) -> bool
+// Whether the call of a case comes out as it says.
+fn call_agrees(bytes: &[u8], c: Case) -> bool
     requires { ⌜ Whole (now bytes) c ⌝ }
-    ensures answer { λ r. ⌜ Says r (CaseAgrees (now (bytes .entry)) c) ⌝ }
+    ensures answer { λ r. ⌜ Says r (CallAgrees (now (bytes .entry)) c) ⌝ }
 {
     let mut out = io::large_buffer();
     let room = c.room;
@@ -49,24 +50,33 @@ fn case_agrees(bytes: &[u8], c: Case) -> bool
     )
 }
 
-// 1 for a case that was run, 0 for a set.
-fn is_run(kind: usize) -> u64
-    ensures answer { λ r. ⌜ Ran kind r ⌝ }
+// Whether the set of a case comes out as it says.
+fn set_case_agrees(bytes: &[u8], c: Case) -> bool
+    requires { ⌜ Whole (now bytes) c ⌝ }
+    ensures answer { λ r. ⌜ Says r (SetCaseAgrees (now (bytes .entry)) c) ⌝ }
 {
-    if kind == 6 {
-        return 0;
-    }
-    1
+    let first = c.first;
+    let behind = c.behind;
+    let size = c.end - c.output;
+    set_agrees(&bytes[first..behind], c.refusal, c.value, size)
 }
 
-// 1 for a case that differs, whose number is printed, 0 for one that does not, or that is not run.
+// Whether a case comes out as it says.
+fn case_agrees(bytes: &[u8], c: Case) -> bool
+    requires { ⌜ Whole (now bytes) c ⌝ }
+    ensures answer { λ r. ⌜ Says r (CaseAgrees (now (bytes .entry)) c) ⌝ }
+{
+    if c.kind == 6 {
+        return set_case_agrees(bytes, c);
+    }
+    call_agrees(bytes, c)
+}
+
+// 1 for a case that differs, whose number is printed, 0 for one that does not.
 fn judge(bytes: &[u8], c: Case, number: u64) -> u64
     requires { ⌜ Whole (now bytes) c ⌝ }
     ensures answer { λ r. ⌜ Told (now (bytes .entry)) c r ⌝ }
 {
-    if c.kind == 6 {
-        return 0;
-    }
     if case_agrees(bytes, c) {
         return 0;
     }
@@ -75,15 +85,14 @@ fn judge(bytes: &[u8], c: Case, number: u64) -> u64
 }
 
 // The tally with one case more.
-fn with_case(t: Tally, c: Case, run: u64, differs: u64) -> Tally
-    requires { ⌜ (c .kind ≤ 7) × (run ≤ 1) × (differs ≤ 1) × Few t × (t .at ≤ 1000000) ⌝ }
-    ensures answer { λ r. ⌜ r ≡ withCase t c run differs ⌝ }
+fn with_case(t: Tally, c: Case, differs: u64) -> Tally
+    requires { ⌜ (c .kind ≤ 7) × (differs ≤ 1) × Few t × (t .at ≤ 1000000) ⌝ }
+    ensures answer { λ r. ⌜ r ≡ withCase t c differs ⌝ }
 {
     let kind = c.kind;
     let mut r = t;
     r.at = c.end;
     r.cases = t.cases + 1;
-    r.run = t.run + run;
     r.wrong = t.wrong + differs;
     r.kinds[kind] = t.kinds[kind] + 1;
     r.differ[kind] = t.differ[kind] + differs;
@@ -97,7 +106,6 @@ fn no_case() -> Tally
     Tally {
         at: 0,
         cases: 0,
-        run: 0,
         wrong: 0,
         kinds: [0u64; 8],
         differ: [0u64; 8],
@@ -111,9 +119,8 @@ fn step(bytes: &[u8], t: Tally) -> Tally
     ensures past { λ r. ⌜ (t .at < r .at) × (r .at ≤ length (now (bytes .entry))) × Few r ⌝ }
 {
     let c = case_at(bytes, t.at);
-    let run = is_run(c.kind);
     let differs = judge(bytes, c, t.cases);
-    with_case(t, c, run, differs)
+    with_case(t, c, differs)
 }
 
 // The tally of all cases.
@@ -147,9 +154,9 @@ fn say_tally(t: Tally) {
     say_kind(b"check", t.kinds[3], t.differ[3]);
     say_kind(b"encode", t.kinds[4], t.differ[4]);
     say_kind(b"decode", t.kinds[5], t.differ[5]);
-    say_number(b"set, not run: cases ", t.kinds[6]);
+    say_kind(b"set", t.kinds[6], t.differ[6]);
     say_kind(b"listing", t.kinds[7], t.differ[7]);
-    say_kind(b"all that were run:", t.run, t.wrong);
+    say_kind(b"all", t.cases, t.wrong);
 }
 
 // Runs every case and prints what came out.
@@ -159,7 +166,7 @@ pub fn run(bytes: &[u8])
     say_file(bytes);
     let t = walk(bytes);
     if !is_end(bytes, t.at) {
-        say_number(b"the file is cut off at case ", t.cases);
+        say_number(b"neither a whole case nor the end: case ", t.cases);
     }
     say_tally(t);
 }

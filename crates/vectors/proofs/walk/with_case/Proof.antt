@@ -13,17 +13,14 @@ add-r c = search needs
 add-r-2 : tie.Need-add-r-2
 add-r-2 c = search needs
 
-add-r-3 : tie.Need-add-r-3
-add-r-3 c = search needs
-
 mul-r : tie.Need-mul-r
 mul-r c = search needs
 
 element-copy-out-r : tie.Need-element-copy-out-r
 element-copy-out-r c = search needs
 
-add-r-4 : tie.Need-add-r-4
-add-r-4 c = omega (arith, c .before .pre .3 .kinds (c .before .args .c .kind), c .before .pre .4)
+add-r-3 : tie.Need-add-r-3
+add-r-3 c = omega (arith, c .before .pre .2 .kinds (c .before .args .c .kind), c .before .pre .3)
 
 mul-r-2 : tie.Need-mul-r-2
 mul-r-2 c = search needs
@@ -37,8 +34,8 @@ mul-r-3 c = search needs
 element-copy-out-r-2 : tie.Need-element-copy-out-r-2
 element-copy-out-r-2 c = search needs
 
-add-r-5 : tie.Need-add-r-5
-add-r-5 c = omega (arith, c .before .before .pre .3 .differ (c .before .before .args .c .kind), c .before .before .pre .4)
+add-r-4 : tie.Need-add-r-4
+add-r-4 c = omega (arith, c .before .before .pre .2 .differ (c .before .before .args .c .kind), c .before .before .pre .3)
 
 mul-r-4 : tie.Need-mul-r-4
 mul-r-4 c = search needs
@@ -56,15 +53,14 @@ with-case-spec =
     (tie.spec
     add-r
     add-r-2
-    add-r-3
     mul-r
     element-copy-out-r
-    add-r-4
+    add-r-3
     mul-r-2
     element-write-r
     mul-r-3
     element-copy-out-r-2
-    add-r-5
+    add-r-4
     mul-r-4
     element-write-r-2
     returns)
