@@ -40,7 +40,7 @@ module _ (b : ℕ) (two : 1 < b) where
       go (yes l) =
           let e : suc (s - 1) ≡ s = omega arith in
           subst (λ m. b ^ m ≤ n) e (subst (λ m. m ≤ n) (sym (pow-suc b (s - 1)))
-              (le-div-iff-mul-le {k = b} {x = b ^ (s - 1)} {y = n} (omega arith) .0 (z .least l)))
+          (le-div-iff-mul-le {k = b} {x = b ^ (s - 1)} {y = n} (omega arith) .0 (z .least l)))
       go (no l) = let e : 1 ≡ s = let o = z .some in omega arith in
           subst (λ m. b ^ m ≤ n) e (let p = pow-one in omega arith)
 
@@ -67,7 +67,7 @@ module _ (b : ℕ) (two : 1 < b) where
       go (yes l) = l
       go (no l) =
           absurd (let g : b ^ y ≤ b ^ x = pow-le-pow-right {n = b} (omega arith) {i = y} {j = x} (omega arith) in
-              omega arith)
+          omega arith)
 
   pub fewest-size : (least n r s : ℕ) → 1 ≤ least → Fewest b least n r → Sized b n s → r ≡ max least s
   fewest-size least n r s one (above, holds, no-fewer) z = go (decLe least s)
@@ -100,13 +100,13 @@ unfolding decimal
 decimal-is n r h f =
     let z = size-sized 10 (omega arith) 19 n (omega arith) in
     ap (λ k. digits 10 k n) (fewest-size 10 (omega arith) 1 n r (size 10 20 n) (omega arith) f z ∙ max-eq-right
-        (z .some))
+    (z .some))
 
 pub hex-is : (w n r : ℕ) → n < 2 ^ 64 → Fewest 16 (min (max w 1) 16) n r → digits 16 r n ≡ hex w n
 unfolding hex
 hex-is w n r h f =
     ap (λ k. digits 16 k n) (fewest-size 16 (omega arith) (min (max w 1) 16) n r (size 16 16 n) (width (max w 1)
-        (le-max-right w 1)) f (size-sized 16 (omega arith) 15 n (omega arith)))
+    (le-max-right w 1)) f (size-sized 16 (omega arith) 15 n (omega arith)))
   where
     width : (m : ℕ) → 1 ≤ m → 1 ≤ min m 16
     width m h = go (decLe m 16)

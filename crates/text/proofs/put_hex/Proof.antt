@@ -31,7 +31,6 @@ returns c =
     added-same
     (k .ensures .1 .1 ∙ hex-is (a .width) (a .n) (k .result) (start .fits .n .fits) (k .ensures .1 .0)) (put .put .ensures)
 
-
 pub put-hex-spec : {M : Type 1} → statement M
 put-hex-spec =
     tie.close
