@@ -1,17 +1,14 @@
 // One block by the reading rule: the past set, the states that can read the words ahead, and the datum of an edge
 // between them.
 ghost use mathlib.Core.Path.{_≡_};
-ghost use Prim.Native.Nat.{ℕ, _+_, _-_, _≤_, _<_};
-ghost use lib.Dec.{ltb};
+ghost use Prim.Native.Nat.{_+_, _-_, _≤_, _<_};
 ghost use lib.ListN.{length, getD};
-ghost use lib.Seq.{slice};
-ghost use Rattle.laws.specs.Lists.{if_then_else_};
-ghost use Rattle.table.specs.Rows.{Rows};
 ghost use Rattle.table.specs.Edges.{arrays, rowsOf, Linked};
-ghost use Rattle.codec.specs.Reading.{everyState, oneState, alongAll, able, readings, mark, block};
+ghost use Rattle.codec.specs.Reading.{readings, mark, past, block};
 ghost use Rattle.codec.specs.StateSets.{statesIn, joinsAt, under};
-use crate::steps::back_by;
-use crate::steps::step_by;
+use crate::backs::readers;
+use crate::steps::EVERY;
+use crate::steps::step_all;
 
 // The edge at place e leads from the one set into the other.
 fn joins(next: &[u8; 2048], past: &[bool; 128], ahead: &[bool; 128], e: usize) -> bool
@@ -54,81 +51,6 @@ fn datum_by(
     datum
 }
 
-// Where the past of block i starts: in any state, or in state 0 within the first m blocks.
-fn first_set(states: usize, i: usize, m: usize) -> [bool; 128]
-    requires { ⌜ states ≤ 128 ⌝ }
-    ensures answer { λ r. ⌜
-        ((t : Rows) → length t ≡ states → statesIn states r ≡ (if ltb i m then oneState t 0 else everyState t)) ⌝ }
-{
-    if i < m {
-        let mut one = [false; 128];
-        one[0] = true;
-        return one;
-    }
-    [true; 128]
-}
-
-// The states reachable by the words from place `from` to `to` from a state of the set.
-fn step_all(
-    states: usize,
-    n: usize,
-    word: &[u8; 2048],
-    next: &[u8; 2048],
-    head: &[u16; 256],
-    link: &[u16; 2048],
-    set: [bool; 128],
-    words: &[u8],
-    from: usize,
-    to: usize,
-) -> [bool; 128]
-    requires { ⌜
-        Linked (arrays states n (now word) (now next)) (now head) (now link) × (from ≤ to)
-        × (to ≤ length (now words)) ⌝ }
-    ensures answer { λ r. ⌜
-        statesIn states r
-        ≡ alongAll (rowsOf (arrays states n (now (word .entry)) (now (next .entry)))) (statesIn states set)
-        (slice from to (now (words .entry))) ⌝ }
-{
-    let mut cur = set;
-    let mut j = from;
-    while j < to {
-        let r = step_by(states, n, word, next, head, link, &cur, words[j]);
-        cur = r;
-        j += 1;
-    }
-    cur
-}
-
-// The states that can read the words from place `from` to `to`.
-fn readers(
-    states: usize,
-    n: usize,
-    word: &[u8; 2048],
-    next: &[u8; 2048],
-    head: &[u16; 256],
-    link: &[u16; 2048],
-    words: &[u8],
-    from: usize,
-    to: usize,
-) -> [bool; 128]
-    requires { ⌜
-        Linked (arrays states n (now word) (now next)) (now head) (now link) × (from ≤ to)
-        × (to ≤ length (now words)) ⌝ }
-    ensures answer { λ r. ⌜
-        statesIn states r
-        ≡ able (rowsOf (arrays states n (now (word .entry)) (now (next .entry))))
-        (slice from to (now (words .entry))) ⌝ }
-{
-    let mut cur = [true; 128];
-    let mut j = to;
-    while from < j {
-        j -= 1;
-        let r = back_by(states, n, word, next, head, link, &cur, words[j]);
-        cur = r;
-    }
-    cur
-}
-
 // i less m, and 0 below m.
 fn less(i: usize, m: usize) -> usize
     ensures answer { λ r. ⌜ r ≡ i - m ⌝ }
@@ -137,6 +59,48 @@ fn less(i: usize, m: usize) -> usize
         return 0;
     }
     i - m
+}
+
+// The states in which block i may start: reachable by the m words before it, or by all of them from state 0.
+fn past_set(
+    states: usize,
+    n: usize,
+    word: &[u8; 2048],
+    next: &[u8; 2048],
+    head: &[u16; 256],
+    link: &[u16; 2048],
+    words: &[u8],
+    i: usize,
+    m: usize,
+    out: &mut [bool; 128],
+)
+    requires { ⌜
+        Linked (arrays states n (now word) (now next)) (now head) (now link) × (i ≤ length (now words)) ⌝ }
+    ensures written { λ r. ⌜
+        statesIn states (now (out .exit))
+        ≡ past (under (rowsOf (arrays states n (now (word .entry)) (now (next .entry)))) m 0)
+        (now (words .entry)) i ⌝ }
+{
+    let from = less(i, m);
+    if i < m {
+        let mut one = [false; 128];
+        one[0] = true;
+        step_all(states, n, word, next, head, link, &one, words, from, i, out);
+        return;
+    }
+    step_all(
+        states,
+        n,
+        word,
+        next,
+        head,
+        link,
+        &EVERY,
+        words,
+        from,
+        i,
+        out,
+    );
 }
 
 // Block i of the words, in a window of memory m and lookahead a.
@@ -158,19 +122,20 @@ pub fn read_block(
         r ≡ block (under (rowsOf (arrays states n (now (word .entry)) (now (next .entry)))) m a)
         (now (words .entry)) i ⌝ }
 {
-    let first = first_set(states, i, m);
-    let past = step_all(
+    let mut past = [false; 128];
+    past_set(states, n, word, next, head, link, words, i, m, &mut past);
+    let mut ahead = [false; 128];
+    readers(
         states,
         n,
         word,
         next,
         head,
         link,
-        first,
         words,
-        less(i, m),
-        i,
+        i + 1,
+        i + 1 + a,
+        &mut ahead,
     );
-    let ahead = readers(states, n, word, next, head, link, words, i + 1, i + 1 + a);
     datum_by(states, n, word, next, head, link, &past, &ahead, words[i])
 }

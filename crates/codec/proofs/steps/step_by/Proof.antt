@@ -28,7 +28,7 @@ abbrev table : tie.Start Inv-loop μ-loop → Arrays
 table s = arrays (s .args .states) (s .args .n) (now (s .args .word)) (now (s .args .next))
 
 abbrev start : tie.In-loop Inv-loop μ-loop → tie.Start Inv-loop μ-loop
-start c = c .before .before .before
+start c = c .before .before .before .before
 
 -- where the chain of the word starts
 start-on : (s : tie.Start Inv-loop μ-loop)
@@ -68,16 +68,17 @@ element-copy-out-cur c = search needs
 
 cast-cur : tie.Need-cast-cur Inv-loop μ-loop
 cast-cur c =
-    let s = c .before in
+    let s = c .before .before in
     omega (arith, s .pre .fits .few, on-le (table s) (s .args .w) (s .args .states * 16) _ (start-on s))
 
 loop-holds : tie.Need-loop-holds Inv-loop μ-loop
 loop-holds c =
-    let a = c .before .args in
-    let t = table (c .before) in
+    let s = c .before .before in
+    let a = s .args in
+    let t = table s in
     let n = a .states * 16 in
     let k = getD (now (a .head)) (a .w) 0 in
-    let q : k ≡ lastBelow t (a .w) n = start-on (c .before) in
+    let q : k ≡ lastBelow t (a .w) n = start-on s in
     let f = leadsAt t (now (a .set)) (a .w) in (
       on-le t (a .w) n k q,
       on-bears t (a .w) n k q,
@@ -97,8 +98,8 @@ element-copy-out-y c = search needs
 cast-y : tie.Need-cast-y Inv-loop μ-loop
 cast-y c = omega (arith, next-small (c .before .before .before))
 
-array-write-out : tie.Need-array-write-out Inv-loop μ-loop
-array-write-out c = next-small (c .before .before .before)
+element-write-out : tie.Need-element-write-out Inv-loop μ-loop
+element-write-out c = next-small (c .before .before .before)
 
 mul-cur-2 : tie.Need-mul-cur-2 Inv-loop μ-loop
 mul-cur-2 c = search needs
@@ -143,7 +144,7 @@ loop-again c =
 
 returns : tie.Need-returns Inv-loop μ-loop
 returns c =
-    let s = c .before .before .before in
+    let s = c .before .before .before .before in
     let a = s .args in
     let l = c .before .loop in
     let n = a .states * 16 in
@@ -166,7 +167,7 @@ step-by-spec =
     element-copy-out-if1
     element-copy-out-y
     cast-y
-    array-write-out
+    element-write-out
     mul-cur-2
     element-copy-out-cur-2
     cast-cur-2

@@ -13,8 +13,8 @@ use Rattle.table.proofs.Edges.{link-below, on-le, on-bears, on-some}
 use Rattle.codec.proofs.StateSteps.{entersAt, enter-in, enter-out, enter-only}
 use Rattle.codec.proofs.StateSteps.{back-places, left-blank, edge-small}
 use borrow.Author.Needs.{needs}
-use Rattle.codec.proofs.steps.back_by.Statement.{statement}
-use Rattle.codec.proofs.steps.back_by.Tie as tie
+use Rattle.codec.proofs.backs.back_by.Statement.{statement}
+use Rattle.codec.proofs.backs.back_by.Tie as tie
 
 abbrev Inv-loop : tie.InvT-loop
 Inv-loop states n word next head link set w out₀ cur₀ out cur =
@@ -28,7 +28,7 @@ abbrev table : tie.Start Inv-loop μ-loop → Arrays
 table s = arrays (s .args .states) (s .args .n) (now (s .args .word)) (now (s .args .next))
 
 abbrev start : tie.In-loop Inv-loop μ-loop → tie.Start Inv-loop μ-loop
-start c = c .before .before .before
+start c = c .before .before .before .before
 
 -- where the chain of the word starts
 start-on : (s : tie.Start Inv-loop μ-loop)
@@ -68,16 +68,17 @@ element-copy-out-cur c = search needs
 
 cast-cur : tie.Need-cast-cur Inv-loop μ-loop
 cast-cur c =
-    let s = c .before in
+    let s = c .before .before in
     omega (arith, s .pre .fits .few, on-le (table s) (s .args .w) (s .args .states * 16) _ (start-on s))
 
 loop-holds : tie.Need-loop-holds Inv-loop μ-loop
 loop-holds c =
-    let a = c .before .args in
-    let t = table (c .before) in
+    let s = c .before .before in
+    let a = s .args in
+    let t = table s in
     let n = a .states * 16 in
     let k = getD (now (a .head)) (a .w) 0 in
-    let q : k ≡ lastBelow t (a .w) n = start-on (c .before) in
+    let q : k ≡ lastBelow t (a .w) n = start-on s in
     let f = entersAt t (now (a .set)) (a .w) in (
       on-le t (a .w) n k q,
       on-bears t (a .w) n k q,
@@ -97,8 +98,8 @@ cast-y c = omega (arith, next-small (c .before))
 element-copy-out-if1 : tie.Need-element-copy-out-if1 Inv-loop μ-loop
 element-copy-out-if1 c = next-small (c .before)
 
-array-write-out : tie.Need-array-write-out Inv-loop μ-loop
-array-write-out c = search needs
+element-write-out : tie.Need-element-write-out Inv-loop μ-loop
+element-write-out c = search needs
 
 mul-cur-2 : tie.Need-mul-cur-2 Inv-loop μ-loop
 mul-cur-2 c = search needs
@@ -143,7 +144,7 @@ loop-again c =
 
 returns : tie.Need-returns Inv-loop μ-loop
 returns c =
-    let s = c .before .before .before in
+    let s = c .before .before .before .before in
     let a = s .args in
     let l = c .before .loop in
     let n = a .states * 16 in
@@ -166,7 +167,7 @@ back-by-spec =
     element-copy-out-y
     cast-y
     element-copy-out-if1
-    array-write-out
+    element-write-out
     mul-cur-2
     element-copy-out-cur-2
     cast-cur-2
