@@ -1,10 +1,11 @@
-// Sets of states stepped back by words, along the chains of their edges.
+// Sets of states stepped back by words, along the runs of their edges.
 ghost use mathlib.Core.Path.{_≡_};
 ghost use Prim.Native.Nat.{_-_, _%_, _≤_};
 ghost use lib.ListN.{length};
 ghost use lib.Seq.{slice};
-ghost use Rattle.table.specs.Edges.{arrays, rowsOf, Linked};
+ghost use Rattle.table.specs.Edges.{arrays, rowsOf};
 ghost use Rattle.codec.specs.Reading.{back, able};
+ghost use Rattle.codec.specs.EdgeRuns.{Laid};
 ghost use Rattle.codec.specs.StateSets.{statesIn};
 use crate::steps::EVERY;
 
@@ -14,27 +15,28 @@ fn back_by(
     n: usize,
     word: &[u8; 2048],
     next: &[u8; 2048],
-    head: &[u16; 256],
-    link: &[u16; 2048],
+    start: &[u16; 257],
+    order: &[u16; 2048],
     set: &[bool; 128],
     w: u8,
     out: &mut [bool; 128],
 )
-    requires { ⌜ Linked (arrays states n (now word) (now next)) (now head) (now link) ⌝ }
+    requires { ⌜ Laid (arrays states n (now word) (now next)) (now start) (now order) ⌝ }
     ensures written { λ r. ⌜
         statesIn states (now (out .exit))
         ≡ back (rowsOf (arrays states n (now (word .entry)) (now (next .entry))))
         (statesIn states (now (set .entry))) w ⌝ }
 {
     *out = [false; 128];
-    let mut cur = head[w as usize] as usize;
-    while 0 < cur {
-        let e = cur - 1;
+    let mut k = start[w as usize] as usize;
+    let end = start[w as usize + 1] as usize;
+    while k < end {
+        let e = order[k] as usize;
         let y = next[e] as usize;
         if set[y] {
             out[e / 16] = true;
         }
-        cur = link[e] as usize;
+        k += 1;
     }
 }
 
@@ -45,15 +47,15 @@ fn back_odd(
     n: usize,
     word: &[u8; 2048],
     next: &[u8; 2048],
-    head: &[u16; 256],
-    link: &[u16; 2048],
+    start: &[u16; 257],
+    order: &[u16; 2048],
     words: &[u8],
     from: usize,
     to: usize,
     out: &mut [bool; 128],
 ) -> usize
     requires { ⌜
-        Linked (arrays states n (now word) (now next)) (now head) (now link) × (from ≤ to)
+        Laid (arrays states n (now word) (now next)) (now start) (now order) × (from ≤ to)
         × (to ≤ length (now words)) ⌝ }
     ensures answer { λ r. ⌜ (from ≤ r) × (r ≤ to) × ((r - from) % 2 ≡ 0) ⌝ }
     ensures written { λ r. ⌜
@@ -70,8 +72,8 @@ fn back_odd(
         n,
         word,
         next,
-        head,
-        link,
+        start,
+        order,
         &EVERY,
         words[to - 1],
         out,
@@ -85,15 +87,15 @@ pub fn readers(
     n: usize,
     word: &[u8; 2048],
     next: &[u8; 2048],
-    head: &[u16; 256],
-    link: &[u16; 2048],
+    start: &[u16; 257],
+    order: &[u16; 2048],
     words: &[u8],
     from: usize,
     to: usize,
     out: &mut [bool; 128],
 )
     requires { ⌜
-        Linked (arrays states n (now word) (now next)) (now head) (now link) × (from ≤ to)
+        Laid (arrays states n (now word) (now next)) (now start) (now order) × (from ≤ to)
         × (to ≤ length (now words)) ⌝ }
     ensures written { λ r. ⌜
         statesIn states (now (out .exit))
@@ -101,20 +103,20 @@ pub fn readers(
         (slice from to (now (words .entry))) ⌝ }
 {
     let mut spare = [false; 128];
-    let mut j = back_odd(states, n, word, next, head, link, words, from, to, out);
+    let mut j = back_odd(states, n, word, next, start, order, words, from, to, out);
     while from < j {
         back_by(
             states,
             n,
             word,
             next,
-            head,
-            link,
+            start,
+            order,
             out,
             words[j - 1],
             &mut spare,
         );
-        back_by(states, n, word, next, head, link, &spare, words[j - 2], out);
+        back_by(states, n, word, next, start, order, &spare, words[j - 2], out);
         j -= 2;
     }
 }

@@ -3,8 +3,9 @@
 ghost use mathlib.Core.Path.{_≡_};
 ghost use Prim.Native.Nat.{_+_, _-_, _≤_, _<_};
 ghost use lib.ListN.{length, getD};
-ghost use Rattle.table.specs.Edges.{arrays, rowsOf, Linked};
+ghost use Rattle.table.specs.Edges.{arrays, rowsOf};
 ghost use Rattle.codec.specs.Reading.{readings, mark, past, block};
+ghost use Rattle.codec.specs.EdgeRuns.{Laid};
 ghost use Rattle.codec.specs.StateSets.{statesIn, joinsAt, under};
 use crate::backs::readers;
 use crate::steps::EVERY;
@@ -21,32 +22,33 @@ fn joins(next: &[u8; 2048], past: &[bool; 128], ahead: &[bool; 128], e: usize) -
     false
 }
 
-// The datum of the first edge with the word w from the one set into the other, or the mark. Chains run from the last
-// edge to the first, so the last one found is the first.
+// The datum of the first edge with the word w from the one set into the other, or the mark. Runs go from the last edge
+// to the first, so the last one found is the first.
 fn datum_by(
     states: usize,
     n: usize,
     word: &[u8; 2048],
     next: &[u8; 2048],
-    head: &[u16; 256],
-    link: &[u16; 2048],
+    start: &[u16; 257],
+    order: &[u16; 2048],
     past: &[bool; 128],
     ahead: &[bool; 128],
     w: u8,
 ) -> u8
-    requires { ⌜ Linked (arrays states n (now word) (now next)) (now head) (now link) ⌝ }
+    requires { ⌜ Laid (arrays states n (now word) (now next)) (now start) (now order) ⌝ }
     ensures answer { λ r. ⌜
         r ≡ getD (readings (rowsOf (arrays states n (now (word .entry)) (now (next .entry))))
         (statesIn states (now (past .entry))) w (statesIn states (now (ahead .entry)))) 0 mark ⌝ }
 {
     let mut datum: u8 = 255;
-    let mut cur = head[w as usize] as usize;
-    while 0 < cur {
-        let e = cur - 1;
+    let mut k = start[w as usize] as usize;
+    let end = start[w as usize + 1] as usize;
+    while k < end {
+        let e = order[k] as usize;
         if joins(next, past, ahead, e) {
             datum = (e % 16) as u8;
         }
-        cur = link[e] as usize;
+        k += 1;
     }
     datum
 }
@@ -67,15 +69,15 @@ fn past_set(
     n: usize,
     word: &[u8; 2048],
     next: &[u8; 2048],
-    head: &[u16; 256],
-    link: &[u16; 2048],
+    start: &[u16; 257],
+    order: &[u16; 2048],
     words: &[u8],
     i: usize,
     m: usize,
     out: &mut [bool; 128],
 )
     requires { ⌜
-        Linked (arrays states n (now word) (now next)) (now head) (now link) × (i ≤ length (now words)) ⌝ }
+        Laid (arrays states n (now word) (now next)) (now start) (now order) × (i ≤ length (now words)) ⌝ }
     ensures written { λ r. ⌜
         statesIn states (now (out .exit))
         ≡ past (under (rowsOf (arrays states n (now (word .entry)) (now (next .entry)))) m 0)
@@ -85,7 +87,7 @@ fn past_set(
     if i < m {
         let mut one = [false; 128];
         one[0] = true;
-        step_all(states, n, word, next, head, link, &one, words, from, i, out);
+        step_all(states, n, word, next, start, order, &one, words, from, i, out);
         return;
     }
     step_all(
@@ -93,8 +95,8 @@ fn past_set(
         n,
         word,
         next,
-        head,
-        link,
+        start,
+        order,
         &EVERY,
         words,
         from,
@@ -109,33 +111,33 @@ pub fn read_block(
     n: usize,
     word: &[u8; 2048],
     next: &[u8; 2048],
-    head: &[u16; 256],
-    link: &[u16; 2048],
+    start: &[u16; 257],
+    order: &[u16; 2048],
     words: &[u8],
     i: usize,
     m: usize,
     a: usize,
 ) -> u8
     requires { ⌜
-        Linked (arrays states n (now word) (now next)) (now head) (now link) × (i + a < length (now words)) ⌝ }
+        Laid (arrays states n (now word) (now next)) (now start) (now order) × (i + a < length (now words)) ⌝ }
     ensures answer { λ r. ⌜
         r ≡ block (under (rowsOf (arrays states n (now (word .entry)) (now (next .entry)))) m a)
         (now (words .entry)) i ⌝ }
 {
     let mut past = [false; 128];
-    past_set(states, n, word, next, head, link, words, i, m, &mut past);
+    past_set(states, n, word, next, start, order, words, i, m, &mut past);
     let mut ahead = [false; 128];
     readers(
         states,
         n,
         word,
         next,
-        head,
-        link,
+        start,
+        order,
         words,
         i + 1,
         i + 1 + a,
         &mut ahead,
     );
-    datum_by(states, n, word, next, head, link, &past, &ahead, words[i])
+    datum_by(states, n, word, next, start, order, &past, &ahead, words[i])
 }

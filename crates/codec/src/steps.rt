@@ -1,10 +1,11 @@
-// Sets of states stepped forward by words, along the chains of their edges.
+// Sets of states stepped forward by words, along the runs of their edges.
 ghost use mathlib.Core.Path.{_≡_};
 ghost use Prim.Native.Nat.{_-_, _%_, _≤_};
 ghost use lib.ListN.{length};
 ghost use lib.Seq.{slice};
-ghost use Rattle.table.specs.Edges.{arrays, rowsOf, Linked};
+ghost use Rattle.table.specs.Edges.{arrays, rowsOf};
 ghost use Rattle.codec.specs.Reading.{along, alongAll};
+ghost use Rattle.codec.specs.EdgeRuns.{Laid};
 ghost use Rattle.codec.specs.StateSets.{statesIn};
 
 // The set of all states.
@@ -16,27 +17,28 @@ fn step_by(
     n: usize,
     word: &[u8; 2048],
     next: &[u8; 2048],
-    head: &[u16; 256],
-    link: &[u16; 2048],
+    start: &[u16; 257],
+    order: &[u16; 2048],
     set: &[bool; 128],
     w: u8,
     out: &mut [bool; 128],
 )
-    requires { ⌜ Linked (arrays states n (now word) (now next)) (now head) (now link) ⌝ }
+    requires { ⌜ Laid (arrays states n (now word) (now next)) (now start) (now order) ⌝ }
     ensures written { λ r. ⌜
         statesIn states (now (out .exit))
         ≡ along (rowsOf (arrays states n (now (word .entry)) (now (next .entry))))
         (statesIn states (now (set .entry))) w ⌝ }
 {
     *out = [false; 128];
-    let mut cur = head[w as usize] as usize;
-    while 0 < cur {
-        let e = cur - 1;
+    let mut k = start[w as usize] as usize;
+    let end = start[w as usize + 1] as usize;
+    while k < end {
+        let e = order[k] as usize;
         if set[e / 16] {
             let y = next[e] as usize;
             out[y] = true;
         }
-        cur = link[e] as usize;
+        k += 1;
     }
 }
 
@@ -47,8 +49,8 @@ fn step_odd(
     n: usize,
     word: &[u8; 2048],
     next: &[u8; 2048],
-    head: &[u16; 256],
-    link: &[u16; 2048],
+    start: &[u16; 257],
+    order: &[u16; 2048],
     set: &[bool; 128],
     words: &[u8],
     from: usize,
@@ -56,7 +58,7 @@ fn step_odd(
     out: &mut [bool; 128],
 ) -> usize
     requires { ⌜
-        Linked (arrays states n (now word) (now next)) (now head) (now link) × (from ≤ to)
+        Laid (arrays states n (now word) (now next)) (now start) (now order) × (from ≤ to)
         × (to ≤ length (now words)) ⌝ }
     ensures answer { λ r. ⌜ (r ≤ to) × ((to - r) % 2 ≡ 0) ⌝ }
     ensures written { λ r. ⌜
@@ -69,7 +71,7 @@ fn step_odd(
         *out = *set;
         return from;
     }
-    step_by(states, n, word, next, head, link, set, words[from], out);
+    step_by(states, n, word, next, start, order, set, words[from], out);
     from + 1
 }
 
@@ -79,8 +81,8 @@ pub fn step_all(
     n: usize,
     word: &[u8; 2048],
     next: &[u8; 2048],
-    head: &[u16; 256],
-    link: &[u16; 2048],
+    start: &[u16; 257],
+    order: &[u16; 2048],
     set: &[bool; 128],
     words: &[u8],
     from: usize,
@@ -88,7 +90,7 @@ pub fn step_all(
     out: &mut [bool; 128],
 )
     requires { ⌜
-        Linked (arrays states n (now word) (now next)) (now head) (now link) × (from ≤ to)
+        Laid (arrays states n (now word) (now next)) (now start) (now order) × (from ≤ to)
         × (to ≤ length (now words)) ⌝ }
     ensures written { λ r. ⌜
         statesIn states (now (out .exit))
@@ -96,10 +98,10 @@ pub fn step_all(
         (statesIn states (now (set .entry))) (slice from to (now (words .entry))) ⌝ }
 {
     let mut spare = [false; 128];
-    let mut j = step_odd(states, n, word, next, head, link, set, words, from, to, out);
+    let mut j = step_odd(states, n, word, next, start, order, set, words, from, to, out);
     while j < to {
-        step_by(states, n, word, next, head, link, out, words[j], &mut spare);
-        step_by(states, n, word, next, head, link, &spare, words[j + 1], out);
+        step_by(states, n, word, next, start, order, out, words[j], &mut spare);
+        step_by(states, n, word, next, start, order, &spare, words[j + 1], out);
         j += 2;
     }
 }

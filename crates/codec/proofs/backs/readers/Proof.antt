@@ -15,12 +15,12 @@ use Rattle.codec.proofs.backs.readers.Statement.{statement}
 use Rattle.codec.proofs.backs.readers.Tie as tie
 
 abbrev Inv-loop : tie.InvT-loop
-Inv-loop states n word next head link words from to out₀ spare₀ j₀ out spare j =
+Inv-loop states n word next start order words from to out₀ spare₀ j₀ out spare j =
     (from ≤ j) × (j ≤ to) × ((j - from) % 2 ≡ 0)
     × (statesIn states out ≡ able (rowsOf (arrays states n word next)) (slice j to words))
 
 abbrev μ-loop : tie.MeasureT-loop
-μ-loop states n word next head link words from to out₀ spare₀ j₀ out spare j = j
+μ-loop states n word next start order words from to out₀ spare₀ j₀ out spare j = j
 
 abbrev start : tie.At-loop Inv-loop μ-loop → tie.Start Inv-loop μ-loop
 start c = c .before .before .before .before

@@ -1,4 +1,4 @@
--- The checks in their order, then the blocks by the chains of the table's edges.
+-- The checks in their order, then the blocks by the runs of the table's edges.
 use mathlib.Core.Path.{_≡_, sym, subst, _∙_}
 use mathlib.Core.Bool.{true}
 use Prim.Native.Nat.{_-_}
@@ -81,15 +81,15 @@ returns-4 c =
 ways-requires : tie.Need-ways-requires
 ways-requires c κs = ready-table (c .before .before .before .before .before) .narrow
 
-chain-requires : tie.Need-chain-requires
-chain-requires c κs = fits (c .before .before .before .before)
+lay-requires : tie.Need-lay-requires
+lay-requires c κs = fits (c .before .before .before .before)
 
 read-blocks-requires : tie.Need-read-blocks-requires
 read-blocks-requires c κs =
     let h = c .before .before .before .before .before .before .before in
     let w = h .before .before .before .before .before in
     let i = w .before .before .before .before in
-    (record { fits = fits w; chained = h .chain .ensures }, omega (arith, i .before .if2 .left), i .if3 .left)
+    (h .lay .ensures, omega (arith, i .before .if2 .left), i .if3 .left)
 
 same-length : tie.Need-same-length
 same-length c = search needs
@@ -125,7 +125,7 @@ decode-with-spec =
     first-bad-requires
     returns-4
     ways-requires
-    chain-requires
+    lay-requires
     read-blocks-requires
     same-length
     returns-5)

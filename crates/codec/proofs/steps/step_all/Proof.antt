@@ -15,13 +15,13 @@ use Rattle.codec.proofs.steps.step_all.Statement.{statement}
 use Rattle.codec.proofs.steps.step_all.Tie as tie
 
 abbrev Inv-loop : tie.InvT-loop
-Inv-loop states n word next head link set words from to out₀ spare₀ j₀ out spare j =
+Inv-loop states n word next start order set words from to out₀ spare₀ j₀ out spare j =
     (j ≤ to) × ((to - j) % 2 ≡ 0)
     × (alongAll (rowsOf (arrays states n word next)) (statesIn states set) (slice from to words)
     ≡ alongAll (rowsOf (arrays states n word next)) (statesIn states out) (slice j to words))
 
 abbrev μ-loop : tie.MeasureT-loop
-μ-loop states n word next head link set words from to out₀ spare₀ j₀ out spare j = to - j
+μ-loop states n word next start order set words from to out₀ spare₀ j₀ out spare j = to - j
 
 abbrev start : tie.At-loop Inv-loop μ-loop → tie.Start Inv-loop μ-loop
 start c = c .before .before .before .before
