@@ -1,8 +1,9 @@
 -- Laws of runs of edges.
--- In order: count-more, count-below, before-more, before-zero, before-le, numbers of edges; above-first, above-next; run-start,
--- run-same, run-more; laying-start, laying-more, the runs of one word more; RunOf, run-of, the run of one word.
+-- In order: count-more, count-below, count-none, before-more, before-zero, before-le, numbers of edges; above-first,
+-- above-next; run-start, run-same, run-more; laying-start, laying-more, the runs of one word more; RunOf, run-of, the
+-- run of one word.
 -- Assumes nothing.
-use mathlib.Core.Path.{_≡_, refl, sym, ap, ap₂, _∙_}
+use mathlib.Core.Path.{_≡_, refl, sym, ap, _∙_}
 use mathlib.Core.Logic.{_⊎_, inl, inr}
 use mathlib.Core.Bool.{Bool, true, false}
 use mathlib.Core.List.{List}
@@ -15,7 +16,7 @@ use lib.Dec.{eqb}
 use lib.ListN.{length, getD, set, replicate, getD-replicate}
 use lib.Seq.{getD-set-same, getD-set-other}
 use Rattle.laws.specs.Lists.{if_then_else_}
-use Rattle.table.specs.Edges.{Arrays, places, wordOf, Fits, bears, lastBelow}
+use Rattle.table.specs.Edges.{Arrays, places, wordOf, bears, lastBelow}
 use Rattle.table.proofs.Edges.{bears-word}
 use Rattle.codec.specs.EdgeRuns.{count, before, above, Run, Laying, Laid}
 
@@ -72,8 +73,10 @@ grown t b (suc w) = go (bears t w b) refl (grown t b w)
         → (before t (suc w) (suc b) ≡ before t (suc w) b)
         ⊎ ((wordOf t b < suc w) × (before t (suc w) (suc b) ≡ before t (suc w) b + 1))
     go true e (inl q) =
-        inr (omega (arith, bears-word t w b e),
-        omega (arith, q, before-suc t w b, before-suc t w (suc b), count-in t w b e))
+        inr (
+          omega (arith, bears-word t w b e),
+          omega (arith, q, before-suc t w b, before-suc t w (suc b), count-in t w b e),
+        )
     go true e (inr (h, q)) = absurd (omega (arith, h, bears-word t w b e))
     go false e (inl q) = inl (omega (arith, q, before-suc t w b, before-suc t w (suc b), count-out t w b e))
     go false e (inr (h, q)) =

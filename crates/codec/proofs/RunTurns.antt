@@ -1,6 +1,6 @@
 -- Loops along the run of a word, from its last edge to its first.
--- In order: OnRun, a place of the run; on-start, on-next, on-edge, on-inside; left-enter to left-end, marks; first-enter
--- to first-end, the first edge that passes.
+-- In order: OnRun, a place of the run, with on-start, on-inside, on-edge, on-next; turn-put, turn-skip, turns-done,
+-- marks; first-yes, first-no, first-end, the first edge that passes; marks-start, firsts-start.
 -- Assumes nothing.
 use mathlib.Core.Path.{_≡_, sym, ap, subst, _∙_}
 use mathlib.Core.Bool.{Bool, true, false}
@@ -10,11 +10,11 @@ use native.Mathlib.Omega.{arith}
 use native.Mathlib.Decide.{ℕ-discrete}
 use lib.Dec.{eqb}
 use lib.ListN.{length, getD, set}
-use Rattle.table.specs.Marks.{some, Marked}
+use Rattle.table.specs.Marks.{Marked}
 use Rattle.table.specs.Edges.{Arrays, places, bears, lastBelow}
-use Rattle.table.proofs.Marks.{Left, left-start, left-jump, left-put, left-skip, left-done}
+use Rattle.table.proofs.Marks.{Left, left-jump, left-put, left-skip, left-done}
 use Rattle.table.proofs.Edges.{on-le, on-bears, on-some, on-gap}
-use Rattle.codec.specs.EdgeRuns.{above, Run}
+use Rattle.codec.specs.EdgeRuns.{above}
 use Rattle.codec.proofs.EdgeRuns.{above-first, above-next, RunOf}
 use Rattle.codec.proofs.FirstReading.{FirstFrom, first-start, first-jump, first-take}
 
@@ -62,7 +62,8 @@ module _ (t : Arrays) (w : ℕ) (order : List ℕ) (first to : ℕ) (r : RunOf t
             left-jump S hit n (above t order first k) R m (getD order k 0 + 1)
             (λ x. on-some t w (above t order first k) (getD order k 0 + 1) (next-on l) (hit x) (only x))
 
-        leave : (R′ : List Bool) → Left S hit n (getD order k 0 + 1 - 1) R′ → Left S hit n (above t order first (k + 1)) R′
+        leave : (R′ : List Bool) → Left S hit n (getD order k 0 + 1 - 1) R′
+            → Left S hit n (above t order first (k + 1)) R′
         leave R′ p =
             let q : getD order k 0 + 1 - 1 ≡ getD order k 0 = omega arith in
             subst (λ c. Left S hit n c R′) (q ∙ sym (above-next t order first k (o .low))) p
@@ -102,7 +103,8 @@ module _ (t : Arrays) (w : ℕ) (order : List ℕ) (first to : ℕ) (r : RunOf t
         pub first-no : f (getD order k 0) ≡ false → FirstFrom f (places t) (above t order first (k + 1)) v
         first-no e =
             first-leave v (first-jump f (places t) (above t order first k) v m (getD order k 0)
-            (omega (arith, on-le t w (above t order first k) _ (next-on l))) (λ g a b. go g a b (ℕ-discrete g (getD order k 0))))
+            (omega (arith, on-le t w (above t order first k) _ (next-on l)))
+            (λ g a b. go g a b (ℕ-discrete g (getD order k 0))))
           where
             go : (g : ℕ) → getD order k 0 ≤ g → g < above t order first k → Dec (g ≡ getD order k 0) → f g ≡ false
             go g a b (yes d) = ap f d ∙ e

@@ -116,7 +116,17 @@ pub fn readers(
             words[j - 1],
             &mut spare,
         );
-        back_by(states, n, word, next, start, order, &spare, words[j - 2], out);
+        back_by(
+            states,
+            n,
+            word,
+            next,
+            start,
+            order,
+            &spare,
+            words[j - 2],
+            out,
+        );
         j -= 2;
     }
 }

@@ -87,7 +87,19 @@ fn past_set(
     if i < m {
         let mut one = [false; 128];
         one[0] = true;
-        step_all(states, n, word, next, start, order, &one, words, from, i, out);
+        step_all(
+            states,
+            n,
+            word,
+            next,
+            start,
+            order,
+            &one,
+            words,
+            from,
+            i,
+            out,
+        );
         return;
     }
     step_all(

@@ -98,10 +98,42 @@ pub fn step_all(
         (statesIn states (now (set .entry))) (slice from to (now (words .entry))) ⌝ }
 {
     let mut spare = [false; 128];
-    let mut j = step_odd(states, n, word, next, start, order, set, words, from, to, out);
+    let mut j = step_odd(
+        states,
+        n,
+        word,
+        next,
+        start,
+        order,
+        set,
+        words,
+        from,
+        to,
+        out,
+    );
     while j < to {
-        step_by(states, n, word, next, start, order, out, words[j], &mut spare);
-        step_by(states, n, word, next, start, order, &spare, words[j + 1], out);
+        step_by(
+            states,
+            n,
+            word,
+            next,
+            start,
+            order,
+            out,
+            words[j],
+            &mut spare,
+        );
+        step_by(
+            states,
+            n,
+            word,
+            next,
+            start,
+            order,
+            &spare,
+            words[j + 1],
+            out,
+        );
         j += 2;
     }
 }

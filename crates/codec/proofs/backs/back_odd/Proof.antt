@@ -7,7 +7,7 @@ use lib.ListN.{getD}
 use lib.Seq.{slice}
 use Rattle.table.specs.Edges.{arrays, rowsOf}
 use Rattle.table.proofs.RowsOf.{length-rows}
-use Rattle.codec.specs.Reading.{back, able, everyState}
+use Rattle.codec.specs.Reading.{back, able}
 use Rattle.codec.proofs.StateSteps.{states-every}
 use Rattle.codec.proofs.Windowed.{able-first, able-end}
 use borrow.Author.Needs.{needs}

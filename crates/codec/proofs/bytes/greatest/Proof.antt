@@ -40,8 +40,12 @@ loop-again c =
     let l = i .before .loop in
     let e = c .larger .ensures in (
       omega arith,
-      λ n h. omega (arith, l .inv .1 n (omega (arith, e .0)), bad-later n xs (l .i) (i .loop-test .taken)
-          (omega (arith, e .1))),
+      λ n h. omega (
+        arith,
+        l .inv .1 n (omega (arith, e .0)),
+        bad-later n xs (l .i) (i .loop-test .taken)
+            (omega (arith, e .1)),
+      ),
     )
 
 returns : tie.Need-returns Inv-loop μ-loop

@@ -17,7 +17,6 @@ use Rattle.codec.specs.With.{decodedWith}
 use Rattle.codec.proofs.Tabled.{declined, finished, decode-7, decode-12, decode-13, decode-11, decode-done}
 use Rattle.codec.proofs.Windowed.{length-decode, decoded-in}
 use borrow.Author.Needs.{needs}
-use borrow.Author.Needs.{needs}
 use Rattle.codec.proofs.decoding.decode_with.Statement.{statement}
 use Rattle.codec.proofs.decoding.decode_with.Tie as tie
 

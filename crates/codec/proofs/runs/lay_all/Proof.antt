@@ -5,7 +5,7 @@ use native.Mathlib.Omega.{arith}
 use denote.Ref.{now}
 use lib.ListN.{length, length-set, length-replicate}
 use Rattle.table.specs.Edges.{Arrays, arrays}
-use Rattle.codec.specs.EdgeRuns.{count, before, Run, Laying}
+use Rattle.codec.specs.EdgeRuns.{count, before, Laying}
 use Rattle.codec.proofs.EdgeRuns.{before-more, before-zero, before-le, laying-start, laying-more}
 use borrow.Author.Needs.{needs}
 use Rattle.codec.proofs.runs.lay_all.Statement.{statement}
