@@ -1,7 +1,7 @@
 -- How the code tests that recordings obey the constraint. The pair of table state s and constraint state k has the
 -- place s * 16 + k, below 2,048; the arrays are the table's words and next states and the power table in bytes.
--- In order: stateAfter, pairAfter, one edge; Reached, the places that recordings reach; absent, Queue, Grown, the list of
--- places still to be followed; findsAt, Followed, the test; Followable, what the test needs.
+-- In order: stateAfter, pairAfter, one edge; Reached, the places that recordings reach; absent, Queue, Grown, the list
+-- of places still to be followed; findsAt, Followed, the test; Followable, what the test needs.
 -- Assumes nothing.
 use mathlib.Core.Path.{_≡_}
 use mathlib.Core.Logic.{_⊎_}

@@ -90,13 +90,7 @@ fn finds_all(word: &[u8; 2048], power: &[u8; 4096], n: usize, x: usize) -> bool
 
 // The words of all places that recordings reach find their way, where start is the place of the pair in which they
 // start.
-fn follow(
-    word: &[u8; 2048],
-    next: &[u8; 2048],
-    power: &[u8; 4096],
-    n: usize,
-    start: usize,
-) -> bool
+fn follow(word: &[u8; 2048], next: &[u8; 2048], power: &[u8; 4096], n: usize, start: usize) -> bool
     requires { ⌜ (start < 2048) × (n ≤ 16) ⌝ }
     ensures answer { λ r. ⌜ Followed (pairAfter (now (word .entry)) (now (next .entry)) (now (power .entry)))
         (findsAt (now (word .entry)) (now (power .entry))) n start r ⌝ }

@@ -145,10 +145,33 @@ fn least(
     let mut stop: usize = 16;
     let mut m = 0;
     while m < stop {
-        let b = better(states, n, word, next, head, link, &past, best, m, &mut set, &mut spare);
+        let b = better(
+            states,
+            n,
+            word,
+            next,
+            head,
+            link,
+            &past,
+            best,
+            m,
+            &mut set,
+            &mut spare,
+        );
         best = b;
         m += 1;
-        stop = stop_at(states, n, word, next, head, link, m, stop_of(b), &mut past, &mut spare);
+        stop = stop_at(
+            states,
+            n,
+            word,
+            next,
+            head,
+            link,
+            m,
+            stop_of(b),
+            &mut past,
+            &mut spare,
+        );
     }
     best
 }

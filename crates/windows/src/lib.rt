@@ -135,9 +135,30 @@ fn works_by(
 {
     let mut past = [true; 16384];
     let mut hits = [false; 16384];
-    after(states, n, word, next, head, link, memory, &mut past, &mut hits);
+    after(
+        states,
+        n,
+        word,
+        next,
+        head,
+        link,
+        memory,
+        &mut past,
+        &mut hits,
+    );
     clashes(states, n, word, next, head, link, &past, &mut hits);
-    emptied(states, n, word, next, head, link, lookahead, &mut hits, &mut past) <= lookahead
+    emptied(
+        states,
+        n,
+        word,
+        next,
+        head,
+        link,
+        lookahead,
+        &mut hits,
+        &mut past,
+    )
+        <= lookahead
 }
 
 // The window with this memory and lookahead does what a window must.

@@ -36,7 +36,8 @@ emptied-requires : tie.Need-emptied-requires
 emptied-requires c κs =
     let k = c .before .before in
     let a = k .before .before .before in
-    (a .before .before .before .pre .0, a .before .before .before .pre .1, k .clashes .ensures .0, a .after .ensures .1 .0)
+    let s = a .before .before .before in
+    (s .pre .0, s .pre .1, k .clashes .ensures .0, a .after .ensures .1 .0)
 
 returns : tie.Need-returns
 returns c =
