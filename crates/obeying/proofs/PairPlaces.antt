@@ -1,5 +1,5 @@
 -- The places of pairs stand for the pairs of the definition `obeys`, so the test of the reached places decides it.
--- In order: formed-followable; stateOf, pairOf and their laws, one edge; reached-has; obeys-is.
+-- In order: stateOf, pairOf and their laws, one edge; reached-has; obeys-is.
 -- Assumes nothing.
 use mathlib.Core.Path.{_≡_, refl, sym, ap, ap₂, subst, subst₂, _∙_}
 use mathlib.Core.Logic.{inl, inr}
@@ -23,7 +23,6 @@ use Rattle.constraint.proofs.PowerTable.{codes-at}
 use Rattle.table.specs.declared.Table.{Table}
 use Rattle.table.specs.Rows.{Edge, at}
 use Rattle.table.specs.Value.{wordAt, nextAt, rowsIn, codeIn, Ready}
-use Rattle.table.specs.Formed.{Formed}
 use Rattle.table.specs.Obeys.{reachedPairs, obeys}
 use Rattle.table.specs.Edges.{lent}
 use Rattle.table.proofs.Shape.{inside}
@@ -32,14 +31,6 @@ use Rattle.table.proofs.Reached.{reached-lt, reached-start, reached-step}
 use Rattle.table.proofs.AnyClosure.{obeys-by, disobeys-by}
 use Rattle.obeying.specs.Obeying.{stateAfter, pairAfter, Reached, findsAt, Followed, Followable}
 use Rattle.obeying.specs.Obeying.Reached.{origin, carried}
-
--- a table whose fields are in range can be followed
-pub formed-followable : (t : Table) → Ready t → Formed (codeIn t) → Followable t
-formed-followable t r f = record {
-  ready = r;
-  nexts = f .nexts;
-  begin = rw (length-constraintOf (t .constraint)) at (f .range .start);
-}
 
 -- ---- one edge from the pair of s and k
 abbrev powerIn : Table → List ℕ

@@ -26,7 +26,7 @@ later-trans x y z (inr h) (inl k) = inl (omega (arith, h .0))
 later-trans x y z (inr h) (inr k) = inr (h .0 ∙ k .0, omega (arith, h .1, k .1))
 
 module _ (t : Rows) where
-  pub lead-start : Leading t 0 (size 16 16)
+  pub lead-start : Leading t 0 noSize
   lead-start = record { better = λ w h l k. absurd (omega arith); known = inl refl }
 
   -- the numbers of the best so far

@@ -3,7 +3,7 @@ ghost use mathlib.Core.Path.{_≡_};
 ghost use mathlib.Core.Logic.{_⊎_};
 ghost use Prim.Native.Nat.{_+_, _≤_, _<_};
 ghost use Rattle.table.specs.Value.{Ready, rowsIn};
-ghost use Rattle.table.specs.Search.{window, pasts};
+ghost use Rattle.table.specs.Search.{noSize, window, pasts};
 ghost use Rattle.table.specs.Edges.{arrays, rowsOf, Linked};
 ghost use Rattle.windows.specs.PairSets.{pairsIn, Long};
 ghost use Rattle.windows.specs.Steps.{size, withWord, Leading, Room, foundSize};
@@ -24,6 +24,16 @@ struct Best {
 pub enum Found {
     None,
     Window(usize, usize),
+}
+
+// No window.
+fn no_window() -> Best
+    ensures answer { λ r. ⌜ size (r .memory) (r .lookahead) ≡ noSize ⌝ }
+{
+    Best {
+        memory: 16,
+        lookahead: 16,
+    }
 }
 
 // The most lookahead with which memory m can be better than the best so far.
@@ -138,10 +148,7 @@ fn least(
     let mut past = [true; 16384];
     let mut set = [false; 16384];
     let mut spare = [false; 16384];
-    let mut best = Best {
-        memory: 16,
-        lookahead: 16,
-    };
+    let mut best = no_window();
     let mut stop: usize = 16;
     let mut m = 0;
     while m < stop {

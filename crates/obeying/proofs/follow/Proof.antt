@@ -70,7 +70,7 @@ cast-x : tie.Need-cast-x Inv-loop μ-loop
 cast-x c = omega (arith, place-on c)
 
 finds-all-requires : tie.Need-finds-all-requires Inv-loop μ-loop
-finds-all-requires c κs = (place-on c, c .before .loop .inv .0)
+finds-all-requires c κs = (place-on c, omega (arith, c .before .loop .inv .0))
 
 returns : tie.Need-returns Inv-loop μ-loop
 returns c =

@@ -1,6 +1,6 @@
 -- While the search goes on, the best window with memory below m and the pairs of memory m are known; at its end, the
 -- best is the least.
-use mathlib.Core.Path.{_≡_, sym, _∙_}
+use mathlib.Core.Path.{_≡_, sym, subst, _∙_}
 use mathlib.Core.Bool.{true, false}
 use Prim.Native.Nat.{_+_, _-_, _≤_, _<_}
 use native.Mathlib.Omega.{arith}
@@ -34,16 +34,20 @@ abbrev μ-loop : tie.MeasureT-loop
 abbrev table : tie.Start Inv-loop μ-loop → Arrays
 table s = arrays (s .args .states) (s .args .n) (now (s .args .word)) (now (s .args .next))
 
+no-window-requires : tie.Need-no-window-requires Inv-loop μ-loop
+no-window-requires c κs = search needs
+
 loop-holds : tie.Need-loop-holds Inv-loop μ-loop
 loop-holds c =
-    let t = table c in
-    let few = c .pre .fits .few in (
+    let s = c .before in
+    let t = table s in
+    let few = s .pre .fits .few in (
       omega arith,
       omega arith,
       (λ l. (
         omega arith,
-        all-of (rowsOf t) (c .args .states) 16384 (length-rows t) few (omega arith) ∙ sym (pasts-none (rowsOf t)),
-        lead-start (rowsOf t),
+        all-of (rowsOf t) (s .args .states) 16384 (length-rows t) few (omega arith) ∙ sym (pasts-none (rowsOf t)),
+        subst (Leading (rowsOf t) 0) (sym (c .no-window .ensures)) (lead-start (rowsOf t)),
       )),
       (λ l. absurd (omega arith)),
       length-replicate 16384 true,
@@ -56,7 +60,7 @@ better-requires c κs =
     let i = c .before .before .before in
     let v = i .before .loop .inv in
     let k = v .2 (i .loop-test .taken) in
-    (i .before .before .pre, omega arith, k .0, k .1, k .2, v .5, v .6)
+    (i .before .before .before .pre, omega arith, k .0, k .1, k .2, v .5, v .6)
 
 add-m : tie.Need-add-m Inv-loop μ-loop
 add-m c = search needs
@@ -64,13 +68,13 @@ add-m c = search needs
 stop-of-requires : tie.Need-stop-of-requires Inv-loop μ-loop
 stop-of-requires c κs =
     let a = c .before .before .before .before .before in
-    lead-small (rowsOf (table (a .before))) (a .loop .m + 1) _ (omega arith) (c .better .ensures .0)
+    lead-small (rowsOf (table (a .before .before))) (a .loop .m + 1) _ (omega arith) (c .better .ensures .0)
 
 stop-at-requires : tie.Need-stop-at-requires Inv-loop μ-loop
 stop-at-requires c κs =
     let b = c .before .before .before in
     let a = b .before .before .before .before .before in
-    (a .before .pre, a .loop .inv .4, b .better .ensures .1 .1)
+    (a .before .before .pre, a .loop .inv .4, b .better .ensures .1 .1)
 
 loop-less : tie.Need-loop-less Inv-loop μ-loop
 loop-less c = search needs
@@ -81,7 +85,7 @@ loop-again c =
     let b = o .before in
     let i = b .before .before .before .before in
     let l = i .before .loop in
-    let s = i .before .before in
+    let s = i .before .before .before in
     let t = table s in
     let k = l .inv .2 (i .loop-test .taken) in
     let e = o .stop-of .ensures in
@@ -107,6 +111,7 @@ least-spec =
     (tie.spec
     Inv-loop
     μ-loop
+    no-window-requires
     loop-holds
     better-requires
     add-m
