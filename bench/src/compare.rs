@@ -61,6 +61,20 @@ fn check(record: &[u8]) -> u64 {
     ours.0
 }
 
+/// A set of some records, some of them damaged, and the set sometimes damaged as a whole.
+fn set(numbers: &mut Numbers, records: &[(Vec<u8>, usize, usize)]) -> u64 {
+    let mut chosen = Vec::new();
+    for _ in 0..numbers.below(6) {
+        let record = &records[numbers.below(records.len())].0;
+        chosen.push(if numbers.below(8) == 0 { damaged(numbers, record) } else { record.clone() });
+    }
+    let bytes = reference::sets::pack(&chosen);
+    let bytes = if numbers.below(3) == 0 { damaged(numbers, &bytes) } else { bytes };
+    let ours = library::set(&bytes);
+    agree("set", &bytes, ours, &[], &Answer { output: Vec::new(), ..reference::calls::set(&bytes) });
+    ours.0
+}
+
 fn encode(numbers: &mut Numbers, record: &[u8], p: usize) -> u64 {
     let mut blocks: Vec<u8> = (0..numbers.below(40)).map(|_| numbers.below(1 << p) as u8).collect();
     if numbers.below(4) == 0 {
@@ -104,8 +118,13 @@ fn compile(numbers: &mut Numbers) -> u64 {
     agree("run-length", &run_length, answer, &out, &reference::calls::compile_run_length(&run_length, out.len()));
     let mut out = vec![0xa5; 30000];
     let listed = library::listing(&run_length, &mut out);
+    let theirs = reference::calls::listing(&run_length, out.len());
     if listed.0 == 0 {
-        agree("listing", &run_length, listed, &out, &reference::calls::listing(&run_length, out.len()));
+        agree("listing", &run_length, listed, &out, &theirs);
+    } else {
+        // The outside implementation answers what the program prints; the call answers the refusal.
+        assert_eq!(theirs.output, format!("refused {}\n", listed.0).into_bytes(), "listing of {run_length:02x?}");
+        assert!(out.iter().all(|&b| b == 0xa5), "listing of {run_length:02x?}: bytes lent");
     }
     ours.0
 }
@@ -119,7 +138,8 @@ pub fn for_seconds(seconds: u64) {
     while Instant::now() < end {
         let (record, p, q) = &records[numbers.below(records.len())];
         let bytes = if numbers.below(8) == 0 { damaged(&mut numbers, record) } else { record.clone() };
-        let refusal = match numbers.below(4) {
+        let refusal = match numbers.below(5) {
+            4 => set(&mut numbers, &records),
             3 => compile(&mut numbers),
             0 => check(&damaged(&mut numbers, record)),
             1 => encode(&mut numbers, &bytes, *p),

@@ -1,6 +1,7 @@
 //! The proved library's exported functions, behind safe ones.
 extern "C" {
     fn sbc_check(record: *const u8, length: usize) -> u64;
+    fn sbc_set(set: *const u8, length: usize) -> u64;
     fn sbc_encode(r: *const u8, rl: usize, blocks: *const u8, bl: usize, out: *mut u8, ol: usize) -> u64;
     fn sbc_decode(r: *const u8, rl: usize, words: *const u8, wl: usize, out: *mut u8, ol: usize) -> u64;
     fn sbc_compile(job: *const u8, jl: usize, out: *mut u8, ol: usize) -> u64;
@@ -18,6 +19,11 @@ pub fn parts(word: u64) -> (u64, u64) {
 /// Whether a record is accepted.
 pub fn check(record: &[u8]) -> (u64, u64) {
     parts(unsafe { sbc_check(record.as_ptr(), record.len()) })
+}
+
+/// Whether a set of records is good.
+pub fn set(set: &[u8]) -> (u64, u64) {
+    parts(unsafe { sbc_set(set.as_ptr(), set.len()) })
 }
 
 /// Blocks recorded under a record.

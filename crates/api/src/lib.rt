@@ -7,8 +7,11 @@ ghost use Rattle.record.specs.Checks.{checkedOnly};
 ghost use Rattle.codec.specs.Answers.{encodeUnder, decodeUnder};
 ghost use Rattle.compiler.specs.Compile.{compileJob, compileRunLength};
 ghost use Rattle.compiler.specs.Listing.{listInto};
-ghost use Rattle.api.specs.Words.{held, wordOf};
+ghost use Rattle.sets.specs.Sets.{readSet};
+ghost use Rattle.sets.specs.Results.{setAnswer};
+ghost use Rattle.api.specs.Words.{held, joined, wordOf, setWordOf};
 use answer::Answer;
+use sets::SetAnswer;
 
 // A value, held to 2^56 - 1.
 fn hold(value: usize) -> u64
@@ -20,13 +23,26 @@ fn hold(value: usize) -> u64
     72057594037927935
 }
 
+// A number times 2^56 plus a value. The premise holds of every answer: there are 13 refusals.
+fn join(number: u64, value: usize) -> u64
+    requires { ⌜ number ≤ 13 ⌝ }
+    ensures answer { λ r. ⌜ r ≡ joined number value ⌝ }
+{
+    number * 72057594037927936 + hold(value)
+}
+
 // An answer as one number: the refusal's number times 2^56 plus the value.
 fn word(a: Answer) -> u64
     ensures answer { λ r. ⌜ r ≡ wordOf a ⌝ }
 {
-    let number = answer::answer_number(a);
-    let value = hold(answer::answer_value(a));
-    number * 72057594037927936 + value
+    join(answer::answer_number(a), answer::answer_value(a))
+}
+
+// A set's answer as one number: the refusal's number times 2^56 plus the value.
+fn set_word(a: SetAnswer) -> u64
+    ensures answer { λ r. ⌜ r ≡ setWordOf a ⌝ }
+{
+    join(sets::walking::set_number(a), sets::walking::set_value(a))
 }
 
 // Whether a record is accepted: refusals 8, 7, 8, 7, 9, 10 in this order, or 0.
@@ -37,18 +53,24 @@ pub extern "C" fn sbc_check(bytes: &[u8]) -> u64
     word(record::loading::check(bytes))
 }
 
+// Whether a set of records is good: 8 with number 0 for no bytes at all; then, record by record, 8 if its length or
+// bytes are cut off, else the record's refusals, with the record's number; 8 with the count for bytes left over;
+// otherwise the count.
+#[no_mangle]
+pub extern "C" fn sbc_set(set: &[u8]) -> u64
+    ensures answer { λ r. ⌜ r ≡ setWordOf (setAnswer (readSet (now (set .entry)))) ⌝ }
+{
+    set_word(sets::walking::check_set(set))
+}
+
 // Blocks recorded under a record: the record's refusals, 13, 11 with the place of the first bad block; otherwise how
 // many words were written. A refusal changes no byte of the output, and bytes past the words stay as lent.
 #[no_mangle]
 pub extern "C" fn sbc_encode(bytes: &[u8], blocks: &[u8], out: &mut [u8]) -> u64
-    ensures answer {
-        λ r. ⌜ r ≡ wordOf (answerOf
-        (encodeUnder (now (bytes .entry)) (length (now (out .entry))) (now (blocks .entry)))) ⌝
-    }
-    ensures written {
-        λ r. ⌜ now (out .exit) ≡ outputOf
-        (encodeUnder (now (bytes .entry)) (length (now (out .entry))) (now (blocks .entry))) (now (out .entry)) ⌝
-    }
+    ensures answer { λ r. ⌜ r ≡ wordOf (answerOf
+        (encodeUnder (now (bytes .entry)) (length (now (out .entry))) (now (blocks .entry)))) ⌝ }
+    ensures written { λ r. ⌜ now (out .exit) ≡ outputOf
+        (encodeUnder (now (bytes .entry)) (length (now (out .entry))) (now (blocks .entry))) (now (out .entry)) ⌝ }
 {
     word(codec::encoding::encode(bytes, blocks, out))
 }
@@ -57,14 +79,10 @@ pub extern "C" fn sbc_encode(bytes: &[u8], blocks: &[u8], out: &mut [u8]) -> u64
 // many blocks were written. A refusal changes no byte of the output, and bytes past the blocks stay as lent.
 #[no_mangle]
 pub extern "C" fn sbc_decode(bytes: &[u8], words: &[u8], out: &mut [u8]) -> u64
-    ensures answer {
-        λ r. ⌜ r ≡ wordOf (answerOf
-        (decodeUnder (now (bytes .entry)) (length (now (out .entry))) (now (words .entry)))) ⌝
-    }
-    ensures written {
-        λ r. ⌜ now (out .exit) ≡ outputOf
-        (decodeUnder (now (bytes .entry)) (length (now (out .entry))) (now (words .entry))) (now (out .entry)) ⌝
-    }
+    ensures answer { λ r. ⌜ r ≡ wordOf (answerOf
+        (decodeUnder (now (bytes .entry)) (length (now (out .entry))) (now (words .entry)))) ⌝ }
+    ensures written { λ r. ⌜ now (out .exit) ≡ outputOf
+        (decodeUnder (now (bytes .entry)) (length (now (out .entry))) (now (words .entry))) (now (out .entry)) ⌝ }
 {
     word(codec::decoding::decode(bytes, words, out))
 }
@@ -74,10 +92,8 @@ pub extern "C" fn sbc_decode(bytes: &[u8], words: &[u8], out: &mut [u8]) -> u64
 #[no_mangle]
 pub extern "C" fn sbc_compile(job: &[u8], out: &mut [u8]) -> u64
     ensures answer { λ r. ⌜ r ≡ wordOf (answerOf (compileJob (now (job .entry)) (length (now (out .entry))))) ⌝ }
-    ensures written {
-        λ r. ⌜ now (out .exit)
-        ≡ outputOf (compileJob (now (job .entry)) (length (now (out .entry)))) (now (out .entry)) ⌝
-    }
+    ensures written { λ r. ⌜ now (out .exit)
+        ≡ outputOf (compileJob (now (job .entry)) (length (now (out .entry)))) (now (out .entry)) ⌝ }
 {
     word(compiler::bytes::compile_job(job, out))
 }
@@ -86,10 +102,8 @@ pub extern "C" fn sbc_compile(job: &[u8], out: &mut [u8]) -> u64
 #[no_mangle]
 pub extern "C" fn sbc_compile_run_length(job: &[u8], out: &mut [u8]) -> u64
     ensures answer { λ r. ⌜ r ≡ wordOf (answerOf (compileRunLength (now (job .entry)) (length (now (out .entry))))) ⌝ }
-    ensures written {
-        λ r. ⌜ now (out .exit)
-        ≡ outputOf (compileRunLength (now (job .entry)) (length (now (out .entry)))) (now (out .entry)) ⌝
-    }
+    ensures written { λ r. ⌜ now (out .exit)
+        ≡ outputOf (compileRunLength (now (job .entry)) (length (now (out .entry)))) (now (out .entry)) ⌝ }
 {
     word(compiler::bytes::compile_run_length(job, out))
 }
@@ -98,10 +112,8 @@ pub extern "C" fn sbc_compile_run_length(job: &[u8], out: &mut [u8]) -> u64
 #[no_mangle]
 pub extern "C" fn sbc_listing(job: &[u8], out: &mut [u8]) -> u64
     ensures answer { λ r. ⌜ r ≡ wordOf (answerOf (listInto (now (job .entry)) (length (now (out .entry))))) ⌝ }
-    ensures written {
-        λ r. ⌜ now (out .exit)
-        ≡ outputOf (listInto (now (job .entry)) (length (now (out .entry)))) (now (out .entry)) ⌝
-    }
+    ensures written { λ r. ⌜ now (out .exit)
+        ≡ outputOf (listInto (now (job .entry)) (length (now (out .entry)))) (now (out .entry)) ⌝ }
 {
     word(compiler::bytes::list_run_length(job, out))
 }

@@ -27,18 +27,18 @@ use mathlib.Core.Logic.{inl}
 use Rattle.table.specs.Rows.{at}
 use Rattle.table.specs.Search.{window}
 use Rattle.graph.specs.declared.Graph.{Graph}
-use Rattle.graph.specs.declared.split_graph.NextGraph.{NextGraph}
-use Rattle.graph.specs.declared.component_graph.ComponentAnswer.{ComponentAnswer}
+use Rattle.graph.specs.declared.NextGraph.{NextGraph}
+use Rattle.component.specs.declared.component_graph.ComponentAnswer.{ComponentAnswer}
 use Rattle.graph.specs.Weights.{weights}
-use Rattle.graph.specs.ComponentParts.{FoundIn}
+use Rattle.component.specs.ComponentParts.{FoundIn}
 use Rattle.graph.specs.Arcs.{Work, out}
 use Rattle.graph.specs.Splitting.{crowded, unfinished, splits, splitAll}
 use Rattle.graph.specs.Invariant.{Inv}
 use Rattle.graph.specs.Value.{arcsIn, workIn}
-use Rattle.graph.specs.PowerTable.{tabled, Powers}
-use Rattle.graph.specs.SplitParts.{Splits, SplitAllInto}
-use Rattle.graph.specs.TableParts.{Finished}
-use Rattle.graph.proofs.CodeTabled.{tabled-power}
+use Rattle.weights.specs.PowerTable.{tabled, Powers}
+use Rattle.splitting.specs.SplitParts.{Splits, SplitAllInto}
+use Rattle.finish.specs.TableParts.{Finished}
+use Rattle.weights.proofs.CodeTabled.{tabled-power}
 use Rattle.graph.proofs.Loop.{splits-off, splitted-end}
 use Rattle.compiler.specs.declared.JobValue.{JobValue}
 use Rattle.compiler.specs.Jobs.{Job, Allowed}

@@ -20,12 +20,12 @@ use Rattle.windows.specs.Steps.{foundSize}
 use Rattle.table.specs.Value.{wordAt, nextAt, rowsIn, codeIn, Ready}
 use Rattle.table.proofs.RowsOf.{length-rows, edge-at}
 use Rattle.graph.specs.declared.Graph.{Graph}
-use Rattle.graph.specs.declared.split_graph.NextGraph.{NextGraph}
-use Rattle.graph.specs.declared.finish_table.TableRows.{TableRows}
+use Rattle.graph.specs.declared.NextGraph.{NextGraph}
+use Rattle.finish.specs.declared.finish_table.TableRows.{TableRows}
 use Rattle.graph.specs.Splitting.{crowded}
 use Rattle.graph.specs.TableOf.{tableOf}
-use Rattle.graph.specs.SplitParts.{SplitAllInto}
-use Rattle.graph.specs.TableParts.{TableIn, rowsOfTable}
+use Rattle.splitting.specs.SplitParts.{SplitAllInto}
+use Rattle.finish.specs.TableParts.{TableIn, rowsOfTable}
 use Rattle.compiler.specs.declared.JobValue.{JobValue}
 use Rattle.compiler.specs.Compile.{tableFor, compile}
 use Rattle.compiler.specs.JobValues.{jobIn, JobReady}

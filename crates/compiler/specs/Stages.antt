@@ -13,8 +13,7 @@ use Rattle.table.specs.declared.Table.{Table}
 use Rattle.table.specs.Rows.{Code}
 use Rattle.table.specs.Search.{window}
 use Rattle.graph.specs.declared.Graph.{Graph}
-use Rattle.graph.specs.Value.{workIn}
-use Rattle.graph.specs.EdgeKeys.{Fits}
+use Rattle.graph.specs.Value.{workIn, Fits}
 use Rattle.compiler.specs.Jobs.{Job}
 use Rattle.compiler.specs.Compile.{ways, componentOf, startOf, compile}
 use Rattle.compiler.specs.Listing.{listing}

@@ -5,9 +5,3 @@ pub mod Splitting
 pub mod TableOf
 pub mod Invariant
 pub mod Value
-pub mod EdgeKeys
-pub mod SplitParts
-pub mod PowerTable
-pub mod ReachSets
-pub mod ComponentParts
-pub mod TableParts

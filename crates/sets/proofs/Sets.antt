@@ -1,6 +1,6 @@
 -- A set of accepted codes, written and walked, gives the codes; and a set that the walk accepts is what its codes are
 -- written as.
--- In order: set-back, Whole, set-canonical.
+-- In order: set-back; next→; Whole, set-canonical.
 -- Assumes nothing.
 use mathlib.Core.Path.{_≡_, refl, sym, ap, ap₂, subst, _∙_}
 use mathlib.Core.Bool.{Bool, true, false}
@@ -51,7 +51,7 @@ also→ : (c : Code) (w : Walk) (cs : List Code) → also c w ≡ codes cs
 also→ c (codes ds) cs e = (ds, refl, (cc))
 also→ c (stopped i r) cs e = never (cc)
 
-next→ : (i : ℕ) (a : Outcome Code) (w : Walk) (cs : List Code) → next i a w ≡ codes cs
+pub next→ : (i : ℕ) (a : Outcome Code) (w : Walk) (cs : List Code) → next i a w ≡ codes cs
     → (c : Code) × (ds : List Code) × (a ≡ done c) × (w ≡ codes ds) × (c ∷ ds ≡ cs)
 next→ i (done c) w cs e = let (ds, p, q) = also→ c w cs e in (c, ds, refl, p, q)
 next→ i (refused r) w cs e = never (cc)

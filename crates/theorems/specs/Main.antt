@@ -1,24 +1,22 @@
 -- The main theorems, each written out in full; its proof is one citation.
 -- In order: no-code, greatest, each-split, splits-end, shortest-idle, least-window, no-window, compiled-passes,
--- run-length-passes, checker-exact, record-order, records, returns, recognised, demand-3, local, different-data, grows,
--- sets.
+-- checker-exact, record-order, records, returns, recognised, demand-3, local, different-data, sets.
 -- Assumes nothing.
 use mathlib.Core.Path.{_≡_}
 use mathlib.Core.Logic.{_↔_}
 use mathlib.Core.List.{List, []}
-use Prim.Native.Nat.{ℕ, suc, _+_, _-_, _/_, _^_, _≤_, _<_}
+use Prim.Native.Nat.{ℕ, _+_, _-_, _/_, _^_, _≤_, _<_}
 use lib.Dec.{T}
 use lib.ListN.{length, getD, take, drop}
 use Rattle.laws.specs.Lists.{sum}
 use Rattle.laws.specs.Sums.{Below}
 use Rattle.answer.specs.declared.Refusal.the-variants.{NoCode, NoWindow}
 use Rattle.answer.specs.Outcomes.{done, refused}
-use Rattle.table.specs.Rows.{Rows, Size, Code}
-use Rattle.table.specs.Paths.{Blocks, recording, Closed}
+use Rattle.table.specs.Rows.{Size, Code}
+use Rattle.table.specs.Paths.{Blocks, recording}
 use Rattle.table.specs.Window.{Window, NoLater}
 use Rattle.table.specs.Formed.{formed}
 use Rattle.table.specs.Accepted.{Accepted}
-use Rattle.table.proofs.WindowGrows.{window-grows-memory, window-grows-lookahead}
 use Rattle.record.specs.Layout.{pack}
 use Rattle.record.specs.Parse.{parse, judged}
 use Rattle.record.proofs.RecordWrite.{parse-pack}
@@ -56,13 +54,11 @@ greatest j = (weights-vector j, greatest-vector j)
 
 -- While some state has fewer than n edges the rule's state, list and run exist: the run sums to n × w, 0 < w < M.
 pub each-split : (n S : ℕ) (x : Work) → 0 < n → Inv n S x → T (unfinished n x)
-    → let s = chosen (x .weights) (x .arcs) in
-    let keep = kept n (x .weights) (x .arcs) s in
+    → let s = chosen (x .weights) (x .arcs) in let keep = kept n (x .weights) (x .arcs) s in
     Part n x s keep (total (x .weights) keep / n)
 each-split = split-part
 
--- Splitting ends, with at most 128 states where the weights sum to that, and with n edges a state unless refusal 5
--- comes.
+-- Splitting ends, with no more states than the component's weights sum to, and n edges a state or refusal 5.
 pub splits-end : (j : Job) → Allowed j → 0 < sum (componentOf j .weights)
     → (length (finishedOf j .weights) ≤ sum (componentOf j .weights))
     × (length (finishedOf j .arcs) ≤ 2048
@@ -84,19 +80,16 @@ least-window = compiler.least-window
 -- Refusal 6 comes exactly when no window up to 15 and 15 does what a window must.
 pub no-window : (j : Job) → Allowed j → 0 < sum (componentOf j .weights) → sum (componentOf j .weights) ≤ 128
     → length (finishedOf j .arcs) ≤ 2048
-    → (compile j ≡ refused NoWindow)
-    ↔ ((y : Size) → y .memory ≤ 15 → y .lookahead ≤ 15 → Window (tableFor j) y → ⊥)
+    → (compile j ≡ refused NoWindow) ↔ ((y : Size) → y .memory ≤ 15 → y .lookahead ≤ 15 → Window (tableFor j) y → ⊥)
 no-window = compiler.no-window-exact
 
 -- The compiler's record always passes the checker, and is read as the code that was compiled: from bytes to bytes.
-pub compiled-passes : (xs : List ℕ) (room : ℕ) (r : List ℕ) → compileJob xs room ≡ done r
-    → (j : Job) × (c : Code) × (readJob xs ≡ done j) × (compile j ≡ done c) × (pack c ≡ r) × (parse r ≡ done c)
-compiled-passes = compiler.job-passes
-
--- The same of run-length jobs.
-pub run-length-passes : (xs : List ℕ) (room : ℕ) (r : List ℕ) → compileRunLength xs room ≡ done r
-    → (j : Job) × (c : Code) × (readRunLength xs ≡ done j) × (compile j ≡ done c) × (pack c ≡ r) × (parse r ≡ done c)
-run-length-passes = compiler.run-length-passes
+pub compiled-passes : (xs : List ℕ) (room : ℕ) (r : List ℕ)
+    → (compileJob xs room ≡ done r
+    → (j : Job) × (c : Code) × (readJob xs ≡ done j) × (compile j ≡ done c) × (pack c ≡ r) × (parse r ≡ done c))
+    × (compileRunLength xs room ≡ done r
+    → (j : Job) × (c : Code) × (readRunLength xs ≡ done j) × (compile j ≡ done c) × (pack c ≡ r) × (parse r ≡ done c))
+compiled-passes xs room r = (compiler.job-passes xs room r, compiler.run-length-passes xs room r)
 
 -- The checker accepts exactly the tables whose every recording obeys and whose every window settles its block.
 pub checker-exact : (xs : List ℕ) → Below 256 xs
@@ -119,8 +112,7 @@ returns = codec.demand-2-returns
 
 -- A list of words is a recording exactly when encoding its decoded blocks rebuilds it.
 pub recognised : (rec : List ℕ) → Below 256 rec → (c : Code) → parse rec ≡ done c → (room : ℕ) (L : List ℕ)
-    → length L ≤ room
-    → Recording c L
+    → length L ≤ room → Recording c L
     ↔ ((ds : List ℕ) × (decodeUnder rec room L ≡ done ds) × (encodeUnder rec room ds ≡ done L))
 recognised = codec.demand-2-recognised
 
@@ -142,11 +134,6 @@ local c = (block-local c, block-local-start c)
 pub different-data : (rec : List ℕ) → Below 256 rec → (room room′ : ℕ) (ds es R : List ℕ)
     → encodeUnder rec room ds ≡ done R → encodeUnder rec room′ es ≡ done R → ds ≡ es
 different-data = codec.different-data
-
--- A window that works goes on working with more memory and with more lookahead.
-pub grows : (t : Rows) → Closed t → 0 < length t → (m a : ℕ) → Window t (record { memory = m; lookahead = a })
-    → Window t (record { memory = suc m; lookahead = a }) × Window t (record { memory = m; lookahead = suc a })
-grows t closed some m a w = (window-grows-memory t closed some m a w, window-grows-lookahead t m a w)
 
 -- A set of readable codes is read as it was written, and a set that the walk accepts is written as it was read.
 pub sets : ((cs : List Code) → Readable cs → readSet (writeSet cs) ≡ codes cs)

@@ -1,0 +1,30 @@
+//! Compiles the (0,1) code of rate 1 to 2, records four blocks under it, and reads them back. It prints
+//!   record: [36, 4, 64, 66, 48, 4, 16, 16, 24, 14, 0]
+//!   words: [2, 2, 3, 2]
+//!   blocks: [1, 0, 1, 1]
+//! Build: rustc -O bench/examples/example.rs -L native=target/staticlib -l static=api -o target/example
+extern "C" {
+    fn sbc_compile_run_length(job: *const u8, jl: usize, out: *mut u8, ol: usize) -> u64;
+    fn sbc_encode(r: *const u8, rl: usize, blocks: *const u8, bl: usize, out: *mut u8, ol: usize) -> u64;
+    fn sbc_decode(r: *const u8, rl: usize, words: *const u8, wl: usize, out: *mut u8, ol: usize) -> u64;
+}
+
+/// The bytes that a call wrote, or its refusal.
+fn written(answer: u64, mut out: Vec<u8>) -> Result<Vec<u8>, u64> {
+    out.truncate((answer & ((1 << 56) - 1)) as usize);
+    if answer >> 56 == 0 { Ok(out) } else { Err(answer >> 56) }
+}
+
+fn main() -> Result<(), u64> {
+    let (job, data) = ([0u8, 1, 1, 2, 1], [1u8, 0, 1, 1]); // d, k, p, q, cap; four blocks
+    let mut out = vec![0; 3864]; // the longest record
+    let answer = unsafe { sbc_compile_run_length(job.as_ptr(), job.len(), out.as_mut_ptr(), out.len()) };
+    let r = written(answer, out)?;
+    let mut out = vec![0; data.len() + 15]; // 15 is the longest lookahead
+    let answer = unsafe { sbc_encode(r.as_ptr(), r.len(), data.as_ptr(), data.len(), out.as_mut_ptr(), out.len()) };
+    let words = written(answer, out)?;
+    let mut out = vec![0; words.len()];
+    let answer = unsafe { sbc_decode(r.as_ptr(), r.len(), words.as_ptr(), words.len(), out.as_mut_ptr(), out.len()) };
+    println!("record: {r:?}\nwords: {words:?}\nblocks: {:?}", written(answer, out)?);
+    Ok(())
+}

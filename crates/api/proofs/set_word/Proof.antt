@@ -1,0 +1,29 @@
+-- `set_word` meets its contract: the number of a set's answer is at most 13.
+-- Assumes nothing.
+use mathlib.Core.Path.{_≡_, sym, ap₂, subst, _∙_}
+use Prim.Native.Nat.{_≤_}
+use borrow.Author.Needs.{needs}
+use Rattle.api.specs.Words.{joined, setWordOf}
+use Rattle.api.proofs.Words.{set-number-le}
+use Rattle.api.proofs.set_word.Statement.{statement}
+use Rattle.api.proofs.set_word.Tie as tie
+
+set-number-requires : tie.Need-set-number-requires
+set-number-requires c κs = search needs
+
+set-value-requires : tie.Need-set-value-requires
+set-value-requires c κs = search needs
+
+join-requires : tie.Need-join-requires
+join-requires c κs =
+    let n = c .before in
+    subst (λ k. k ≤ 13) (sym (n .set-number .ensures)) (set-number-le (n .before .args .a))
+
+returns : tie.Need-returns
+unfolding setWordOf
+returns c =
+    let v = c .before in
+    c .join .ensures ∙ ap₂ joined (v .before .set-number .ensures) (v .set-value .ensures)
+
+pub set-word-spec : {M : Type 1} → statement M
+set-word-spec = tie.close (tie.spec set-number-requires set-value-requires join-requires returns)

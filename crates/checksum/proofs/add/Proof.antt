@@ -1,0 +1,62 @@
+-- `add` meets its contract. The loop's invariant: the checksum of the bytes left, begun with the present one, is the
+-- checksum of all. The measure is what is left of the bytes.
+-- Assumes nothing.
+use mathlib.Core.Path.{_≡_, refl, sym, ap, _∙_}
+use Prim.Native.Nat.{_+_, _-_, _≤_}
+use native.Mathlib.Omega.{arith}
+use borrow.Author.Needs.{needs}
+use denote.Ref.{now}
+use lib.ListN.{length, drop, drop-of-length-le}
+use Rattle.checksum.specs.Fnv.{sum}
+use Rattle.checksum.proofs.Product.{sum-more}
+use Rattle.checksum.proofs.add.Statement.{statement}
+use Rattle.checksum.proofs.add.Tie as tie
+
+abbrev Inv-loop : tie.InvT-loop
+Inv-loop x bytes r₀ i₀ r i = (i ≤ length bytes) × (sum r (drop i bytes) ≡ sum x bytes)
+
+abbrev μ-loop : tie.MeasureT-loop
+μ-loop x bytes r₀ i₀ r i = length bytes - i
+
+loop-holds : tie.Need-loop-holds Inv-loop μ-loop
+loop-holds c = (omega arith, refl)
+
+shared-slice-read-with-byte : tie.Need-shared-slice-read-with-byte Inv-loop μ-loop
+shared-slice-read-with-byte c = search needs
+
+with-byte-requires : tie.Need-with-byte-requires Inv-loop μ-loop
+with-byte-requires c κs = search needs
+
+add-i : tie.Need-add-i Inv-loop μ-loop
+add-i c = search needs
+
+loop-less : tie.Need-loop-less Inv-loop μ-loop
+loop-less c = search needs
+
+loop-again : tie.Need-loop-again Inv-loop μ-loop
+loop-again c =
+    let l = c .before .before .before .loop in
+    let bytes = now (c .before .before .before .before .before .args .bytes) in
+    (omega arith,
+    ap (λ r. sum r (drop (l .i + 1) bytes)) (c .with-byte .ensures) ∙ sym (sum-more (l .r) bytes (l .i) (omega arith))
+    ∙ l .inv .1)
+
+returns : tie.Need-returns Inv-loop μ-loop
+returns c =
+    let l = c .before .loop in
+    let bytes = now (c .before .before .before .args .bytes) in
+    ap (sum (l .r)) (sym (drop-of-length-le bytes {i = l .i} (omega arith))) ∙ l .inv .1
+
+pub add-spec : {M : Type 1} → statement M
+add-spec =
+    tie.close
+    (tie.spec
+    Inv-loop
+    μ-loop
+    loop-holds
+    shared-slice-read-with-byte
+    with-byte-requires
+    add-i
+    loop-less
+    loop-again
+    returns)

@@ -1,0 +1,143 @@
+-- The edges among the states of weight above 0, by the counts of words.
+-- In order: live-elem, live-lt; any-tabled; filter-pos, filter-some; linked-is.
+-- Assumes nothing.
+use mathlib.Core.Path.{_≡_, sym, ap, ap₂, subst, _∙_}
+use mathlib.Core.Bool.{Bool, true, false, _&&_, _||_}
+use mathlib.Core.List.{List, [], _∷_, map}
+use Prim.Native.Nat.{ℕ, _+_, _*_, _/_, _%_, _≤_, _<_}
+use native.Mathlib.Omega.{arith}
+use borrow.Author.Tests.{ne-eqb}
+use lib.Dec.{T, ltb, eqb, eqb→eq, eqb-refl, ltb→lt, lt→ltb}
+use lib.ListN.{length, getD, take}
+use lib.Seq.{length-take-le, getD-take}
+use Rattle.laws.specs.Lists.{if_then_else_, range, filter, any, elem, concat}
+use Rattle.laws.specs.Sets.{member}
+use Rattle.laws.proofs.Tests.{and→, →and, any-below→, →any-below, bool-eq}
+use Rattle.laws.proofs.Anys.{any-map, any-filter, any-concat, each-range}
+use Rattle.laws.proofs.Elems.{elem-filter, elem-each}
+use Rattle.graph.specs.Arcs.{Arc, leadsOn}
+use Rattle.graph.specs.Component.{leadsInto, both, within, weighs, live}
+use Rattle.weights.specs.PowerTable.{entryAt, wordAt, wordsAt, tabled, Powers, wordLeads, wordCount}
+use Rattle.reach.specs.ReachSets.{linksInto, Linked, liveEdge}
+use Rattle.graph.proofs.CodeUpTo.{elem-kept}
+use Rattle.reach.proofs.CodeReach.{any-range-same}
+use Rattle.weights.proofs.CodeWeights.{place-state, place-target}
+
+filter-pos : (p : ℕ → Bool) (l : List ℕ) → T (any p l) → 0 < length (filter p l)
+filter-pos p [] t = absurd t
+filter-pos p (x ∷ l) t = go (p x) t (filter-pos p l)
+  where
+    go : (b : Bool) → T (b || any p l) → (T (any p l) → 0 < length (filter p l))
+        → 0 < length (if b then x ∷ filter p l else filter p l)
+    go true u r = omega arith
+    go false u r = r u
+
+filter-some : (p : ℕ → Bool) (l : List ℕ) → 0 < length (filter p l) → T (any p l)
+filter-some p [] h = absurd (omega arith)
+filter-some p (x ∷ l) h = go (p x) h (filter-some p l)
+  where
+    go : (b : Bool) → 0 < length (if b then x ∷ filter p l else filter p l) → (0 < length (filter p l) → T (any p l))
+        → T (b || any p l)
+    go true u r = tt
+    go false u r = r u
+
+pub any-tabled : (P : List ℕ) (words k : ℕ) (p : Arc → Bool) → any p (tabled P words k)
+    ≡ any (λ s. any (λ w. leadsOn (wordAt P s w) && p (wordAt P s w)) (range words)) (range k)
+unfolding tabled
+any-tabled P words k p =
+    any-filter p leadsOn (concat (map (wordsAt P words) (range k)))
+    ∙ any-concat (λ e. leadsOn e && p e) (map (wordsAt P words) (range k))
+    ∙ any-map (any (λ e. leadsOn e && p e)) (wordsAt P words) (range k)
+    ∙ any-range-same (λ s. any (λ e. leadsOn e && p e) (wordsAt P words s))
+    (λ s. any (λ w. leadsOn (wordAt P s w) && p (wordAt P s w)) (range words)) k
+    (λ s h. any-map (λ e. leadsOn e && p e) (wordAt P s) (range words))
+
+module _ (v : List ℕ) (k : ℕ) (few : k ≤ 16) (long : length v ≡ 16) where
+  abbrev L : List ℕ
+  L = live (take k v)
+
+  live-range : L ≡ filter (weighs (take k v)) (range k)
+  live-range = ap (λ n. filter (weighs (take k v)) (range n)) (length-take-le k v (omega arith))
+
+  pub live-elem : (t : ℕ) → t < k → elem t L ≡ ltb 0 (getD v t 0)
+  live-elem t h =
+      ap (elem t) live-range ∙ elem-kept (weighs (take k v)) k t h ∙ ap (ltb 0) (getD-take k v t 0 h)
+
+  pub live-lt : (t : ℕ) → T (elem t L) → t < k
+  live-lt t u =
+      elem-each (λ x. x < k) t (range k)
+      (elem-filter (weighs (take k v)) t (range k) (subst (λ l. T (elem t l)) live-range u) .1) (each-range k)
+
+  module _ (P : List ℕ) (words : ℕ) (pw : Powers P words k) (A : List ℕ) (E : List Bool)
+      (counts : (x : ℕ) → x < k * 16 → getD A x 0 ≡ wordCount P words (x / 16) (x % 16))
+      (edges : (x : ℕ) → x < k * 16 → getD E x false ≡ liveEdge A v x) where
+    -- at s * 16 + u
+    edge-at : (s u : ℕ) → s < k → u < k
+        → getD E (s * 16 + u) false ≡ (ltb 0 (getD v s 0) && (ltb 0 (getD v u 0) && ltb 0 (wordCount P words s u)))
+    edge-at s u h l =
+        let x = s * 16 + u in
+        let b : x < k * 16 = omega arith in
+        let p = place-state s u (omega arith) in
+        let q = place-target s u (omega arith) in
+        edges x b
+        ∙ ap₂ (λ y z. ltb 0 (getD v y 0) && (ltb 0 (getD v z 0) && ltb 0 (getD A x 0))) p q
+        ∙ ap (λ c. ltb 0 (getD v s 0) && (ltb 0 (getD v u 0) && ltb 0 c)) (counts x b ∙ ap₂ (wordCount P words) p q)
+
+    module _ (S : List Bool) (s : ℕ) (hs : s < k) where
+      abbrev found : ℕ → ℕ → Bool
+      found s′ w = leadsOn (wordAt P s′ w) && (both L (wordAt P s′ w) && leadsInto S s (wordAt P s′ w))
+
+      to : T (any (λ s′. any (found s′) (range words)) (range k)) → T (any (linksInto E S s) (range k))
+      unfolding wordCount
+      to t =
+          let (s′, h, a) = any-below→ (λ s′. any (found s′) (range words)) k t in
+          let (w, l, b) = any-below→ (found s′) words a in
+          let u = entryAt P s′ w in
+          let (on, rest) = and→ (leadsOn (wordAt P s′ w)) (both L (wordAt P s′ w) && leadsInto S s (wordAt P s′ w)) b in
+          let (two, into) = and→ (both L (wordAt P s′ w)) (leadsInto S s (wordAt P s′ w)) rest in
+          let (ls, lu) = and→ (elem s′ L) (elem u L) two in
+          let (same, m) = and→ (eqb s′ s) (member S u) into in
+          let q : s′ ≡ s = eqb→eq s′ s same in
+          let hu : u < k = live-lt u lu in
+          let some : 0 < wordCount P words s u =
+          filter-pos (wordLeads P s u) (range words)
+          (→any-below (wordLeads P s u) words w l (subst (λ y. T (eqb (entryAt P y w) u)) q (eqb-refl u))) in
+          →any-below (linksInto E S s) k u hu
+          (→and (getD E (s * 16 + u) false) (member S u)
+          (rw (edge-at s u hs hu)
+          (→and (ltb 0 (getD v s 0)) (ltb 0 (getD v u 0) && ltb 0 (wordCount P words s u))
+          (rw (← live-elem s hs) (subst (λ y. T (elem y L)) q ls))
+          (→and (ltb 0 (getD v u 0)) (ltb 0 (wordCount P words s u)) (rw (← live-elem u hu) lu)
+          (lt→ltb 0 (wordCount P words s u) some)))) m)
+
+      back : T (any (linksInto E S s) (range k)) → T (any (λ s′. any (found s′) (range words)) (range k))
+      unfolding wordCount
+      back t =
+          let (u, hu, a) = any-below→ (linksInto E S s) k t in
+          let (e, m) = and→ (getD E (s * 16 + u) false) (member S u) a in
+          let (vs, rest) = and→ (ltb 0 (getD v s 0)) (ltb 0 (getD v u 0) && ltb 0 (wordCount P words s u))
+          (rw (edge-at s u hs hu) at e) in
+          let (vu, n) = and→ (ltb 0 (getD v u 0)) (ltb 0 (wordCount P words s u)) rest in
+          let (w, l, q) = any-below→ (wordLeads P s u) words
+          (filter-some (wordLeads P s u) (range words) (ltb→lt 0 (wordCount P words s u) n)) in
+          let p : entryAt P s w ≡ u = eqb→eq (entryAt P s w) u q in
+          let on : T (leadsOn (wordAt P s w)) = rw (ne-eqb (entryAt P s w) 255 (λ z. omega arith)) tt in
+          let two : T (both L (wordAt P s w)) =
+          →and (elem s L) (elem (entryAt P s w) L) (rw (live-elem s hs) vs)
+          (subst (λ y. T (elem y L)) (sym p) (rw (live-elem u hu) vu)) in
+          let into : T (leadsInto S s (wordAt P s w)) =
+          →and (eqb s s) (member S (entryAt P s w)) (eqb-refl s) (subst (λ y. T (member S y)) (sym p) m) in
+          →any-below (λ s′. any (found s′) (range words)) k s hs
+          (→any-below (found s) words w l
+          (→and (leadsOn (wordAt P s w)) (both L (wordAt P s w) && leadsInto S s (wordAt P s w)) on
+          (→and (both L (wordAt P s w)) (leadsInto S s (wordAt P s w)) two into)))
+
+    pub linked-is : Linked E k (within L (tabled P words k))
+    linked-is = record {
+      links = λ S s h.
+          any-filter (leadsInto S s) (both L) (tabled P words k)
+          ∙ any-tabled P words k (λ e. both L e && leadsInto S s e)
+          ∙ bool-eq (any (λ s′. any (found S s h s′) (range words)) (range k)) (any (linksInto E S s) (range k))
+          (to S s h)
+          (back S s h);
+    }

@@ -1,0 +1,4 @@
+pub mod CodeTotals
+pub mod CodeRows
+pub mod CodeLinked
+pub mod CodeFound

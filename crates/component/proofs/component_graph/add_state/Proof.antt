@@ -1,0 +1,41 @@
+-- Where s is not in the component, nothing is added.
+use mathlib.Core.Path.{sym, subst}
+use mathlib.Core.List.{[]}
+use mathlib.Core.Bool.{false}
+use borrow.Author.Tests.{le-ltb, lt-ltb}
+use denote.Ref.{now}
+use lib.ListN.{getD}
+use Rattle.laws.specs.Lists.{if_then_else_}
+use Rattle.component.specs.ComponentParts.{rowArcs, Added}
+use Rattle.component.proofs.CodeRows.{added-none}
+use borrow.Author.Needs.{needs}
+use borrow.Author.Needs.{needs}
+use Rattle.component.proofs.component_graph.add_state.Statement.{statement}
+use Rattle.component.proofs.component_graph.add_state.Tie as tie
+
+mul-if1 : tie.Need-mul-if1
+mul-if1 c = search needs
+
+array-read-if1 : tie.Need-array-read-if1
+array-read-if1 c = search needs
+
+add-words-requires : tie.Need-add-words-requires
+add-words-requires c κs =
+    (c .before .pre .0, c .before .pre .1, c .before .pre .2, c .if1 .taken, c .before .pre .3)
+
+returns : tie.Need-returns
+returns c =
+    let p = c .before .before .args in
+    subst (λ b. Added (p .g) (if b then rowArcs (now (p .power)) (p .t4) (p .s) (p .words) else [])
+    (c .add-words .result))
+    (sym (lt-ltb (getD (p .t4) (p .s) 0) 16 (c .before .if1 .taken))) (c .add-words .ensures)
+
+returns-2 : tie.Need-returns-2
+returns-2 c =
+    let p = c .before .args in
+    subst (λ b. Added (p .g) (if b then rowArcs (now (p .power)) (p .t4) (p .s) (p .words) else [])
+    (record { crowded = false; graph = p .g }))
+    (sym (le-ltb (getD (p .t4) (p .s) 0) 16 (c .if1 .left))) (added-none (p .g) (c .before .pre .3))
+
+pub add-state-spec : {M : Type 1} → statement M
+add-state-spec = tie.close (tie.spec mul-if1 array-read-if1 add-words-requires returns returns-2)

@@ -1,0 +1,69 @@
+-- State by state, until there are too many edges.
+use mathlib.Core.Path.{_≡_, subst}
+use Prim.Native.Nat.{_-_, _≤_}
+use native.Mathlib.Omega.{arith}
+use denote.Ref.{now}
+use Rattle.component.specs.ComponentParts.{rowOfState}
+use Rattle.component.proofs.CodeRows.{Done, done-none, done-more, done-over, done-end}
+use borrow.Author.Needs.{needs}
+use Rattle.component.proofs.component_graph.add_states.Statement.{statement}
+use Rattle.component.proofs.component_graph.add_states.Tie as tie
+
+abbrev Inv-loop : tie.InvT-loop
+Inv-loop power words k index h₀ s₀ h s = (s ≤ k) × Done (rowOfState power words index) h₀ h s
+
+abbrev μ-loop : tie.MeasureT-loop
+μ-loop power words k index h₀ s₀ h s = k - s
+
+loop-holds : tie.Need-loop-holds Inv-loop μ-loop
+loop-holds c = (omega arith, done-none _ _ (c .pre .3))
+
+add-state-requires : tie.Need-add-state-requires Inv-loop μ-loop
+add-state-requires c κs =
+    (c .before .before .pre .0, c .before .before .pre .1, omega arith, c .before .loop .inv .1 .room)
+
+returns : tie.Need-returns Inv-loop μ-loop
+returns c =
+    let l = c .before .before .before .loop in
+    let p = c .before .before .before .before .args in
+    done-over (rowOfState (now (p .power)) (p .words) (p .index)) (p .g) (l .h) (l .s) (l .inv .1)
+    (c .before .add-state .result) (p .k)
+    (c .before .before .loop-test .taken) (c .before .add-state .ensures) (c .if1 .taken)
+
+add-s : tie.Need-add-s Inv-loop μ-loop
+add-s c = search needs
+
+loop-less : tie.Need-loop-less Inv-loop μ-loop
+loop-less c = search needs
+
+loop-again : tie.Need-loop-again Inv-loop μ-loop
+loop-again c =
+    let l = c .before .before .before .before .loop in
+    let p = c .before .before .before .before .before .args in (
+      omega arith,
+      done-more (rowOfState (now (p .power)) (p .words) (p .index)) (p .g) (l .h) (l .s) (l .inv .1)
+          (c .before .before .add-state .result)
+          (c .before .before .add-state .ensures) (c .before .if1 .left),
+    )
+
+returns-2 : tie.Need-returns-2 Inv-loop μ-loop
+returns-2 c =
+    let l = c .before .loop in
+    let p = c .before .before .args in
+    let e : l .s ≡ p .k = omega arith in
+    done-end (rowOfState (now (p .power)) (p .words) (p .index)) (p .g) (l .h) (p .k)
+    (subst (Done (rowOfState (now (p .power)) (p .words) (p .index)) (p .g) (l .h)) e (l .inv .1))
+
+pub add-states-spec : {M : Type 1} → statement M
+add-states-spec =
+    tie.close
+    (tie.spec
+    Inv-loop
+    μ-loop
+    loop-holds
+    add-state-requires
+    returns
+    add-s
+    loop-less
+    loop-again
+    returns-2)

@@ -1,0 +1,137 @@
+-- Each word that leads into the component is appended; that there would be too many edges is said before a store.
+use mathlib.Core.Path.{_≡_, refl, subst}
+use mathlib.Core.Logic.{⊎-elim}
+use Prim.Native.Nat.{_-_, _≤_}
+use native.Mathlib.Omega.{arith}
+use denote.Ref.{now}
+use lib.ListN.{length, getD}
+use Rattle.component.proofs.CodeRows.{Rowed, rowed-none, rowed-yes, rowed-no, rowed-over, rowed-end}
+use borrow.Author.Needs.{needs}
+use Rattle.component.proofs.component_graph.add_words.Statement.{statement}
+use Rattle.component.proofs.component_graph.add_words.Tie as tie
+
+abbrev Inv-loop : tie.InvT-loop
+Inv-loop power words s g index h₀ from m₀ w₀ h m w =
+    (w ≤ words) × (m ≤ 2048) × (from ≡ getD index s 0) × Rowed power index s g h m w
+
+abbrev μ-loop : tie.MeasureT-loop
+μ-loop power words s g index h₀ from m₀ w₀ h m w = words - w
+
+mul-from : tie.Need-mul-from Inv-loop μ-loop
+mul-from c = search needs
+
+array-read-from : tie.Need-array-read-from Inv-loop μ-loop
+array-read-from c = search needs
+
+cast-from : tie.Need-cast-from Inv-loop μ-loop
+cast-from c = search needs
+
+loop-holds : tie.Need-loop-holds Inv-loop μ-loop
+loop-holds c =
+    let a : length (c .args .g .source) ≡ 2048 = search needs in
+    let b : length (c .args .g .word) ≡ 2048 = search needs in
+    let d : length (c .args .g .target) ≡ 2048 = search needs in
+    (omega arith, omega arith, refl, rowed-none _ _ _ _ a b d)
+
+mul-place-of : tie.Need-mul-place-of Inv-loop μ-loop
+mul-place-of c = search needs
+
+add-place-of : tie.Need-add-place-of Inv-loop μ-loop
+add-place-of c = search needs
+
+element-copy-out-place-of : tie.Need-element-copy-out-place-of Inv-loop μ-loop
+element-copy-out-place-of c = search needs
+
+place-of-requires : tie.Need-place-of-requires Inv-loop μ-loop
+place-of-requires c κs = search needs
+
+returns : tie.Need-returns Inv-loop μ-loop
+returns c =
+    let l = c .before .before .before .before .before .loop in
+    let p = c .before .before .before .before .before .before .args in
+    rowed-over (now (p .power)) (p .t4) (p .s) (p .g) (l .h) (l .m) (l .w) (l .inv .3) (p .words) (omega arith)
+    (c .if2 .taken)
+    (omega (arith, c .before .before .place-of .ensures, c .before .if1 .taken))
+
+element-write-h : tie.Need-element-write-h Inv-loop μ-loop
+element-write-h c = search needs
+
+cast-h : tie.Need-cast-h Inv-loop μ-loop
+cast-h c = search needs
+
+element-write-h-2 : tie.Need-element-write-h-2 Inv-loop μ-loop
+element-write-h-2 c = search needs
+
+cast-h-2 : tie.Need-cast-h-2 Inv-loop μ-loop
+cast-h-2 c = search needs
+
+element-write-h-3 : tie.Need-element-write-h-3 Inv-loop μ-loop
+element-write-h-3 c = search needs
+
+add-m : tie.Need-add-m Inv-loop μ-loop
+add-m c = search needs
+
+add-w : tie.Need-add-w Inv-loop μ-loop
+add-w c = search needs
+
+loop-less : tie.Need-loop-less Inv-loop μ-loop
+loop-less c = search needs
+
+loop-again : tie.Need-loop-again Inv-loop μ-loop
+loop-again c =
+    let l = c .before .before .before .before .loop in
+    let p = c .before .before .before .before .before .args in
+    let e = c .before .place-of .ensures in
+    ⊎-elim
+    (λ u. (
+      omega arith,
+      omega (arith, u .1 .left, u .3),
+      refl,
+      rw (u .2, u .3)
+          (rowed-yes (now (p .power)) (p .t4) (p .s) (p .g) (l .h) (l .m) (l .w) (l .inv .3)
+          (c .before .place-of .result) e
+          (omega (arith, u .1 .left)) (u .0 .taken)),
+    ))
+    (λ u. (
+      omega arith,
+      omega (arith, u .2),
+      refl,
+      rw (u .1, u .2)
+          (rowed-no (now (p .power)) (p .t4) (p .s) (p .g) (l .h) (l .m) (l .w) (l .inv .3)
+          (omega (arith, u .0 .left))),
+    ))
+    (c .if1 .came)
+
+returns-2 : tie.Need-returns-2 Inv-loop μ-loop
+returns-2 c =
+    let l = c .before .loop in
+    let p = c .before .before .args in
+    let e : l .w ≡ p .words = omega arith in
+    rowed-end (now (p .power)) (p .t4) (p .s) (p .g) (l .h) (l .m) (p .words)
+    (subst (Rowed (now (p .power)) (p .t4) (p .s) (p .g) (l .h) (l .m)) e (l .inv .3)) (l .inv .1)
+
+pub add-words-spec : {M : Type 1} → statement M
+add-words-spec =
+    tie.close
+    (tie.spec
+    Inv-loop
+    μ-loop
+    mul-from
+    array-read-from
+    cast-from
+    loop-holds
+    mul-place-of
+    add-place-of
+    element-copy-out-place-of
+    place-of-requires
+    returns
+    element-write-h
+    cast-h
+    element-write-h-2
+    cast-h-2
+    element-write-h-3
+    add-m
+    add-w
+    loop-less
+    loop-again
+    returns-2)

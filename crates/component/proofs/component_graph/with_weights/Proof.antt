@@ -1,0 +1,86 @@
+-- Place i gets the weight of the component's state i.
+use mathlib.Core.Path.{_≡_, refl, subst}
+use Prim.Native.Nat.{_-_, _≤_}
+use native.Mathlib.Omega.{arith}
+use lib.ListN.{length, getD}
+use Rattle.graph.proofs.CodeLists.{Filled, fill-none, fill-more}
+use Rattle.component.proofs.CodeTotals.{weights-filled}
+use borrow.Author.Needs.{needs}
+use Rattle.component.proofs.component_graph.with_weights.Statement.{statement}
+use Rattle.component.proofs.component_graph.with_weights.Tie as tie
+
+abbrev Inv-loop : tie.InvT-loop
+Inv-loop list v weight₀ n i₀ weight i =
+    (i ≤ n) × (n ≡ list .count) × (n ≤ 16) × Filled 0 (λ x. getD v (getD (list .state) x 0) 0) 128 i weight
+
+abbrev μ-loop : tie.MeasureT-loop
+μ-loop list v weight₀ n i₀ weight i = n - i
+
+loop-holds : tie.Need-loop-holds Inv-loop μ-loop
+loop-holds c = (omega arith, refl, c .pre .0, fill-none 0 _ 128 0)
+
+mul-weight : tie.Need-mul-weight Inv-loop μ-loop
+mul-weight c = search needs
+
+element-copy-out-weight : tie.Need-element-copy-out-weight Inv-loop μ-loop
+element-copy-out-weight c = search needs
+
+mul-weight-2 : tie.Need-mul-weight-2 Inv-loop μ-loop
+mul-weight-2 c = omega (arith, c .before .before .before .pre .1 (c .before .before .loop .i) (omega arith) .0)
+
+array-read-weight : tie.Need-array-read-weight Inv-loop μ-loop
+array-read-weight c = c .before .before .before .pre .1 (c .before .before .loop .i) (omega arith) .0
+
+cast-weight : tie.Need-cast-weight Inv-loop μ-loop
+cast-weight c =
+    omega (arith, c .before .before .before .pre .1 (c .before .before .loop .i) (omega arith) .1)
+
+array-write-weight : tie.Need-array-write-weight Inv-loop μ-loop
+array-write-weight c = search needs
+
+add-i : tie.Need-add-i Inv-loop μ-loop
+add-i c = search needs
+
+loop-less : tie.Need-loop-less Inv-loop μ-loop
+loop-less c = search needs
+
+loop-again : tie.Need-loop-again Inv-loop μ-loop
+loop-again c =
+    let l = c .before .before .loop in
+    let p = c .before .before .before .args in (
+      omega arith,
+      refl,
+      omega arith,
+      fill-more 0 (λ x. getD (p .t2) (getD (p .t1 .state) x 0) 0) 128 (l .i) (l .weight) _ (omega arith) refl
+          (l .inv .3),
+    )
+
+returns : tie.Need-returns Inv-loop μ-loop
+returns c =
+    let l = c .before .loop in
+    let p = c .before .before .args in
+    let a : length (p .t1 .state) ≡ 16 = search needs in
+    let e : l .i ≡ p .t1 .count = omega arith in (
+      weights-filled (p .t2) (p .t1 .state) (p .t1 .count) (l .weight) (omega arith)
+          (subst (λ k. Filled 0 (λ x. getD (p .t2) (getD (p .t1 .state) x 0) 0) 128 k (l .weight)) e (l .inv .3)),
+      refl,
+      refl,
+    )
+
+pub with-weights-spec : {M : Type 1} → statement M
+with-weights-spec =
+    tie.close
+    (tie.spec
+    Inv-loop
+    μ-loop
+    loop-holds
+    mul-weight
+    element-copy-out-weight
+    mul-weight-2
+    array-read-weight
+    cast-weight
+    array-write-weight
+    add-i
+    loop-less
+    loop-again
+    returns)

@@ -1,0 +1,2 @@
+// "Component", as a graph in work.
+pub mod component_graph;

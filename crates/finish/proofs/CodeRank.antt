@@ -1,0 +1,51 @@
+-- How many states of a set are below a state.
+-- In order: rank-none, rank-yes, rank-no, rank-le.
+-- Assumes nothing.
+use mathlib.Core.Path.{_≡_, refl, ap, subst, _∙_}
+use mathlib.Core.Bool.{Bool, true, false}
+use mathlib.Core.List.{List, [], _∷_}
+use Prim.Native.Nat.{ℕ, zero, suc, _+_, _-_, _≤_}
+use native.Mathlib.Omega.{arith}
+use lib.ListN.{length, length-append}
+use Rattle.laws.specs.Sets.{member}
+use Rattle.finish.specs.TableParts.{rank}
+use Rattle.graph.proofs.CodeUpTo.{upTo, upTo-yes, upTo-no}
+
+module _ (S : List Bool) where
+  pub rank-none : rank S 0 ≡ 0
+  unfolding rank
+  rank-none = refl
+
+  pub rank-yes : (t : ℕ) → member S t ≡ true → rank S (t + 1) ≡ rank S t + 1
+  unfolding rank
+  rank-yes t e = ap length (upTo-yes (member S) t e) ∙ length-append (upTo (member S) t) (t ∷ [])
+
+  pub rank-no : (t : ℕ) → member S t ≡ false → rank S (t + 1) ≡ rank S t
+  unfolding rank
+  rank-no t e = ap length (upTo-no (member S) t e)
+
+  rank-step : (t : ℕ) (b : Bool) → member S t ≡ b → rank S t ≤ rank S (t + 1)
+  rank-step t true e = omega (arith, rank-yes t e)
+  rank-step t false e = omega (arith, rank-no t e)
+
+  rank-add : (t d : ℕ) → rank S t ≤ rank S (t + d)
+  rank-add t zero = let e : t + 0 ≡ t = omega arith in rw e (omega arith)
+  rank-add t (suc d) =
+      let e : t + suc d ≡ t + d + 1 = omega arith in
+      rw e (omega (arith, rank-add t d, rank-step (t + d) (member S (t + d)) refl))
+
+  pub rank-le : (t k : ℕ) → t ≤ k → rank S t ≤ rank S k
+  rank-le t k h =
+      let e : t + (k - t) ≡ k = omega arith in
+      subst (λ n. rank S t ≤ rank S n) e (rank-add t (k - t))
+
+pub rank-small : (S : List Bool) (t : ℕ) → rank S t ≤ t
+rank-small S zero = omega (arith, rank-none S)
+rank-small S (suc t) = go (member S t) refl (rank-small S t)
+  where
+    up : suc t ≡ t + 1
+    up = omega arith
+
+    go : (b : Bool) → member S t ≡ b → rank S t ≤ t → rank S (suc t) ≤ suc t
+    go true e h = rw up (omega (arith, rank-yes S t e))
+    go false e h = rw up (omega (arith, rank-no S t e))

@@ -1,0 +1,5 @@
+pub mod CodeMarks
+pub mod CodeClosure
+pub mod CodeRank
+pub mod CodePut
+pub mod CodeTable

@@ -1,0 +1,79 @@
+-- Each edge marks the state to which it leads.
+use mathlib.Core.Path.{_≡_, refl, sym, ap, _∙_}
+use mathlib.Core.Bool.{_||_, or-false}
+use Prim.Native.Nat.{ℕ, _-_, _%_, _≤_, _<_}
+use native.Mathlib.Nat.{mod-lt}
+use native.Mathlib.Omega.{arith}
+use lib.Dec.{lit<}
+use lib.ListN.{length, getD, take, set, length-set}
+use Rattle.laws.specs.Lists.{any}
+use Rattle.laws.specs.Sets.{member}
+use Rattle.finish.specs.TableParts.{enteredBy}
+use Rattle.finish.proofs.CodeMarks.{mark-more}
+use borrow.Author.Needs.{needs}
+use Rattle.finish.proofs.finish_table.mark_targets.Statement.{statement}
+use Rattle.finish.proofs.finish_table.mark_targets.Tie as tie
+
+abbrev Inv-loop : tie.InvT-loop
+Inv-loop list r₀ n i₀ r i =
+    (i ≤ n) × (n ≡ list .count) × (n ≤ 16) × (length r ≡ 128)
+    × ((x : ℕ) → member r x ≡ (member r₀ x || any (enteredBy x) (take i (list .key))))
+
+abbrev μ-loop : tie.MeasureT-loop
+μ-loop list r₀ n i₀ r i = n - i
+
+loop-holds : tie.Need-loop-holds Inv-loop μ-loop
+loop-holds c =
+    let a : length (c .args .set) ≡ 128 = search needs in
+    (omega arith, refl, c .pre, a, λ x. sym (or-false (member (c .args .set) x)))
+
+mul-r : tie.Need-mul-r Inv-loop μ-loop
+mul-r c = search needs
+
+element-copy-out-r : tie.Need-element-copy-out-r Inv-loop μ-loop
+element-copy-out-r c = search needs
+
+array-write-r : tie.Need-array-write-r Inv-loop μ-loop
+array-write-r c =
+    mod-lt (getD (c .before .before .before .args .t1 .key) (c .before .before .loop .i) 0) {m = 128} (lit< tt)
+
+add-i : tie.Need-add-i Inv-loop μ-loop
+add-i c = search needs
+
+loop-less : tie.Need-loop-less Inv-loop μ-loop
+loop-less c = search needs
+
+loop-again : tie.Need-loop-again Inv-loop μ-loop
+loop-again c =
+    let l = c .before .before .loop in
+    let p = c .before .before .before .args in
+    let a : length (p .t1 .key) ≡ 16 = search needs in (
+      omega arith,
+      refl,
+      omega arith,
+      length-set (l .r) (getD (p .t1 .key) (l .i) 0 % 128) _ ∙ l .inv .3,
+      mark-more (p .set) (l .r) (p .t1 .key) (l .i) (l .inv .3) (omega arith)
+          (mod-lt (getD (p .t1 .key) (l .i) 0) {m = 128} (lit< tt)) (l .inv .4),
+    )
+
+returns : tie.Need-returns Inv-loop μ-loop
+returns c =
+    let l = c .before .loop in
+    let p = c .before .before .args in
+    let e : l .i ≡ p .t1 .count = omega arith in
+    λ x. l .inv .4 x ∙ ap (λ k. member (p .set) x || any (enteredBy x) (take k (p .t1 .key))) e
+
+pub mark-targets-spec : {M : Type 1} → statement M
+mark-targets-spec =
+    tie.close
+    (tie.spec
+    Inv-loop
+    μ-loop
+    loop-holds
+    mul-r
+    element-copy-out-r
+    array-write-r
+    add-i
+    loop-less
+    loop-again
+    returns)

@@ -1,0 +1,74 @@
+-- The states are tried from the lowest on.
+use mathlib.Core.Path.{_≡_, sym, _∙_}
+use mathlib.Core.Bool.{false, not, _&&_}
+use Prim.Native.Nat.{ℕ, _-_, _≤_, _<_}
+use native.Mathlib.Omega.{arith}
+use borrow.Author.Count.{below-more}
+use Rattle.laws.specs.Sets.{member}
+use borrow.Author.Needs.{needs}
+use Rattle.finish.proofs.finish_table.next_open.Statement.{statement}
+use Rattle.finish.proofs.finish_table.next_open.Tie as tie
+
+abbrev Inv-loop : tie.InvT-loop
+Inv-loop k set done s₀ s =
+    (s ≤ k) × ((j : ℕ) → j < s → (member set j && not (member done j)) ≡ false)
+
+abbrev μ-loop : tie.MeasureT-loop
+μ-loop k set done s₀ s = k - s
+
+loop-holds : tie.Need-loop-holds Inv-loop μ-loop
+loop-holds c = (omega arith, λ j h. absurd (omega arith))
+
+array-read-but-not : tie.Need-array-read-but-not Inv-loop μ-loop
+array-read-but-not c = search needs
+
+array-read-but-not-2 : tie.Need-array-read-but-not-2 Inv-loop μ-loop
+array-read-but-not-2 c = search needs
+
+but-not-requires : tie.Need-but-not-requires Inv-loop μ-loop
+but-not-requires c κs = search needs
+
+returns : tie.Need-returns Inv-loop μ-loop
+returns c =
+    record {
+      bound = omega arith;
+      here = λ h. sym (c .before .but-not .ensures) ∙ c .if1 .taken;
+      none = λ e. absurd (omega arith);
+    }
+
+add-s : tie.Need-add-s Inv-loop μ-loop
+add-s c = search needs
+
+loop-less : tie.Need-loop-less Inv-loop μ-loop
+loop-less c = search needs
+
+loop-again : tie.Need-loop-again Inv-loop μ-loop
+loop-again c = (
+  omega arith,
+  below-more _ _ (c .before .before .before .loop .inv .1)
+      (sym (c .before .but-not .ensures) ∙ c .if1 .left),
+)
+
+returns-2 : tie.Need-returns-2 Inv-loop μ-loop
+returns-2 c =
+    record {
+      bound = omega arith;
+      here = λ h. absurd (omega arith);
+      none = λ e j h. c .before .loop .inv .1 j (omega arith);
+    }
+
+pub next-open-spec : {M : Type 1} → statement M
+next-open-spec =
+    tie.close
+    (tie.spec
+    Inv-loop
+    μ-loop
+    loop-holds
+    array-read-but-not
+    array-read-but-not-2
+    but-not-requires
+    returns
+    add-s
+    loop-less
+    loop-again
+    returns-2)

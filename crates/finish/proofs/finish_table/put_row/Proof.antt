@@ -1,0 +1,121 @@
+-- The edges are laid one by one.
+use mathlib.Core.Path.{_≡_, subst}
+use Prim.Native.Nat.{_-_, _/_, _≤_, _<_}
+use native.Mathlib.Nat.{div-lt-iff-lt-mul, mod-lt}
+use native.Mathlib.Omega.{arith}
+use lib.Dec.{lit<}
+use lib.ListN.{length, getD}
+use Rattle.finish.specs.TableParts.{RowPut}
+use Rattle.finish.proofs.CodePut.{put-start, put-more}
+use borrow.Author.Needs.{needs}
+use Rattle.finish.proofs.finish_table.put_row.Statement.{statement}
+use Rattle.finish.proofs.finish_table.put_row.Tie as tie
+
+abbrev Inv-loop : tie.InvT-loop
+Inv-loop n i list index r₀ d₀ r d = (d ≤ n) × (n ≤ 16) × RowPut r₀ (list .key) index n i d r
+
+abbrev μ-loop : tie.MeasureT-loop
+μ-loop n i list index r₀ d₀ r d = n - d
+
+loop-holds : tie.Need-loop-holds Inv-loop μ-loop
+loop-holds c =
+    let a : length (c .args .rows .word) ≡ 2048 = search needs in
+    let b : length (c .args .rows .next) ≡ 2048 = search needs in
+    (omega arith, c .pre .0, put-start _ _ _ _ _ a b)
+
+mul-key : tie.Need-mul-key Inv-loop μ-loop
+mul-key c = search needs
+
+element-copy-out-key : tie.Need-element-copy-out-key Inv-loop μ-loop
+element-copy-out-key c = search needs
+
+cast-r : tie.Need-cast-r Inv-loop μ-loop
+cast-r c =
+    let h : getD (c .before .before .before .args .t2 .key) (c .before .before .loop .d) 0 / 128 < 256 =
+    div-lt-iff-lt-mul {k = 128} {y = 256} (lit< tt) .1
+    (omega (
+      arith,
+      c .before .before .before .pre .3 (c .before .before .loop .d)
+          (c .before .loop-test .taken) .0,
+    )) in
+    omega arith
+
+mul-r : tie.Need-mul-r Inv-loop μ-loop
+mul-r c = search needs
+
+add-r : tie.Need-add-r Inv-loop μ-loop
+add-r c = search needs
+
+element-write-r : tie.Need-element-write-r Inv-loop μ-loop
+element-write-r c = search needs
+
+mul-r-2 : tie.Need-mul-r-2 Inv-loop μ-loop
+mul-r-2 c =
+    omega (
+      arith,
+      mod-lt (getD (c .before .before .before .args .t2 .key) (c .before .before .loop .d) 0) {m = 128}
+          (lit< tt),
+    )
+
+array-read-r : tie.Need-array-read-r Inv-loop μ-loop
+array-read-r c =
+    mod-lt (getD (c .before .before .before .args .t2 .key) (c .before .before .loop .d) 0) {m = 128} (lit< tt)
+
+cast-r-2 : tie.Need-cast-r-2 Inv-loop μ-loop
+cast-r-2 c =
+    omega (arith, c .before .before .before .pre .3 (c .before .before .loop .d) (c .before .loop-test .taken) .1)
+
+mul-r-3 : tie.Need-mul-r-3 Inv-loop μ-loop
+mul-r-3 c = search needs
+
+add-r-2 : tie.Need-add-r-2 Inv-loop μ-loop
+add-r-2 c = search needs
+
+element-write-r-2 : tie.Need-element-write-r-2 Inv-loop μ-loop
+element-write-r-2 c = search needs
+
+add-d : tie.Need-add-d Inv-loop μ-loop
+add-d c = search needs
+
+loop-less : tie.Need-loop-less Inv-loop μ-loop
+loop-less c = search needs
+
+loop-again : tie.Need-loop-again Inv-loop μ-loop
+loop-again c =
+    let l = c .before .before .loop in
+    let p = c .before .before .before .args in (
+      omega arith,
+      omega arith,
+      put-more (p .rows) (p .t2 .key) (p .t3) (p .n) (p .i) (l .d) (l .r) (omega arith) (omega arith) (l .inv .2),
+    )
+
+returns : tie.Need-returns Inv-loop μ-loop
+returns c =
+    let l = c .before .loop in
+    let p = c .before .before .args in
+    let e : l .d ≡ p .n = omega arith in
+    subst (λ d. RowPut (p .rows) (p .t2 .key) (p .t3) (p .n) (p .i) d (l .r)) e (l .inv .2)
+
+pub put-row-spec : {M : Type 1} → statement M
+put-row-spec =
+    tie.close
+    (tie.spec
+    Inv-loop
+    μ-loop
+    loop-holds
+    mul-key
+    element-copy-out-key
+    cast-r
+    mul-r
+    add-r
+    element-write-r
+    mul-r-2
+    array-read-r
+    cast-r-2
+    mul-r-3
+    add-r-2
+    element-write-r-2
+    add-d
+    loop-less
+    loop-again
+    returns)

@@ -1,0 +1,68 @@
+-- The count so far is the rank.
+use mathlib.Core.Path.{_≡_, sym}
+use mathlib.Core.Logic.{⊎-elim}
+use Prim.Native.Nat.{_-_, _≤_}
+use native.Mathlib.Omega.{arith}
+use Rattle.finish.specs.TableParts.{rank}
+use Rattle.graph.proofs.CodeLists.{Filled, fill-none, fill-more}
+use Rattle.finish.proofs.CodeRank.{rank-none, rank-yes, rank-no}
+use borrow.Author.Needs.{needs}
+use Rattle.finish.proofs.finish_table.ranks.Statement.{statement}
+use Rattle.finish.proofs.finish_table.ranks.Tie as tie
+
+abbrev Inv-loop : tie.InvT-loop
+Inv-loop k set r₀ count₀ t₀ r count t =
+    (t ≤ k) × (count ≤ t) × (count ≡ rank set t) × Filled 0 (rank set) 128 t r
+
+abbrev μ-loop : tie.MeasureT-loop
+μ-loop k set r₀ count₀ t₀ r count t = k - t
+
+loop-holds : tie.Need-loop-holds Inv-loop μ-loop
+loop-holds c = (omega arith, omega arith, sym (rank-none _), fill-none 0 _ 128 0)
+
+mul-r : tie.Need-mul-r Inv-loop μ-loop
+mul-r c = search needs
+
+array-write-r : tie.Need-array-write-r Inv-loop μ-loop
+array-write-r c = search needs
+
+array-read-if1 : tie.Need-array-read-if1 Inv-loop μ-loop
+array-read-if1 c = search needs
+
+add-count : tie.Need-add-count Inv-loop μ-loop
+add-count c = search needs
+
+add-t : tie.Need-add-t Inv-loop μ-loop
+add-t c = search needs
+
+loop-less : tie.Need-loop-less Inv-loop μ-loop
+loop-less c = search needs
+
+loop-again : tie.Need-loop-again Inv-loop μ-loop
+loop-again c =
+    let l = c .before .before .loop in
+    let p = c .before .before .before .args in
+    let f = fill-more 0 (rank (p .t1)) 128 (l .t) (l .r) (l .count) (omega arith) (l .inv .2) (l .inv .3) in
+    ⊎-elim
+    (λ w. (omega arith, omega (arith, w .1), omega (arith, w .1, rank-yes (p .t1) (l .t) (w .0 .taken)), f))
+    (λ w. (omega arith, omega (arith, w .1), omega (arith, w .1, rank-no (p .t1) (l .t) (w .0 .left)), f))
+    (c .if1 .came)
+
+returns : tie.Need-returns Inv-loop μ-loop
+returns c = λ t h. c .before .loop .inv .3 .holds t (omega arith)
+
+pub ranks-spec : {M : Type 1} → statement M
+ranks-spec =
+    tie.close
+    (tie.spec
+    Inv-loop
+    μ-loop
+    loop-holds
+    mul-r
+    array-write-r
+    array-read-if1
+    add-count
+    add-t
+    loop-less
+    loop-again
+    returns)

@@ -1,0 +1,103 @@
+-- The edges of each state reached are followed once; in the end no edge leads out of the set.
+use mathlib.Core.Path.{_≡_, refl, ap, _∙_}
+use mathlib.Core.Bool.{true, false, _||_}
+use Prim.Native.Nat.{_-_}
+use native.Mathlib.Omega.{arith}
+use lib.Dec.{eqb}
+use lib.ListN.{length, replicate, length-replicate, length-set}
+use Rattle.laws.specs.Sets.{member}
+use Rattle.order.specs.EdgeKeys.{keysIn}
+use Rattle.finish.specs.TableParts.{Finished, Open}
+use Rattle.finish.proofs.CodeClosure.{Forward, forward-start, forward-step, forward-end}
+use Rattle.finish.proofs.CodeMarks.{opens, opens-less, put-member, blank-none, open-set, open-done}
+use borrow.Author.Needs.{needs}
+use Rattle.finish.proofs.finish_table.reach_rows.Statement.{statement}
+use Rattle.finish.proofs.finish_table.reach_rows.Tie as tie
+
+abbrev Inv-loop : tie.InvT-loop
+Inv-loop g n k set₀ done₀ s₀ set done s =
+    (h : Finished n g) × (k ≡ g .states) × Open set done k s × Forward n g h set done
+
+abbrev μ-loop : tie.MeasureT-loop
+μ-loop g n k set₀ done₀ s₀ set done s = opens done k
+
+array-write-set : tie.Need-array-write-set Inv-loop μ-loop
+array-write-set c = search needs
+
+next-open-requires : tie.Need-next-open-requires Inv-loop μ-loop
+next-open-requires c κs = c .pre .fits .few
+
+loop-holds : tie.Need-loop-holds Inv-loop μ-loop
+loop-holds c =
+    let p = c .before .args in (
+      c .before .pre,
+      refl,
+      c .next-open .ensures,
+      forward-start (p .n) (p .g) (c .before .pre) _ _
+          (length-set (replicate 128 false) 0 true ∙ length-replicate 128 false)
+          (length-replicate 128 false)
+          (λ x. put-member (replicate 128 false) 0 x (omega (arith, length-replicate 128 false))
+          ∙ ap (λ b. b || eqb 0 x) (blank-none 128 x))
+          (blank-none 128),
+    )
+
+first-edges-requires : tie.Need-first-edges-requires Inv-loop μ-loop
+first-edges-requires c κs = (c .before .before .before .pre .fits, c .before .before .before .pre .few)
+
+mark-targets-requires : tie.Need-mark-targets-requires Inv-loop μ-loop
+mark-targets-requires c κs = omega (arith, c .first-edges .ensures .1, c .before .before .before .before .pre .few)
+
+array-write-done : tie.Need-array-write-done Inv-loop μ-loop
+array-write-done c = omega (arith, c .before .before .before .before .before .pre .fits .few)
+
+next-open-requires-2 : tie.Need-next-open-requires-2 Inv-loop μ-loop
+next-open-requires-2 c κs = c .before .before .before .before .before .pre .fits .few
+
+loop-less : tie.Need-loop-less Inv-loop μ-loop
+loop-less c =
+    let l = c .before .before .before .before .loop in
+    let o = l .inv .2 .here (c .before .before .before .loop-test .taken) in
+    opens-less (l .done) (l .s) (c .before .before .before .before .before .before .args .g .states)
+    (c .before .before .before .loop-test .taken)
+    (let m = l .inv .3 .longD in omega (arith, c .before .before .before .before .before .before .pre .fits .few))
+    (open-done (member (l .set) (l .s)) (member (l .done) (l .s)) o)
+
+loop-again : tie.Need-loop-again Inv-loop μ-loop
+loop-again c =
+    let l = c .before .before .before .before .loop in
+    let p = c .before .before .before .before .before .before .args in
+    let o = l .inv .2 .here (c .before .before .before .loop-test .taken) in
+    let a : length (c .before .mark-targets .result) ≡ 128 = search needs in (
+      l .inv .0,
+      refl,
+      c .next-open2 .ensures,
+      forward-step (p .n) (p .g) (l .inv .0) (l .set) (l .done) (l .inv .3) (l .s)
+          (c .before .before .before .loop-test .taken)
+          (open-set (member (l .set) (l .s)) (member (l .done) (l .s)) o)
+          (keysIn (c .before .before .first-edges .result)) (c .before .before .first-edges .ensures .0)
+          (c .before .mark-targets .result) a (c .before .mark-targets .ensures),
+    )
+
+returns : tie.Need-returns Inv-loop μ-loop
+returns c =
+    let l = c .before .loop in
+    let p = c .before .before .before .args in
+    let e : l .s ≡ p .g .states = omega (arith, c .loop-test .left, l .inv .2 .bound) in
+    forward-end (p .n) (p .g) (l .inv .0) (l .set) (l .done) (l .inv .3) (l .inv .2 .none e)
+
+pub reach-rows-spec : {M : Type 1} → statement M
+reach-rows-spec =
+    tie.close
+    (tie.spec
+    Inv-loop
+    μ-loop
+    array-write-set
+    next-open-requires
+    loop-holds
+    first-edges-requires
+    mark-targets-requires
+    array-write-done
+    next-open-requires-2
+    loop-less
+    loop-again
+    returns)

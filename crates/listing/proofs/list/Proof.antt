@@ -1,0 +1,62 @@
+-- `list` meets its contract: the listing of a job that compiles, and otherwise `refused` and the number.
+-- Assumes nothing.
+use mathlib.Core.Path.{_∙_, sym}
+use denote.Ref.{now}
+use borrow.Author.Needs.{needs}
+use Rattle.listing.proofs.Printing.{list-done, list-told}
+use Rattle.listing.proofs.list.Statement.{statement}
+use Rattle.listing.proofs.list.Tie as tie
+
+list-run-length-requires : tie.Need-list-run-length-requires
+list-run-length-requires c κs = search needs
+
+enum-known-size : tie.Need-enum-known-size
+enum-known-size c = search needs
+
+enum-known-r : tie.Need-enum-known-r
+enum-known-r c = search needs
+
+put-refusal-requires : tie.Need-put-refusal-requires
+put-refusal-requires c κs = search needs
+
+answer-value-requires : tie.Need-answer-value-requires
+answer-value-requires c κs = search needs
+
+same-length : tie.Need-same-length
+same-length c = search needs
+
+returns : tie.Need-returns
+returns c =
+    let call = c .before .before .before .before .before in
+    let start = call .before .before .before .before in
+    list-done (now (start .args .job)) (now (start .args .out)) (start .pre) _ (c .before .size .given .0 .0)
+    (sym (c .before .size .given .1) ∙ call .list-run-length .ensures .0) (call .list-run-length .ensures .1)
+
+same-length-2 : tie.Need-same-length-2
+same-length-2 c = search needs
+
+returns-2 : tie.Need-returns-2
+returns-2 c =
+    let put = c .before .before .before in
+    let r = put .before .before .before .r in
+    let call = put .before .before .before .before .before .before .before in
+    let start = call .before .before .before .before in
+    list-told (now (start .args .job)) (now (start .args .out)) (start .pre) (r .given .0 .0)
+    (call .list-run-length .last .1 .0) _
+    (put .put-refusal .result) (c .answer-value .result) (call .list-run-length .kept .1 .0)
+    (sym (r .given .1) ∙ call .list-run-length .ensures .0) (put .put-refusal .ensures .0)
+    (put .put-refusal .ensures .1) (c .answer-value .ensures)
+
+pub list-spec : {M : Type 1} → statement M
+list-spec =
+    tie.close
+    (tie.spec
+    list-run-length-requires
+    enum-known-size
+    enum-known-r
+    put-refusal-requires
+    answer-value-requires
+    same-length
+    returns
+    same-length-2
+    returns-2)

@@ -1,0 +1,6 @@
+pub mod CodeKeys
+pub mod CodePast
+pub mod CodeCarry
+pub mod CodeFirst
+pub mod CodeFront
+pub mod CodeOrder

@@ -1,0 +1,2 @@
+// The edges of a state "in order of word, then target".
+pub mod keys;

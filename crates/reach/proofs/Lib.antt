@@ -1,0 +1,5 @@
+pub mod CodeReach
+pub mod CodeTests
+pub mod CodeNumbers
+pub mod CodeMembers
+pub mod CodeFails

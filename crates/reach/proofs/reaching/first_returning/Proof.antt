@@ -1,0 +1,74 @@
+-- The states are tried from the lowest on.
+use mathlib.Core.Path.{_≡_, sym, _∙_}
+use mathlib.Core.Bool.{false, _&&_}
+use Prim.Native.Nat.{ℕ, _-_, _≤_, _<_}
+use native.Mathlib.Omega.{arith}
+use borrow.Author.Count.{below-more}
+use denote.Ref.{now}
+use lib.ListN.{length, take}
+use Rattle.graph.specs.Component.{returning, weighs, live}
+use Rattle.reach.specs.ReachSets.{rowsOf}
+use Rattle.reach.proofs.CodeMembers.{lowest-at, lowest-none}
+use borrow.Author.Needs.{needs}
+use Rattle.reach.proofs.reaching.first_returning.Statement.{statement}
+use Rattle.reach.proofs.reaching.first_returning.Tie as tie
+
+abbrev Inv-loop : tie.InvT-loop
+Inv-loop m v k s₀ s =
+    (s ≤ k) × ((j : ℕ) → j < s → (weighs (take k v) j && returning (rowsOf m k) (live (take k v)) j) ≡ false)
+
+abbrev μ-loop : tie.MeasureT-loop
+μ-loop m v k s₀ s = k - s
+
+loop-holds : tie.Need-loop-holds Inv-loop μ-loop
+loop-holds c = (omega arith, λ j h. absurd (omega arith))
+
+is-returning-requires : tie.Need-is-returning-requires Inv-loop μ-loop
+is-returning-requires c κs = (c .before .before .pre .0, c .before .before .pre .1, c .loop-test .taken)
+
+returns : tie.Need-returns Inv-loop μ-loop
+returns c =
+    let p = c .before .before .before .before .args in
+    let a : length (p .v) ≡ 16 = search needs in (
+      lowest-at (now (p .m)) (p .v) (p .k) (c .before .before .before .before .pre .1) a
+          (c .before .before .before .loop .s) (c .before .before .loop-test .taken)
+          (c .before .before .before .loop .inv .1)
+          (sym (c .before .is-returning .ensures) ∙ c .if1 .taken),
+      λ h. c .before .before .loop-test .taken,
+    )
+
+add-s : tie.Need-add-s Inv-loop μ-loop
+add-s c = search needs
+
+loop-less : tie.Need-loop-less Inv-loop μ-loop
+loop-less c = search needs
+
+loop-again : tie.Need-loop-again Inv-loop μ-loop
+loop-again c = (
+  omega arith,
+  below-more _ _ (c .before .before .before .loop .inv .1)
+      (sym (c .before .is-returning .ensures) ∙ c .if1 .left),
+)
+
+returns-2 : tie.Need-returns-2 Inv-loop μ-loop
+returns-2 c =
+    let p = c .before .before .args in
+    let a : length (p .v) ≡ 16 = search needs in (
+      lowest-none (now (p .m)) (p .v) (p .k) (c .before .before .pre .1) a
+          (λ j h. c .before .loop .inv .1 j (omega arith)),
+      λ h. h,
+    )
+
+pub first-returning-spec : {M : Type 1} → statement M
+first-returning-spec =
+    tie.close
+    (tie.spec
+    Inv-loop
+    μ-loop
+    loop-holds
+    is-returning-requires
+    returns
+    add-s
+    loop-less
+    loop-again
+    returns-2)

@@ -1,0 +1,46 @@
+-- The two tests one after the other.
+use mathlib.Core.Path.{_≡_, sym, ap, _∙_}
+use mathlib.Core.Bool.{true, false, _&&_}
+use native.Mathlib.Omega.{arith}
+use borrow.Author.Tests.{le-ltb, lt-ltb}
+use denote.Ref.{now}
+use lib.ListN.{length, getD, take}
+use Rattle.graph.specs.Component.{returning, weighs, live}
+use Rattle.reach.specs.ReachSets.{rowsOf}
+use Rattle.reach.proofs.CodeMembers.{weighs-at}
+use borrow.Author.Needs.{needs}
+use borrow.Author.Needs.{needs}
+use Rattle.reach.proofs.reaching.is_returning.Statement.{statement}
+use Rattle.reach.proofs.reaching.is_returning.Tie as tie
+
+mul-if1 : tie.Need-mul-if1
+mul-if1 c = search needs
+
+array-read-if1 : tie.Need-array-read-if1
+array-read-if1 c = search needs
+
+returns : tie.Need-returns
+returns c =
+    let p = c .before .args in
+    let a : length (p .t2) ≡ 16 = search needs in
+    let e : weighs (take (p .k) (p .t2)) (p .s) ≡ false =
+    weighs-at (now (p .m)) (p .t2) (p .k) (c .before .pre .1) a (p .s) (c .before .pre .2)
+    ∙ le-ltb 0 (getD (p .t2) (p .s) 0) (omega (arith, c .if1 .taken)) in
+    sym (ap (λ b. b && returning (rowsOf (now (p .m)) (p .k)) (live (take (p .k) (p .t2))) (p .s)) e)
+
+returns-all-requires : tie.Need-returns-all-requires
+returns-all-requires c κs = search needs
+
+returns-2 : tie.Need-returns-2
+returns-2 c =
+    let p = c .before .before .args in
+    let a : length (p .t2) ≡ 16 = search needs in
+    let e : weighs (take (p .k) (p .t2)) (p .s) ≡ true =
+    weighs-at (now (p .m)) (p .t2) (p .k) (c .before .before .pre .1) a (p .s) (c .before .before .pre .2)
+    ∙ lt-ltb 0 (getD (p .t2) (p .s) 0) (omega (arith, c .before .if1 .left)) in
+    c .returns-all .ensures
+    ∙ sym (ap (λ b. b && returning (rowsOf (now (p .m)) (p .k)) (live (take (p .k) (p .t2))) (p .s)) e)
+
+pub is-returning-spec : {M : Type 1} → statement M
+is-returning-spec =
+    tie.close (tie.spec mul-if1 array-read-if1 returns returns-all-requires returns-2)

@@ -1,0 +1,100 @@
+-- The states are tried one by one.
+use mathlib.Core.Path.{_≡_, refl, sym, ap, ap₂, _∙_}
+use mathlib.Core.Logic.{⊎-elim}
+use mathlib.Core.Bool.{true, false, _&&_}
+use Prim.Native.Nat.{_+_, _-_, _*_, _≤_}
+use native.Mathlib.Omega.{arith}
+use denote.Ref.{now}
+use lib.Dec.{T}
+use lib.ListN.{getD}
+use Rattle.laws.specs.Lists.{range, any}
+use Rattle.laws.proofs.Tests.{T→true, →any-below}
+use Rattle.reach.specs.ReachSets.{passesOn}
+use Rattle.reach.proofs.CodeReach.{any-range-no}
+use borrow.Author.Needs.{needs}
+use Rattle.reach.proofs.reaching.leads_any.Statement.{statement}
+use Rattle.reach.proofs.reaching.leads_any.Tie as tie
+
+abbrev Inv-loop : tie.InvT-loop
+Inv-loop edge m k t s u₀ u = (u ≤ k) × (any (passesOn edge m t s) (range u) ≡ false)
+
+abbrev μ-loop : tie.MeasureT-loop
+μ-loop edge m k t s u₀ u = k - u
+
+loop-holds : tie.Need-loop-holds Inv-loop μ-loop
+loop-holds c = (omega arith, refl)
+
+mul-if1 : tie.Need-mul-if1 Inv-loop μ-loop
+mul-if1 c = search needs
+
+add-if1 : tie.Need-add-if1 Inv-loop μ-loop
+add-if1 c = search needs
+
+element-copy-out-if1 : tie.Need-element-copy-out-if1 Inv-loop μ-loop
+element-copy-out-if1 c = search needs
+
+mul-if2 : tie.Need-mul-if2 Inv-loop μ-loop
+mul-if2 c = search needs
+
+add-if2 : tie.Need-add-if2 Inv-loop μ-loop
+add-if2 c = search needs
+
+element-copy-out-if2 : tie.Need-element-copy-out-if2 Inv-loop μ-loop
+element-copy-out-if2 c = search needs
+
+returns : tie.Need-returns Inv-loop μ-loop
+returns c =
+    let p = c .before .before .before .before .before .before .args in
+    let f = passesOn (now (p .edge)) (now (p .m)) (p .t) (p .s) in
+    let e : f (c .before .before .before .before .before .loop .u)
+    ≡ true = ap₂ (λ a b. a && b) (c .before .before .if1 .taken) (c .if2 .taken) in
+    sym (T→true (any f (range (p .k)))
+    (→any-below f (p .k) (c .before .before .before .before .before .loop .u) (omega arith) (rw e tt)))
+
+add-u : tie.Need-add-u Inv-loop μ-loop
+add-u c = search needs
+
+loop-less : tie.Need-loop-less Inv-loop μ-loop
+loop-less c = search needs
+
+loop-again : tie.Need-loop-again Inv-loop μ-loop
+loop-again c =
+    let p = c .before .before .before .before .args in
+    let f = passesOn (now (p .edge)) (now (p .m)) (p .t) (p .s) in
+    ⊎-elim
+    (λ w. (
+      omega arith,
+      any-range-no f (c .before .before .before .loop .u) (c .before .before .before .loop .inv .1)
+          (ap₂ (λ a b. a && b) (w .0 .taken) (w .2 .left)),
+    ))
+    (λ w. (
+      omega arith,
+      any-range-no f (c .before .before .before .loop .u) (c .before .before .before .loop .inv .1)
+          (ap (λ a. a && getD (now (p .m)) (p .t * 16 + c .before .before .before .loop .u) false) (w .left)),
+    ))
+    (c .if1 .came)
+
+returns-2 : tie.Need-returns-2 Inv-loop μ-loop
+returns-2 c =
+    let p = c .before .before .args in
+    let e : p .k ≡ c .before .loop .u = omega arith in
+    sym (ap (λ n. any (passesOn (now (p .edge)) (now (p .m)) (p .t) (p .s)) (range n)) e ∙ c .before .loop .inv .1)
+
+pub leads-any-spec : {M : Type 1} → statement M
+leads-any-spec =
+    tie.close
+    (tie.spec
+    Inv-loop
+    μ-loop
+    loop-holds
+    mul-if1
+    add-if1
+    element-copy-out-if1
+    mul-if2
+    add-if2
+    element-copy-out-if2
+    returns
+    add-u
+    loop-less
+    loop-again
+    returns-2)

@@ -1,0 +1,119 @@
+-- The states that pass are appended, and each gets its place as its number.
+use mathlib.Core.Path.{_≡_, sym, subst, _∙_}
+use mathlib.Core.Logic.{⊎-elim}
+use mathlib.Core.Bool.{Bool, _&&_}
+use Prim.Native.Nat.{ℕ, _-_, _≤_}
+use native.Mathlib.Omega.{arith}
+use denote.Ref.{now}
+use lib.Dec.{ltb}
+use lib.ListN.{length, getD}
+use Rattle.reach.specs.ReachSets.{reachAt}
+use Rattle.reach.proofs.CodeMembers.{component-is}
+use Rattle.reach.proofs.CodeNumbers.{Numbered, numbered-none, numbered-yes, numbered-no, numbered-end}
+use borrow.Author.Needs.{needs}
+use Rattle.reach.proofs.reaching.list_members.Statement.{statement}
+use Rattle.reach.proofs.reaching.list_members.Tie as tie
+
+abbrev Inv-loop : tie.InvT-loop
+Inv-loop m k s v state₀ index₀ count₀ t₀ state index count t =
+    (t ≤ k) × (k ≤ 16) × Numbered (λ x. ltb 0 (getD v x 0) && reachAt m x s) t count state index
+
+abbrev μ-loop : tie.MeasureT-loop
+μ-loop m k s v state₀ index₀ count₀ t₀ state index count t = k - t
+
+loop-holds : tie.Need-loop-holds Inv-loop μ-loop
+loop-holds c = (omega arith, c .pre .1, numbered-none _)
+
+mul-is-member : tie.Need-mul-is-member Inv-loop μ-loop
+mul-is-member c = search needs
+
+array-read-is-member : tie.Need-array-read-is-member Inv-loop μ-loop
+array-read-is-member c = search needs
+
+mul-is-member-2 : tie.Need-mul-is-member-2 Inv-loop μ-loop
+mul-is-member-2 c = search needs
+
+add-is-member : tie.Need-add-is-member Inv-loop μ-loop
+add-is-member c = search needs
+
+element-copy-out-is-member : tie.Need-element-copy-out-is-member Inv-loop μ-loop
+element-copy-out-is-member c = search needs
+
+is-member-requires : tie.Need-is-member-requires Inv-loop μ-loop
+is-member-requires c κs = search needs
+
+mul-state : tie.Need-mul-state Inv-loop μ-loop
+mul-state c = search needs
+
+array-write-state : tie.Need-array-write-state Inv-loop μ-loop
+array-write-state c = omega (arith, c .before .before .before .before .loop .inv .2 .fits)
+
+mul-index : tie.Need-mul-index Inv-loop μ-loop
+mul-index c = search needs
+
+array-write-index : tie.Need-array-write-index Inv-loop μ-loop
+array-write-index c = search needs
+
+add-count : tie.Need-add-count Inv-loop μ-loop
+add-count c = search needs
+
+add-t : tie.Need-add-t Inv-loop μ-loop
+add-t c = search needs
+
+loop-less : tie.Need-loop-less Inv-loop μ-loop
+loop-less c = search needs
+
+loop-again : tie.Need-loop-again Inv-loop μ-loop
+loop-again c =
+    let l = c .before .before .before .before .loop in
+    let p = c .before .before .before .before .before .args in
+    let q : ℕ → Bool = λ x. ltb 0 (getD (p .t2) x 0) && reachAt (now (p .m)) x (p .s) in
+    let e = c .before .is-member .ensures in
+    ⊎-elim
+    (λ w. (
+      omega arith,
+      omega arith,
+      rw (w .1, w .2, w .3)
+          (numbered-yes q (l .t) (l .count) (l .state) (l .index) (omega arith) (l .inv .2) (sym e ∙ w .0 .taken)),
+    ))
+    (λ w. (
+      omega arith,
+      omega arith,
+      rw (w .1, w .2, w .3)
+          (numbered-no q (l .t) (l .count) (l .state) (l .index) (omega arith) (l .inv .2) (sym e ∙ w .0 .left)),
+    ))
+    (c .if1 .came)
+
+returns : tie.Need-returns Inv-loop μ-loop
+returns c =
+    let l = c .before .loop in
+    let p = c .before .before .args in
+    let a : length (p .t2) ≡ 16 = search needs in
+    let q : ℕ → Bool = λ x. ltb 0 (getD (p .t2) x 0) && reachAt (now (p .m)) x (p .s) in
+    let e : l .t ≡ p .k = omega arith in
+    numbered-end q (p .k) (l .count) (l .state) (l .index) _ (c .before .before .pre .1)
+    (component-is (now (p .m)) (p .t2) (p .k) (c .before .before .pre .1) a (p .s) (c .before .before .pre .2))
+    (subst (λ n. Numbered q n (l .count) (l .state) (l .index)) e (l .inv .2))
+
+pub list-members-spec : {M : Type 1} → statement M
+list-members-spec =
+    tie.close
+    (tie.spec
+    Inv-loop
+    μ-loop
+    loop-holds
+    mul-is-member
+    array-read-is-member
+    mul-is-member-2
+    add-is-member
+    element-copy-out-is-member
+    is-member-requires
+    mul-state
+    array-write-state
+    mul-index
+    array-write-index
+    add-count
+    add-t
+    loop-less
+    loop-again
+    returns)

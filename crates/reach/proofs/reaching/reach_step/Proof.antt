@@ -1,0 +1,67 @@
+-- The new places go into a fresh array.
+use mathlib.Core.Bool.{false, _||_}
+use Prim.Native.Nat.{_-_, _/_, _%_, _≤_}
+use native.Mathlib.Omega.{arith}
+use denote.Ref.{now}
+use lib.ListN.{getD}
+use Rattle.laws.specs.Lists.{range, any}
+use Rattle.reach.specs.ReachSets.{passesOn}
+use Rattle.graph.proofs.CodeLists.{Filled, fill-none, fill-more}
+use borrow.Author.Needs.{needs}
+use Rattle.reach.proofs.reaching.reach_step.Statement.{statement}
+use Rattle.reach.proofs.reaching.reach_step.Tie as tie
+
+abbrev Inv-loop : tie.InvT-loop
+Inv-loop edge m k r₀ n x₀ r x =
+    (x ≤ n) × (n ≤ 256) × Filled false
+    (λ y. getD m y false || any (passesOn edge m (y / 16) (y % 16)) (range k)) 256 x r
+
+abbrev μ-loop : tie.MeasureT-loop
+μ-loop edge m k r₀ n x₀ r x = n - x
+
+mul-n : tie.Need-mul-n Inv-loop μ-loop
+mul-n c = search needs
+
+loop-holds : tie.Need-loop-holds Inv-loop μ-loop
+loop-holds c = (omega arith, omega arith, fill-none false _ 256 false)
+
+reaches-on-requires : tie.Need-reaches-on-requires Inv-loop μ-loop
+reaches-on-requires c κs = search needs
+
+array-write-r : tie.Need-array-write-r Inv-loop μ-loop
+array-write-r c = search needs
+
+add-x : tie.Need-add-x Inv-loop μ-loop
+add-x c = search needs
+
+loop-less : tie.Need-loop-less Inv-loop μ-loop
+loop-less c = search needs
+
+loop-again : tie.Need-loop-again Inv-loop μ-loop
+loop-again c =
+    let l = c .before .before .loop in
+    let p = c .before .before .before .args in (
+      omega arith,
+      omega arith,
+      fill-more false (λ y. getD (now (p .m)) y false || any (passesOn (now (p .edge)) (now (p .m)) (y / 16) (y % 16))
+          (range (p .k)))
+          256 (l .x) (l .r) _ (omega arith) (c .reaches-on .ensures) (l .inv .2),
+    )
+
+returns : tie.Need-returns Inv-loop μ-loop
+returns c = λ x h. c .before .loop .inv .2 .holds x (omega arith)
+
+pub reach-step-spec : {M : Type 1} → statement M
+reach-step-spec =
+    tie.close
+    (tie.spec
+    Inv-loop
+    μ-loop
+    mul-n
+    loop-holds
+    reaches-on-requires
+    array-write-r
+    add-x
+    loop-less
+    loop-again
+    returns)

@@ -1,0 +1,42 @@
+-- The two tests one after the other.
+use mathlib.Core.Path.{sym, ap, _∙_}
+use mathlib.Core.Bool.{_||_}
+use Prim.Native.Nat.{_/_, _%_, _<_}
+use native.Mathlib.Nat.{div-lt-iff-lt-mul, mod-lt}
+use native.Mathlib.Omega.{arith}
+use denote.Ref.{now}
+use lib.Dec.{lit<}
+use Rattle.laws.specs.Lists.{range, any}
+use Rattle.reach.specs.ReachSets.{passesOn}
+use borrow.Author.Needs.{needs}
+use borrow.Author.Needs.{needs}
+use Rattle.reach.proofs.reaching.reaches_on.Statement.{statement}
+use Rattle.reach.proofs.reaching.reaches_on.Tie as tie
+
+element-copy-out-if1 : tie.Need-element-copy-out-if1
+element-copy-out-if1 c = search needs
+
+returns : tie.Need-returns
+returns c =
+    let p = c .before .before .args in
+    sym (ap (λ b. b || any (passesOn (now (p .edge)) (now (p .m)) (p .x / 16) (p .x % 16)) (range (p .k)))
+    (c .if1 .taken))
+
+leads-any-requires : tie.Need-leads-any-requires
+leads-any-requires c κs = (
+  c .before .before .pre .0,
+  c .before .before .pre .1,
+  c .before .before .pre .2,
+  div-lt-iff-lt-mul {k = 16} {y = 16} (lit< tt) .1 (omega arith),
+  mod-lt (c .before .before .args .x) {m = 16} (lit< tt),
+)
+
+returns-2 : tie.Need-returns-2
+returns-2 c =
+    let p = c .before .before .before .args in
+    c .leads-any .ensures
+    ∙ sym (ap (λ b. b || any (passesOn (now (p .edge)) (now (p .m)) (p .x / 16) (p .x % 16)) (range (p .k)))
+    (c .before .if1 .left))
+
+pub reaches-on-spec : {M : Type 1} → statement M
+reaches-on-spec = tie.close (tie.spec element-copy-out-if1 returns leads-any-requires returns-2)

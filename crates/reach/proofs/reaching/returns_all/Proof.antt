@@ -1,0 +1,100 @@
+-- The states are tried one by one.
+use mathlib.Core.Path.{_≡_, sym, _∙_}
+use mathlib.Core.Bool.{false}
+use Prim.Native.Nat.{ℕ, _-_, _≤_, _<_}
+use native.Mathlib.Omega.{arith}
+use borrow.Author.Count.{below-more}
+use denote.Ref.{now}
+use lib.ListN.{length}
+use Rattle.reach.proofs.CodeFails.{failsAt, fails-yes, fails-no}
+use borrow.Author.Needs.{needs}
+use Rattle.reach.proofs.reaching.returns_all.Statement.{statement}
+use Rattle.reach.proofs.reaching.returns_all.Tie as tie
+
+abbrev Inv-loop : tie.InvT-loop
+Inv-loop m k s v t₀ t = (t ≤ k) × ((j : ℕ) → j < t → failsAt m v s j ≡ false)
+
+abbrev μ-loop : tie.MeasureT-loop
+μ-loop m k s v t₀ t = k - t
+
+loop-holds : tie.Need-loop-holds Inv-loop μ-loop
+loop-holds c = (omega arith, λ j h. absurd (omega arith))
+
+mul-no-return : tie.Need-mul-no-return Inv-loop μ-loop
+mul-no-return c = search needs
+
+array-read-no-return : tie.Need-array-read-no-return Inv-loop μ-loop
+array-read-no-return c = search needs
+
+mul-no-return-2 : tie.Need-mul-no-return-2 Inv-loop μ-loop
+mul-no-return-2 c = search needs
+
+add-no-return : tie.Need-add-no-return Inv-loop μ-loop
+add-no-return c = search needs
+
+element-copy-out-no-return : tie.Need-element-copy-out-no-return Inv-loop μ-loop
+element-copy-out-no-return c = search needs
+
+mul-no-return-3 : tie.Need-mul-no-return-3 Inv-loop μ-loop
+mul-no-return-3 c = search needs
+
+add-no-return-2 : tie.Need-add-no-return-2 Inv-loop μ-loop
+add-no-return-2 c = search needs
+
+element-copy-out-no-return-2 : tie.Need-element-copy-out-no-return-2 Inv-loop μ-loop
+element-copy-out-no-return-2 c = search needs
+
+no-return-requires : tie.Need-no-return-requires Inv-loop μ-loop
+no-return-requires c κs = search needs
+
+returns : tie.Need-returns Inv-loop μ-loop
+returns c =
+    let p = c .before .before .before .before .before .before .args in
+    let a : length (p .t2) ≡ 16 = search needs in
+    sym (fails-no (now (p .m)) (p .t2) (p .k) (c .before .before .before .before .before .before .pre .1) a (p .s)
+    (c .before .before .before .before .before .loop .t)
+    (c .before .before .before .before .before .before .pre .2)
+    (c .before .before .before .before .loop-test .taken)
+    (sym (c .before .no-return .ensures) ∙ c .if1 .taken))
+
+add-t : tie.Need-add-t Inv-loop μ-loop
+add-t c = search needs
+
+loop-less : tie.Need-loop-less Inv-loop μ-loop
+loop-less c = search needs
+
+loop-again : tie.Need-loop-again Inv-loop μ-loop
+loop-again c = (
+  omega arith,
+  below-more _ _ (c .before .before .before .before .before .loop .inv .1)
+      (sym (c .before .no-return .ensures) ∙ c .if1 .left),
+)
+
+returns-2 : tie.Need-returns-2 Inv-loop μ-loop
+returns-2 c =
+    let p = c .before .before .args in
+    let a : length (p .t2) ≡ 16 = search needs in
+    sym (fails-yes (now (p .m)) (p .t2) (p .k) (c .before .before .pre .1) a (p .s) (c .before .before .pre .2)
+    (λ t h. c .before .loop .inv .1 t (omega arith)))
+
+pub returns-all-spec : {M : Type 1} → statement M
+returns-all-spec =
+    tie.close
+    (tie.spec
+    Inv-loop
+    μ-loop
+    loop-holds
+    mul-no-return
+    array-read-no-return
+    mul-no-return-2
+    add-no-return
+    element-copy-out-no-return
+    mul-no-return-3
+    add-no-return-2
+    element-copy-out-no-return-2
+    no-return-requires
+    returns
+    add-t
+    loop-less
+    loop-again
+    returns-2)

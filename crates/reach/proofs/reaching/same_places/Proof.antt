@@ -1,0 +1,57 @@
+-- The places are compared one by one.
+use mathlib.Core.Path.{_≡_}
+use mathlib.Core.Bool.{false}
+use Prim.Native.Nat.{ℕ, _-_, _≤_, _<_}
+use native.Mathlib.Omega.{arith}
+use borrow.Author.Count.{below-more}
+use lib.ListN.{getD}
+use borrow.Author.Needs.{needs}
+use Rattle.reach.proofs.CodeReach.{same-bool}
+use Rattle.reach.proofs.reaching.same_places.Statement.{statement}
+use Rattle.reach.proofs.reaching.same_places.Tie as tie
+
+abbrev Inv-loop : tie.InvT-loop
+Inv-loop a b n x₀ x = (x ≤ n) × ((j : ℕ) → j < x → getD a j false ≡ getD b j false)
+
+abbrev μ-loop : tie.MeasureT-loop
+μ-loop a b n x₀ x = n - x
+
+loop-holds : tie.Need-loop-holds Inv-loop μ-loop
+loop-holds c = (omega arith, λ j h. absurd (omega arith))
+
+element-copy-out-if1 : tie.Need-element-copy-out-if1 Inv-loop μ-loop
+element-copy-out-if1 c = search needs
+
+element-copy-out-if1-2 : tie.Need-element-copy-out-if1-2 Inv-loop μ-loop
+element-copy-out-if1-2 c = search needs
+
+returns : tie.Need-returns Inv-loop μ-loop
+returns c = λ e. let z : _≡_ {A = ℕ} 0 1 = cc in absurd (omega arith)
+
+add-x : tie.Need-add-x Inv-loop μ-loop
+add-x c = search needs
+
+loop-less : tie.Need-loop-less Inv-loop μ-loop
+loop-less c = search needs
+
+loop-again : tie.Need-loop-again Inv-loop μ-loop
+loop-again c =
+    (omega arith, below-more _ _ (c .before .before .before .before .loop .inv .1) (same-bool _ _ (c .if1 .left)))
+
+returns-2 : tie.Need-returns-2 Inv-loop μ-loop
+returns-2 c = λ e j h. c .before .loop .inv .1 j (omega arith)
+
+pub same-places-spec : {M : Type 1} → statement M
+same-places-spec =
+    tie.close
+    (tie.spec
+    Inv-loop
+    μ-loop
+    loop-holds
+    element-copy-out-if1
+    element-copy-out-if1-2
+    returns
+    add-x
+    loop-less
+    loop-again
+    returns-2)

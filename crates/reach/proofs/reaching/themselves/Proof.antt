@@ -1,0 +1,49 @@
+-- Place x is for the state x / 16 and the state x % 16.
+use mathlib.Core.Path.{refl}
+use mathlib.Core.Bool.{false}
+use Prim.Native.Nat.{_-_, _/_, _%_, _≤_}
+use native.Mathlib.Omega.{arith}
+use lib.Dec.{eqb}
+use Rattle.graph.proofs.CodeLists.{Filled, fill-none, fill-more}
+use borrow.Author.Needs.{needs}
+use Rattle.reach.proofs.reaching.themselves.Statement.{statement}
+use Rattle.reach.proofs.reaching.themselves.Tie as tie
+
+abbrev Inv-loop : tie.InvT-loop
+Inv-loop k r₀ n x₀ r x =
+    (x ≤ n) × (n ≤ 256) × Filled false (λ y. eqb (y / 16) (y % 16)) 256 x r
+
+abbrev μ-loop : tie.MeasureT-loop
+μ-loop k r₀ n x₀ r x = n - x
+
+mul-n : tie.Need-mul-n Inv-loop μ-loop
+mul-n c = search needs
+
+loop-holds : tie.Need-loop-holds Inv-loop μ-loop
+loop-holds c = (omega arith, omega arith, fill-none false _ 256 false)
+
+array-write-r : tie.Need-array-write-r Inv-loop μ-loop
+array-write-r c = search needs
+
+add-x : tie.Need-add-x Inv-loop μ-loop
+add-x c = search needs
+
+loop-less : tie.Need-loop-less Inv-loop μ-loop
+loop-less c = search needs
+
+loop-again : tie.Need-loop-again Inv-loop μ-loop
+loop-again c =
+    let l = c .before .loop in (
+      omega arith,
+      omega arith,
+      fill-more false (λ y. eqb (y / 16) (y % 16)) 256 (l .x) (l .r) _ (omega arith) refl
+          (l .inv .2),
+    )
+
+returns : tie.Need-returns Inv-loop μ-loop
+returns c = λ x h. c .before .loop .inv .2 .holds x (omega arith)
+
+pub themselves-spec : {M : Type 1} → statement M
+themselves-spec =
+    tie.close
+    (tie.spec Inv-loop μ-loop mul-n loop-holds array-write-r add-x loop-less loop-again returns)

@@ -1,0 +1,167 @@
+-- Splitting a state, put together of its parts.
+-- In order: the module of one split: keys-inside, weights-low, map-weight, inside-run, kept-is, kept-total, share-le,
+-- room-moved, parted-is.
+-- Assumes nothing.
+use mathlib.Core.Path.{_≡_, refl, sym, ap, ap₂, subst, _∙_}
+use mathlib.Core.List.{List, [], _∷_, _++_, map}
+use Prim.Native.Nat.{ℕ, _+_, _-_, _*_, _/_, _%_, _≤_, _<_}
+use native.Mathlib.Nat.{le-trans, div-le-of-le-mul, mul-le-mul-right}
+use native.Mathlib.Omega.{arith}
+use lib.Dec.{T}
+use lib.ListN.{length, getD, take, drop, set, length-take, length-map}
+use lib.Seq.{length-take-le, getD-take}
+use Rattle.laws.specs.Lists.{range, filter, any, first}
+use Rattle.laws.specs.Sums.{Each}
+use Rattle.laws.proofs.Sums.{each-map, each-append, each-filter, each-take, each-image, image-each, first-passes}
+use Rattle.laws.proofs.Elems.{each-at}
+use Rattle.laws.proofs.Tests.{map-range-at}
+use Rattle.graph.specs.declared.Graph.{Graph}
+use Rattle.order.specs.declared.keys.Keys.{Keys}
+use Rattle.splitting.specs.declared.find_run.Run.{Run}
+use Rattle.graph.specs.Arcs.{Arc, arc, leaves, out}
+use Rattle.graph.specs.Weights.{weight, total}
+use Rattle.graph.specs.Splitting.{sort, greatest, lighter, other, candidates, firstRun, kept, moved, doubled}
+use Rattle.graph.specs.Value.{arcsIn, weightAt, weightsIn, Fits}
+use Rattle.order.specs.EdgeKeys.{arcOf, keysIn, keyWeight}
+use Rattle.splitting.specs.SplitParts.{FirstRun, keptArcs, Moved, entering, Doubled, Weighed, PartedInto}
+use Rattle.graph.proofs.Choice.{total-le}
+use Rattle.graph.proofs.Candidates.{each-sort, any-sort}
+use Rattle.graph.proofs.CodeLists.{length-map-range}
+use Rattle.graph.proofs.CodeMaps.{map-take, map-drop, map-each}
+use Rattle.graph.proofs.CodeValue.{Bounded, Low, fits-arcs, fits-from, fits-weights}
+use Rattle.splitting.proofs.CodeMoved.{each-parted, each-set, entering-moved}
+
+-- ---- one state split
+module _ (n : ℕ) (g : Graph) (s M : ℕ) (fits : Fits g) (hs : s < g .states) (few : g .states < 128)
+    (eM : M ≡ getD (weightsIn g) s 0) (eG : M ≡ greatest (weightsIn g))
+    (some : T (any (lighter (weightsIn g) M) (out (arcsIn g) s))) (hn : 0 < n)
+    (list : Keys) (la : length (list .key) ≡ 16) (few-keys : list .count ≤ n) (h16 : n ≤ 16)
+    (is-list : map (arcOf s) (keysIn list) ≡ candidates n (weightsIn g) M (sort (out (arcsIn g) s))) where
+  abbrev v : List ℕ
+  v = weightsIn g
+
+  abbrev es : List Arc
+  es = sort (out (arcsIn g) s)
+
+  many : length (keysIn list) ≡ list .count
+  many = length-take-le (list .count) (list .key) (omega arith)
+
+  keys-inside : Each (λ k. k % 128 < g .states) (keysIn list)
+  keys-inside =
+      image-each (λ e. e .target < g .states) (arcOf s) (keysIn list)
+      (subst (Each (λ e. e .target < g .states)) (sym is-list) (
+        first-passes (lighter v M) (arc 0 0 0) (λ e. e .target < g .states) es
+            (any-sort (lighter v M) (out (arcsIn g) s) some) inside .1,
+        each-take (λ e. e .target < g .states) (n - 1) (filter (other (first (lighter v M) (arc 0 0 0) es)) es)
+            (each-filter (λ e. e .target < g .states) (other (first (lighter v M) (arc 0 0 0) es)) es
+            (each-map (λ e. e .target < g .states) _ (λ e h t. h) es inside)),
+      ))
+    where
+      inside : Each (λ e. e .target < g .states) es
+      inside =
+          each-sort (λ e. e .target < g .states) (out (arcsIn g) s)
+          (each-filter (λ e. e .target < g .states) (leaves s) (arcsIn g)
+          (each-map (Bounded (g .states)) _ (λ e b t. b .1) (arcsIn g) (fits-arcs g fits)))
+
+  module _ (w : List ℕ) (w-is : take (list .count) w ≡ map (keyWeight g) (keysIn list)) where
+    pub weights-low : (i : ℕ) → i < list .count → getD w i 0 ≤ 128
+    weights-low i h =
+        let e : getD (map (keyWeight g) (keysIn list)) i 0 ≡ getD w i 0 =
+        ap (λ l. getD l i 0) (sym w-is) ∙ getD-take (list .count) w i 0 h in
+        subst Low e (each-at Low 0 (map (keyWeight g) (keysIn list))
+        (each-image Low (keyWeight g) (keysIn list)
+        (each-map (λ k. k % 128 < g .states) _ (λ k l. fits .light (k % 128) l) (keysIn list) keys-inside)) i
+        (rw (length-map (keysIn list) (keyWeight g), many) h))
+
+    map-weight : map (weight v) (candidates n v M es) ≡ take (list .count) w
+    map-weight =
+        ap (map (weight v)) (sym is-list) ∙ both (keysIn list)
+        ∙ map-each (λ k. weight v (arcOf s k)) (keyWeight g) (keysIn list)
+        (each-map (λ k. k % 128 < g .states) _ (λ k l. map-range-at (weightAt g) (g .states) (k % 128) 0 l)
+        (keysIn list)
+        keys-inside)
+        ∙ sym w-is
+      where
+        both : (l : List ℕ) → map (weight v) (map (arcOf s) l) ≡ map (λ k. weight v (arcOf s k)) l
+        both [] = refl
+        both (x ∷ l) = ap (λ y. weight v (arcOf s x) ∷ y) (both l)
+
+    module _ (run : Run) (run-is : FirstRun n (take (list .count) w) run) where
+      abbrev keep : List Arc
+      keep = kept n v (arcsIn g) s
+
+      pub inside-run : run .from + run .count ≤ list .count
+      inside-run =
+          let l : length (take (list .count) w) ≡ list .count =
+          ap length w-is ∙ length-map (keysIn list) (keyWeight g) ∙ many in
+          omega (arith, run-is .inside)
+
+      pub kept-is : keptArcs s list run ≡ keep
+      kept-is =
+          map-take (arcOf s) (run .count) (drop (run .from) (keysIn list))
+          ∙ ap (take (run .count)) (map-drop (arcOf s) (run .from) (keysIn list) ∙ ap (drop (run .from)) is-list)
+          ∙ sym (run-is .run v (candidates n v M es) map-weight .0)
+          ∙ ap (λ m. firstRun n v (candidates n v m es)) eM
+
+      pub kept-total : total v keep ≡ run .total
+      kept-total =
+          ap (total v) (sym (ap (λ m. firstRun n v (candidates n v m es)) eM)
+          ∙ run-is .run v (candidates n v M es) map-weight .0)
+          ∙ run-is .run v (candidates n v M es) map-weight .1
+
+      kept-few : length keep ≤ n
+      kept-few =
+          let a : length (keptArcs s list run) ≡ length (take (run .count) (drop (run .from) (keysIn list))) =
+          length-map (take (run .count) (drop (run .from) (keysIn list))) (arcOf s) in
+          let b = length-take (run .count) (drop (run .from) (keysIn list)) in
+          omega (arith, ap length kept-is, inside-run)
+
+      pub share-le : run .total / n ≤ M
+      share-le =
+          div-le-of-le-mul n (subst (λ x. x ≤ n * M) kept-total
+          (le-trans (total-le v keep) (rw (← eG) (mul-le-mul-right M kept-few))))
+
+      pub room-moved : g .edges + entering (arcsIn g) s ≤ 2048 → (h : Graph) → Moved g s (keptArcs s list run) h
+          → h .edges + entering (arcsIn h) s ≤ 2048
+      room-moved r h m =
+          let e : entering (arcsIn h) s ≡ entering (arcsIn g) s =
+          ap (λ l. entering l s) (m .arcs) ∙ entering-moved s (g .states) (keptArcs s list run) (arcsIn g) in
+          omega (arith, m .edges)
+
+      module _ (h : Graph) (m : Moved g s (keptArcs s list run) h) (d : Graph) (D : Doubled h s d)
+          (r : Graph) (W : Weighed d s (run .total / n) r) where
+        weights-d : weightsIn d ≡ v
+        weights-d = ap₂ (λ k l. map (λ i. getD l i 0) (range k)) (D .states ∙ m .states) (D .weight ∙ m .weight)
+
+        states-r : r .states ≡ g .states + 1
+        states-r = W .states ∙ ap (λ k. k + 1) (D .states ∙ m .states)
+
+        arcs-r : arcsIn r ≡ doubled s (g .states) (map (moved s (g .states) keep) (arcsIn g))
+        arcs-r =
+            W .arcs ∙ D .arcs ∙ ap₂ (λ k l. doubled s k l) (m .states) (m .arcs)
+            ∙ ap (λ q. doubled s (g .states) (map (moved s (g .states) q) (arcsIn g))) kept-is
+
+        weights-r : weightsIn r ≡ set v s (run .total / n) ++ ((getD v s 0 - run .total / n) ∷ [])
+        weights-r = W .weights ∙ ap (λ l. set l s (run .total / n) ++ ((getD l s 0 - run .total / n) ∷ [])) weights-d
+
+        pub parted-is : PartedInto n g s r
+        parted-is = record {
+          work =
+              let K : length v ≡ g .states = length-map-range (weightAt g) (g .states) in
+              let a : arcsIn r ≡ doubled s (length v) (map (moved s (length v) keep) (arcsIn g)) =
+              arcs-r ∙ ap (λ k. doubled s k (map (moved s k keep) (arcsIn g))) (sym K) in
+              let b : weightsIn r ≡ set v s (total v keep / n) ++ ((getD v s 0 - total v keep / n) ∷ []) =
+              weights-r ∙ ap (λ t. set v s (t / n) ++ ((getD v s 0 - t / n) ∷ [])) (sym kept-total) in
+              λ i. record { weights = b i; arcs = a i };
+          fits =
+              let low : M ≤ 128 =
+              subst (λ x. x ≤ 128) (sym (eM ∙ map-range-at (weightAt g) (g .states) s 0 hs)) (fits .light s hs) in
+              fits-from r (let e = states-r in omega arith) (let e = W .edges in omega (arith, D .room))
+              (subst (Each Low) (sym weights-r)
+              (each-append Low (set v s (run .total / n)) ((getD v s 0 - run .total / n) ∷ [])
+              (each-set Low v s (run .total / n) (fits-weights g fits) (omega (arith, share-le)))
+              ((omega arith), tt)))
+              (subst (λ k. Each (Bounded k) (arcsIn r)) (sym states-r)
+              (subst (Each (Bounded (g .states + 1))) (sym arcs-r)
+              (each-parted s (g .states) keep (arcsIn g) (fits-arcs g fits))));
+        }

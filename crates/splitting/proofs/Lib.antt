@@ -1,0 +1,10 @@
+pub mod CodeChoose
+pub mod CodeRun
+pub mod CodeCandidates
+pub mod CodeMove
+pub mod CodePart
+pub mod CodeKept
+pub mod CodeState
+pub mod CodeSplit
+pub mod CodeLoop
+pub mod CodeMoved

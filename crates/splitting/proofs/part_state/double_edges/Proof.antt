@@ -1,0 +1,129 @@
+-- Each edge into s is appended once more, to the new state. There is room, since the edges after it were counted.
+use mathlib.Core.Path.{_≡_, refl, subst}
+use mathlib.Core.Logic.{⊎-elim}
+use Prim.Native.Nat.{_-_, _≤_, _<_}
+use native.Mathlib.Omega.{arith}
+use lib.ListN.{length}
+use Rattle.splitting.proofs.CodePart.{Grown, grown-none, grown-yes, grown-no, grown-room, grown-end}
+use borrow.Author.Needs.{needs}
+use Rattle.splitting.proofs.part_state.double_edges.Statement.{statement}
+use Rattle.splitting.proofs.part_state.double_edges.Tie as tie
+
+abbrev Inv-loop : tie.InvT-loop
+Inv-loop s g h₀ n fresh m₀ i₀ h m i =
+    (i ≤ n) × (n ≡ g .edges) × (m ≤ 2048) × (fresh ≡ g .states) × Grown g s h m i
+
+abbrev μ-loop : tie.MeasureT-loop
+μ-loop s g h₀ n fresh m₀ i₀ h m i = n - i
+
+cast-fresh : tie.Need-cast-fresh Inv-loop μ-loop
+cast-fresh c = search needs
+
+loop-holds : tie.Need-loop-holds Inv-loop μ-loop
+loop-holds c =
+    let a : length (c .args .t1 .source) ≡ 2048 = search needs in
+    let b : length (c .args .t1 .word) ≡ 2048 = search needs in
+    let d : length (c .args .t1 .target) ≡ 2048 = search needs in
+    (omega arith, refl, omega arith, refl, grown-none _ _ a b d)
+
+element-copy-out-if1 : tie.Need-element-copy-out-if1 Inv-loop μ-loop
+element-copy-out-if1 c = search needs
+
+cast-if1 : tie.Need-cast-if1 Inv-loop μ-loop
+cast-if1 c = search needs
+
+element-copy-out-h : tie.Need-element-copy-out-h Inv-loop μ-loop
+element-copy-out-h c = search needs
+
+element-write-h : tie.Need-element-write-h Inv-loop μ-loop
+element-write-h c =
+    let l = c .before .before .before .before .loop in
+    omega (
+      arith,
+      grown-room (c .before .before .before .before .before .args .t1)
+          (c .before .before .before .before .before .args .s) (l .h) (l .m) (l .i) (l .inv .4) (omega arith)
+          (c .before .if1 .taken),
+    )
+
+element-copy-out-h-2 : tie.Need-element-copy-out-h-2 Inv-loop μ-loop
+element-copy-out-h-2 c = search needs
+
+element-write-h-2 : tie.Need-element-write-h-2 Inv-loop μ-loop
+element-write-h-2 c =
+    let l = c .before .before .before .before .before .loop in
+    omega (
+      arith,
+      grown-room (c .before .before .before .before .before .before .args .t1)
+          (c .before .before .before .before .before .before .args .s) (l .h) (l .m) (l .i) (l .inv .4) (omega arith)
+          (c .before .before .if1 .taken),
+    )
+
+element-write-h-3 : tie.Need-element-write-h-3 Inv-loop μ-loop
+element-write-h-3 c =
+    let l = c .before .before .before .before .before .loop in
+    omega (
+      arith,
+      grown-room (c .before .before .before .before .before .before .args .t1)
+          (c .before .before .before .before .before .before .args .s) (l .h) (l .m) (l .i) (l .inv .4) (omega arith)
+          (c .before .before .if1 .taken),
+    )
+
+add-m : tie.Need-add-m Inv-loop μ-loop
+add-m c = search needs
+
+add-i : tie.Need-add-i Inv-loop μ-loop
+add-i c = search needs
+
+loop-less : tie.Need-loop-less Inv-loop μ-loop
+loop-less c = search needs
+
+loop-again : tie.Need-loop-again Inv-loop μ-loop
+loop-again c =
+    let l = c .before .before .before .loop in
+    let p = c .before .before .before .before .args in
+    ⊎-elim
+    (λ w.
+    let k : l .m < 2048 =
+    omega (arith, grown-room (p .t1) (p .s) (l .h) (l .m) (l .i) (l .inv .4) (omega arith) (w .0 .taken)) in (
+      omega arith,
+      refl,
+      omega (arith, w .4),
+      refl,
+      rw (w .3, w .4) (grown-yes (p .t1) (p .s) (l .h) (l .m) (l .i) (l .inv .4) k (w .0 .taken)),
+    ))
+    (λ w. (
+      omega arith,
+      refl,
+      omega (arith, w .2),
+      refl,
+      rw (w .1, w .2) (grown-no (p .t1) (p .s) (l .h) (l .m) (l .i) (l .inv .4) (w .0 .left)),
+    ))
+    (c .if1 .came)
+
+returns : tie.Need-returns Inv-loop μ-loop
+returns c =
+    let l = c .before .loop in
+    let p = c .before .before .args in
+    let e : l .i ≡ p .t1 .edges = omega arith in
+    grown-end (p .t1) (p .s) (l .h) (l .m) (l .inv .2) (subst (Grown (p .t1) (p .s) (l .h) (l .m)) e (l .inv .4))
+
+pub double-edges-spec : {M : Type 1} → statement M
+double-edges-spec =
+    tie.close
+    (tie.spec
+    Inv-loop
+    μ-loop
+    cast-fresh
+    loop-holds
+    element-copy-out-if1
+    cast-if1
+    element-copy-out-h
+    element-write-h
+    element-copy-out-h-2
+    element-write-h-2
+    element-write-h-3
+    add-m
+    add-i
+    loop-less
+    loop-again
+    returns)

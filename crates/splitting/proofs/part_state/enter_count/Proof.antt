@@ -1,0 +1,79 @@
+-- The edges into s are counted.
+use mathlib.Core.Path.{_≡_, refl, ap, _∙_}
+use mathlib.Core.Logic.{⊎-elim}
+use Prim.Native.Nat.{_-_, _≤_}
+use native.Mathlib.Omega.{arith}
+use lib.ListN.{length}
+use Rattle.splitting.proofs.CodePart.{entered, entered-no, count-yes}
+use borrow.Author.Needs.{needs}
+use Rattle.splitting.proofs.part_state.enter_count.Statement.{statement}
+use Rattle.splitting.proofs.part_state.enter_count.Tie as tie
+
+abbrev Inv-loop : tie.InvT-loop
+Inv-loop s g n count₀ i₀ count i =
+    (i ≤ n) × (n ≡ g .edges) × (n ≤ 2048) × (count ≤ i) × (count ≡ length (entered g s i))
+
+abbrev μ-loop : tie.MeasureT-loop
+μ-loop s g n count₀ i₀ count i = n - i
+
+loop-holds : tie.Need-loop-holds Inv-loop μ-loop
+loop-holds c = (omega arith, refl, c .pre .room, omega arith, refl)
+
+element-copy-out-if1 : tie.Need-element-copy-out-if1 Inv-loop μ-loop
+element-copy-out-if1 c = search needs
+
+cast-if1 : tie.Need-cast-if1 Inv-loop μ-loop
+cast-if1 c = search needs
+
+add-count : tie.Need-add-count Inv-loop μ-loop
+add-count c = search needs
+
+add-i : tie.Need-add-i Inv-loop μ-loop
+add-i c = search needs
+
+loop-less : tie.Need-loop-less Inv-loop μ-loop
+loop-less c = search needs
+
+loop-again : tie.Need-loop-again Inv-loop μ-loop
+loop-again c =
+    let l = c .before .before .before .loop in
+    let p = c .before .before .before .before .args in
+    ⊎-elim (λ w. (
+      omega arith,
+      refl,
+      omega arith,
+      omega (arith, w .1),
+      omega
+          (arith, w .1, count-yes (p .t1) (p .s) (l .i) (w .0 .taken)),
+    ))
+    (λ w. (
+      omega arith,
+      refl,
+      omega arith,
+      omega (arith, w .1),
+      omega
+          (arith, w .1, ap length (entered-no (p .t1) (p .s) (l .i) (w .0 .left))),
+    ))
+    (c .if1 .came)
+
+returns : tie.Need-returns Inv-loop μ-loop
+returns c =
+    let l = c .before .loop in
+    let p = c .before .before .args in
+    let e : l .i ≡ p .t1 .edges = omega arith in
+    (l .inv .4 ∙ ap (λ k. length (entered (p .t1) (p .s) k)) e, omega arith)
+
+pub enter-count-spec : {M : Type 1} → statement M
+enter-count-spec =
+    tie.close
+    (tie.spec
+    Inv-loop
+    μ-loop
+    loop-holds
+    element-copy-out-if1
+    cast-if1
+    add-count
+    add-i
+    loop-less
+    loop-again
+    returns)

@@ -1,0 +1,66 @@
+-- The states are tried one by one.
+use mathlib.Core.Path.{sym}
+use Prim.Native.Nat.{ℕ, _-_, _≤_, _<_}
+use native.Mathlib.Omega.{arith}
+use borrow.Author.Count.{below-more}
+use lib.ListN.{getD}
+use Rattle.splitting.proofs.CodeLoop.{unfinished-yes, unfinished-no}
+use borrow.Author.Needs.{needs}
+use Rattle.splitting.proofs.split_graph.is_unfinished.Statement.{statement}
+use Rattle.splitting.proofs.split_graph.is_unfinished.Tie as tie
+
+abbrev Inv-loop : tie.InvT-loop
+Inv-loop n count k s₀ s = (s ≤ k) × (k ≤ 128) × ((j : ℕ) → j < s → n ≤ getD count j 0)
+
+abbrev μ-loop : tie.MeasureT-loop
+μ-loop n count k s₀ s = k - s
+
+out-counts-requires : tie.Need-out-counts-requires Inv-loop μ-loop
+out-counts-requires c κs = search needs
+
+loop-holds : tie.Need-loop-holds Inv-loop μ-loop
+loop-holds c = (omega arith, c .before .pre .few, λ j h. absurd (omega arith))
+
+mul-if1 : tie.Need-mul-if1 Inv-loop μ-loop
+mul-if1 c = search needs
+
+array-read-if1 : tie.Need-array-read-if1 Inv-loop μ-loop
+array-read-if1 c = search needs
+
+returns : tie.Need-returns Inv-loop μ-loop
+returns c =
+    let e = c .before .before .before .out-counts .ensures (c .before .before .loop .s) (omega arith) in
+    sym (unfinished-yes (c .before .before .before .before .args .n) (c .before .before .before .before .args .g)
+    (c .before .before .loop .s) (omega arith) (omega (arith, c .if1 .taken)))
+
+add-s : tie.Need-add-s Inv-loop μ-loop
+add-s c = search needs
+
+loop-less : tie.Need-loop-less Inv-loop μ-loop
+loop-less c = search needs
+
+loop-again : tie.Need-loop-again Inv-loop μ-loop
+loop-again c =
+    (omega arith, omega arith, below-more _ _ (c .before .before .loop .inv .2) (c .if1 .left))
+
+returns-2 : tie.Need-returns-2 Inv-loop μ-loop
+returns-2 c =
+    let l = c .before .loop in
+    sym (unfinished-no (c .before .before .before .args .n) (c .before .before .before .args .g)
+    (λ j h. let e = c .before .before .out-counts .ensures j h in omega (arith, l .inv .2 j (omega arith))))
+
+pub is-unfinished-spec : {M : Type 1} → statement M
+is-unfinished-spec =
+    tie.close
+    (tie.spec
+    Inv-loop
+    μ-loop
+    out-counts-requires
+    loop-holds
+    mul-if1
+    array-read-if1
+    returns
+    add-s
+    loop-less
+    loop-again
+    returns-2)

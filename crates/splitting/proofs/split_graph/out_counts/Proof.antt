@@ -1,0 +1,89 @@
+-- Each edge counts at its source.
+use mathlib.Core.Path.{_≡_, refl, ap, _∙_}
+use Prim.Native.Nat.{_-_, _≤_, _<_}
+use native.Mathlib.Omega.{arith}
+use lib.ListN.{length, getD}
+use Rattle.splitting.proofs.CodeLoop.{Counted, counted-none, counted-more, left}
+use borrow.Author.Needs.{needs}
+use Rattle.splitting.proofs.split_graph.out_counts.Statement.{statement}
+use Rattle.splitting.proofs.split_graph.out_counts.Tie as tie
+
+abbrev Inv-loop : tie.InvT-loop
+Inv-loop g r₀ n i₀ r i = (i ≤ n) × (n ≡ g .edges) × (n ≤ 2048) × Counted g i r
+
+abbrev μ-loop : tie.MeasureT-loop
+μ-loop g r₀ n i₀ r i = n - i
+
+small : (c : tie.In-loop Inv-loop μ-loop) → getD (c .before .before .args .t1 .source) (c .before .loop .i) 0 < 128
+small c = omega (arith, c .before .before .pre .few, c .before .before .pre .source (c .before .loop .i) (omega arith))
+
+loop-holds : tie.Need-loop-holds Inv-loop μ-loop
+loop-holds c = (omega arith, refl, c .pre .room, counted-none _)
+
+element-copy-out-s : tie.Need-element-copy-out-s Inv-loop μ-loop
+element-copy-out-s c = search needs
+
+cast-s : tie.Need-cast-s Inv-loop μ-loop
+cast-s c = search needs
+
+mul-r : tie.Need-mul-r Inv-loop μ-loop
+mul-r c = omega (arith, small (c .before))
+
+array-read-r : tie.Need-array-read-r Inv-loop μ-loop
+array-read-r c = small (c .before)
+
+add-r : tie.Need-add-r Inv-loop μ-loop
+add-r c =
+    omega (
+      arith,
+      c .before .before .loop .inv .3 .low
+          (getD (c .before .before .before .args .t1 .source) (c .before .before .loop .i) 0) (small (c .before)),
+    )
+
+mul-r-2 : tie.Need-mul-r-2 Inv-loop μ-loop
+mul-r-2 c = omega (arith, small (c .before))
+
+array-write-r : tie.Need-array-write-r Inv-loop μ-loop
+array-write-r c = small (c .before)
+
+add-i : tie.Need-add-i Inv-loop μ-loop
+add-i c = search needs
+
+loop-less : tie.Need-loop-less Inv-loop μ-loop
+loop-less c = search needs
+
+loop-again : tie.Need-loop-again Inv-loop μ-loop
+loop-again c =
+    let l = c .before .before .loop in (
+      omega arith,
+      refl,
+      omega arith,
+      counted-more (c .before .before .before .args .t1) (l .i) (l .r)
+          (small (c .before)) (l .inv .3),
+    )
+
+returns : tie.Need-returns Inv-loop μ-loop
+returns c =
+    let l = c .before .loop in
+    let e : l .i ≡ c .before .before .args .t1 .edges = omega arith in
+    λ s h. l .inv .3 .holds s (omega (arith, c .before .before .pre .few))
+    ∙ ap (λ k. length (left (c .before .before .args .t1) k s)) e
+
+pub out-counts-spec : {M : Type 1} → statement M
+out-counts-spec =
+    tie.close
+    (tie.spec
+    Inv-loop
+    μ-loop
+    loop-holds
+    element-copy-out-s
+    cast-s
+    mul-r
+    array-read-r
+    add-r
+    mul-r-2
+    array-write-r
+    add-i
+    loop-less
+    loop-again
+    returns)

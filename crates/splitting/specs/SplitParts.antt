@@ -1,0 +1,100 @@
+-- What the parts of a split answer.
+-- In order: lowerSource; runIn, RunTo, FirstRun, what a search for a run finds; keptArcs; Moved, Doubled, Weighed,
+-- the steps of a split; entering, PartedInto, SplitInto, the answer of a split; Splits, SplitAllInto, all splits.
+-- Assumes nothing.
+use mathlib.Core.Path.{_≡_}
+use mathlib.Core.Bool.{true, false, _&&_}
+use mathlib.Core.List.{List, [], _∷_, _++_, map}
+use Prim.Native.Nat.{ℕ, _+_, _-_, _/_, _≤_, _<_, min}
+use lib.Dec.{ltb, eqb}
+use lib.ListN.{length, getD, take, drop, set}
+use Rattle.laws.specs.Lists.{if_then_else_, sum, filter, any, first}
+use Rattle.graph.specs.declared.Graph.{Graph}
+use Rattle.order.specs.declared.keys.Keys.{Keys}
+use Rattle.splitting.specs.declared.find_run.Run.{Run}
+use Rattle.graph.specs.declared.NextGraph.{NextGraph}
+use Rattle.graph.specs.Arcs.{Arc, enters}
+use Rattle.graph.specs.Weights.{weight, total}
+use Rattle.graph.specs.Splitting.{runsTo, divisible, firstRun, kept, moved, doubled, parted, split, splitAll, crowded}
+use Rattle.graph.specs.Invariant.{Inv}
+use Rattle.graph.specs.Value.{arcsIn, weightsIn, workIn, Fits}
+use Rattle.order.specs.EdgeKeys.{keysIn, arcOf}
+
+-- the lower of `best` and s, if s weighs M and leads to a lighter state
+abbrev pub lowerSource : ℕ → ℕ → ℕ → ℕ → ℕ → ℕ
+lowerSource best s ws wt M = if eqb ws M && ltb wt M then min best s else best
+
+-- the edges of es where the run stands
+abbrev pub runIn : Run → List Arc → List Arc
+runIn r es = take (r .count) (drop (r .from) es)
+
+-- whatever the edges of weights W are, r is the shortest run of them that ends at place j, or has no edges if there
+-- is none
+pub record RunTo (n : ℕ) (W : List ℕ) (j : ℕ) (r : Run) : Type 0 where
+  pub inside : r .from + r .count ≤ length W
+  pub some : (v : List ℕ) (es : List Arc) → map (weight v) es ≡ W → 0 < r .count
+      → (any (divisible n v) (runsTo es j) ≡ true) × (first (divisible n v) [] (runsTo es j) ≡ runIn r es)
+      × (total v (runIn r es) ≡ r .total)
+  pub none : (v : List ℕ) (es : List Arc) → map (weight v) es ≡ W → r .count ≡ 0
+      → any (divisible n v) (runsTo es j) ≡ false
+
+-- whatever the edges of weights W are, r is the run that ends first, and of those the shortest
+pub record FirstRun (n : ℕ) (W : List ℕ) (r : Run) : Type 0 where
+  pub inside : r .from + r .count ≤ length W
+  pub run : (v : List ℕ) (es : List Arc) → map (weight v) es ≡ W
+      → (firstRun n v es ≡ runIn r es) × (total v (runIn r es) ≡ r .total)
+
+-- the edges of s that a run of keys keeps
+abbrev pub keptArcs : ℕ → Keys → Run → List Arc
+keptArcs s l r = map (arcOf s) (take (r .count) (drop (r .from) (keysIn l)))
+
+-- r is g, but "a new last state takes all other edges of s"
+pub record Moved (g : Graph) (s : ℕ) (keep : List Arc) (r : Graph) : Type 0 where
+  pub arcs : arcsIn r ≡ map (moved s (g .states) keep) (arcsIn g)
+  pub edges : r .edges ≡ g .edges
+  pub states : r .states ≡ g .states
+  pub weight : r .weight ≡ g .weight
+
+-- how many edges lead into s
+abbrev pub entering : List Arc → ℕ → ℕ
+entering l s = length (filter (enters s) l)
+
+-- r is g, but "every edge into s becomes two, to s and to the new state"
+pub record Doubled (g : Graph) (s : ℕ) (r : Graph) : Type 0 where
+  pub arcs : arcsIn r ≡ doubled s (g .states) (arcsIn g)
+  pub room : r .edges ≤ 2048
+  pub states : r .states ≡ g .states
+  pub weight : r .weight ≡ g .weight
+
+-- r is g, but s has weight w, "and a new last state" what is left of its weight
+pub record Weighed (g : Graph) (s w : ℕ) (r : Graph) : Type 0 where
+  pub weights : weightsIn r ≡ set (weightsIn g) s w ++ ((getD (weightsIn g) s 0 - w) ∷ [])
+  pub arcs : arcsIn r ≡ arcsIn g
+  pub edges : r .edges ≡ g .edges
+  pub states : r .states ≡ g .states + 1
+
+-- r is g with s split by the rule
+pub record PartedInto (n : ℕ) (g : Graph) (s : ℕ) (r : Graph) : Type 0 where
+  pub work : workIn r ≡ parted s (kept n (weightsIn g) (arcsIn g) s)
+      (total (weightsIn g) (kept n (weightsIn g) (arcsIn g) s) / n) (workIn g)
+  pub fits : Fits r
+
+-- r is g after a split, or says that it would have "over 2,048 edges"
+pub record SplitInto (n : ℕ) (g : Graph) (r : NextGraph) : Type 0 where
+  pub crowds : r .crowded ≡ crowded (split n (workIn g))
+  pub work : r .crowded ≡ false → workIn (r .graph) ≡ split n (workIn g)
+  pub fits : r .crowded ≡ false → Fits (r .graph)
+
+-- a graph that all splits serve: it keeps to its arrays and to what every split keeps, and weighs at most 128
+pub record Splits (n : ℕ) (g : Graph) : Type 0 where
+  pub fits : Fits g
+  pub some : 0 < n
+  pub few : n ≤ 16
+  pub inv : Inv n (sum (weightsIn g)) (workIn g)
+  pub weighs : sum (weightsIn g) ≤ 128
+
+-- r is g after all splits, or says that there were "over 2,048 edges"
+pub record SplitAllInto (n : ℕ) (g : Graph) (r : NextGraph) : Type 0 where
+  pub crowds : r .crowded ≡ crowded (splitAll n (workIn g))
+  pub work : r .crowded ≡ false → workIn (r .graph) ≡ splitAll n (workIn g)
+  pub fits : r .crowded ≡ false → Fits (r .graph)

@@ -1,0 +1,44 @@
+-- `put_hex` meets its contract: the digits are the fewest that hold the number.
+-- Assumes nothing.
+use mathlib.Core.Path.{_∙_}
+use Rattle.text.proofs.Adding.{added-same}
+use Rattle.text.proofs.Numbers.{hex-is}
+use borrow.Author.Needs.{needs}
+use Rattle.text.proofs.put_hex.Statement.{statement}
+use Rattle.text.proofs.put_hex.Tie as tie
+
+hex-requires : tie.Need-hex-requires
+hex-requires c κs = search needs
+
+array-share-prefix-digits : tie.Need-array-share-prefix-digits
+array-share-prefix-digits c = search needs
+
+slice-aggregate-put : tie.Need-slice-aggregate-put
+slice-aggregate-put c = search needs
+
+put-requires : tie.Need-put-requires
+put-requires c κs = search needs
+
+same-length : tie.Need-same-length
+same-length c = search needs
+
+returns : tie.Need-returns
+returns c =
+    let put = c .before .before in
+    let k = put .before .before .before .hex in
+    let start = put .before .before .before .before .before .before in
+    let a = start .args in
+    added-same
+    (k .ensures .1 .1 ∙ hex-is (a .width) (a .n) (k .result) (start .fits .n .fits) (k .ensures .1 .0)) (put .put .ensures)
+
+
+pub put-hex-spec : {M : Type 1} → statement M
+put-hex-spec =
+    tie.close
+    (tie.spec
+    hex-requires
+    array-share-prefix-digits
+    slice-aggregate-put
+    put-requires
+    same-length
+    returns)

@@ -1,0 +1,81 @@
+-- The graph of words, read off the power table.
+-- In order: pick-range; out-tabled; between-count; tabled-power, the table of a constraint.
+-- Assumes nothing.
+use mathlib.Core.Path.{_≡_, refl, sym, ap, ap₂, _∙_}
+use mathlib.Core.Bool.{Bool}
+use mathlib.Core.List.{List, [], _∷_, _++_, map, append-nil}
+use Prim.Native.Nat.{ℕ, zero, suc, _+_, _^_, _≤_, _<_}
+use native.Mathlib.Omega.{arith}
+use native.Mathlib.Decide.{ℕ-discrete}
+use borrow.Author.Tests.{eq-eqb, ne-eqb}
+use lib.Dec.{T, eqb→eq}
+use lib.ListN.{length, length-map}
+use Rattle.laws.specs.Lists.{from, range, filter, concat}
+use Rattle.constraint.specs.Walking.{Constraint, walk}
+use Rattle.graph.specs.Arcs.{Arc, arc, leaves, enters, out, wordFrom, wordsFrom, leadsOn, power}
+use Rattle.graph.specs.Weights.{wordsBetween}
+use Rattle.weights.specs.PowerTable.{entryAt, wordAt, wordsAt, tabled, wordLeads, wordCount}
+use Rattle.graph.proofs.CodeLists.{filter-append, map-range-same}
+use Rattle.graph.proofs.CodeMaps.{filter-map, filter-filter, filter-both}
+
+module _ {A : Type 0} (p : A → Bool) (f : ℕ → List A) (s : ℕ) (own : filter p (f s) ≡ f s)
+    (others : (j : ℕ) → (j ≡ s → ⊥) → filter p (f j) ≡ []) where
+  past-from : (i K : ℕ) → s < i → filter p (concat (map f (from i K))) ≡ []
+  past-from i zero h = refl
+  past-from i (suc K) h =
+      filter-append p (f i) (concat (map f (from (suc i) K)))
+      ∙ ap₂ (λ a b. a ++ b) (others i (λ e. omega arith)) (past-from (suc i) K (omega arith))
+
+  pick-from : (i K : ℕ) → i ≤ s → s < i + K → filter p (concat (map f (from i K))) ≡ f s
+  pick-from i zero h l = absurd (omega arith)
+  pick-from i (suc K) h l = go (ℕ-discrete i s) (λ a b. pick-from (suc i) K a b)
+    where
+      go : Dec (i ≡ s) → (suc i ≤ s → s < suc i + K → filter p (concat (map f (from (suc i) K))) ≡ f s)
+          → filter p (concat (map f (from i (suc K)))) ≡ f s
+      go (yes e) r =
+          filter-append p (f i) (concat (map f (from (suc i) K)))
+          ∙ ap₂ (λ a b. a ++ b) (ap (λ k. filter p (f k)) e ∙ own) (past-from (suc i) K (omega arith))
+          ∙ append-nil (f s)
+      go (no e) r =
+          filter-append p (f i) (concat (map f (from (suc i) K)))
+          ∙ ap₂ (λ a b. a ++ b) (others i e) (r (omega arith) (omega arith))
+
+  pub pick-range : (K : ℕ) → s < K → filter p (concat (map f (range K))) ≡ f s
+  pick-range K h = pick-from 0 K (omega arith) (omega arith)
+
+module _ (P : List ℕ) (words : ℕ) where
+  words-leave : (s j : ℕ) (l : List ℕ) → (j ≡ s → ⊥) → filter (leaves s) (map (wordAt P j) l) ≡ []
+  words-leave s j [] h = refl
+  words-leave s j (w ∷ l) h = rw (ne-eqb j s h) (words-leave s j l h)
+
+  words-own : (s : ℕ) (l : List ℕ) → filter (leaves s) (map (wordAt P s) l) ≡ map (wordAt P s) l
+  words-own s [] = refl
+  words-own s (w ∷ l) = rw (eq-eqb s s refl) (ap (λ y. wordAt P s w ∷ y) (words-own s l))
+
+  module _ (K : ℕ) where
+    pub out-tabled : (s : ℕ) → s < K → out (tabled P words K) s ≡ filter leadsOn (wordsAt P words s)
+    unfolding tabled
+    out-tabled s h =
+        filter-filter (leaves s) leadsOn (concat (map (wordsAt P words) (range K)))
+        ∙ ap (filter leadsOn) (pick-range (leaves s) (wordsAt P words) s (words-own s (range words))
+        (λ j e. words-leave s j (range words) e) K h)
+
+    pub between-count : (s t : ℕ) → s < K → (t ≡ 255 → ⊥) → wordsBetween (tabled P words K) s t ≡ wordCount P words s t
+    unfolding wordCount
+    between-count s t h d =
+        ap (λ l. length (filter (enters t) l)) (out-tabled s h)
+        ∙ ap length (filter-both (enters t) leadsOn on (wordsAt P words s)
+        ∙ filter-map (enters t) (wordAt P s) (range words))
+        ∙ length-map (filter (wordLeads P s t) (range words)) (wordAt P s)
+      where
+        on : (e : Arc) → T (enters t e) → T (leadsOn e)
+        on e u = rw (ne-eqb (e .target) 255 (λ q. d (sym (eqb→eq (e .target) t u) ∙ q))) tt
+
+-- the table that holds where each word leads gives the words that the constraint allows
+pub tabled-power : (c : Constraint) (q : ℕ) (P : List ℕ)
+    → ((s w : ℕ) → s < length c → w < 2 ^ q → entryAt P s w ≡ walk c q w s) → tabled P (2 ^ q) (length c) ≡ power c q
+unfolding tabled power
+tabled-power c q P h =
+    ap (λ l. filter leadsOn (concat l))
+    (map-range-same [] (wordsAt P (2 ^ q)) (wordsFrom c q) (length c)
+    (λ s b. map-range-same (arc 0 0 0) (wordAt P s) (wordFrom c q s) (2 ^ q) (λ w k. ap (arc s w) (h s w b k))))

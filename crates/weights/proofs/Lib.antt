@@ -1,0 +1,2 @@
+pub mod CodeTabled
+pub mod CodeWeights

@@ -1,0 +1,67 @@
+-- The new weights go into a fresh array, so that all are replaced together.
+use Prim.Native.Nat.{_-_, _≤_}
+use native.Mathlib.Omega.{arith}
+use denote.Ref.{now}
+use Rattle.weights.specs.PowerTable.{lowerBy}
+use Rattle.graph.proofs.CodeLists.{Filled, fill-none, fill-more}
+use borrow.Author.Needs.{needs}
+use Rattle.weights.proofs.state_weights.lower_weights.Statement.{statement}
+use Rattle.weights.proofs.state_weights.lower_weights.Tie as tie
+
+abbrev Inv-loop : tie.InvT-loop
+Inv-loop count v k n r₀ s₀ r s = (s ≤ k) × Filled 0 (λ x. lowerBy count v k x n) 16 s r
+
+abbrev μ-loop : tie.MeasureT-loop
+μ-loop count v k n r₀ s₀ r s = k - s
+
+loop-holds : tie.Need-loop-holds Inv-loop μ-loop
+loop-holds c = (omega arith, fill-none 0 _ 16 0)
+
+lower-weight-requires : tie.Need-lower-weight-requires Inv-loop μ-loop
+lower-weight-requires c κs = (
+  c .before .before .pre .0,
+  c .before .before .pre .1,
+  c .loop-test .taken,
+  c .before .before .pre .2,
+  c .before .before .pre .3,
+  c .before .before .pre .4,
+)
+
+mul-r : tie.Need-mul-r Inv-loop μ-loop
+mul-r c = search needs
+
+array-write-r : tie.Need-array-write-r Inv-loop μ-loop
+array-write-r c = search needs
+
+add-s : tie.Need-add-s Inv-loop μ-loop
+add-s c = search needs
+
+loop-less : tie.Need-loop-less Inv-loop μ-loop
+loop-less c = search needs
+
+loop-again : tie.Need-loop-again Inv-loop μ-loop
+loop-again c =
+    let l = c .before .before .loop in
+    let p = c .before .before .before .args in (
+      omega arith,
+      fill-more 0 (λ x. lowerBy (now (p .count)) (p .v) (p .k) x (p .n)) 16 (l .s) (l .r) _ (omega arith)
+          (c .lower-weight .ensures) (l .inv .1),
+    )
+
+returns : tie.Need-returns Inv-loop μ-loop
+returns c = λ s h. c .before .loop .inv .1 .holds s (omega arith)
+
+pub lower-weights-spec : {M : Type 1} → statement M
+lower-weights-spec =
+    tie.close
+    (tie.spec
+    Inv-loop
+    μ-loop
+    loop-holds
+    lower-weight-requires
+    mul-r
+    array-write-r
+    add-s
+    loop-less
+    loop-again
+    returns)

@@ -1,0 +1,90 @@
+-- Place x gets the count for state x / 16 and target x % 16.
+use Prim.Native.Nat.{_-_, _/_, _%_, _≤_, _<_}
+use native.Mathlib.Nat.{div-lt-iff-lt-mul, mod-lt}
+use native.Mathlib.Omega.{arith}
+use denote.Ref.{now}
+use lib.Dec.{lit<}
+use Rattle.weights.specs.PowerTable.{wordCount}
+use Rattle.graph.proofs.CodeLists.{Filled, fill-none, fill-more}
+use Rattle.weights.proofs.CodeWeights.{count-le}
+use borrow.Author.Needs.{needs}
+use Rattle.weights.proofs.state_weights.word_counts.Statement.{statement}
+use Rattle.weights.proofs.state_weights.word_counts.Tie as tie
+
+abbrev Inv-loop : tie.InvT-loop
+Inv-loop power words k r₀ n x₀ r x =
+    (x ≤ n) × (n ≤ 256) × Filled 0 (λ y. wordCount power words (y / 16) (y % 16)) 256 x r
+
+abbrev μ-loop : tie.MeasureT-loop
+μ-loop power words k r₀ n x₀ r x = n - x
+
+mul-n : tie.Need-mul-n Inv-loop μ-loop
+mul-n c = search needs
+
+loop-holds : tie.Need-loop-holds Inv-loop μ-loop
+loop-holds c = (omega arith, omega arith, fill-none 0 _ 256 0)
+
+cast-words-between : tie.Need-cast-words-between Inv-loop μ-loop
+cast-words-between c = omega (arith, mod-lt (c .before .loop .x) {m = 16} (lit< tt))
+
+words-between-requires : tie.Need-words-between-requires Inv-loop μ-loop
+words-between-requires c κs = (
+  c .before .before .pre .0,
+  c .before .before .pre .1,
+  div-lt-iff-lt-mul {k = 16} {y = 16} (lit< tt) .1
+      (omega arith),
+)
+
+mul-r : tie.Need-mul-r Inv-loop μ-loop
+mul-r c = search needs
+
+array-write-r : tie.Need-array-write-r Inv-loop μ-loop
+array-write-r c = search needs
+
+add-x : tie.Need-add-x Inv-loop μ-loop
+add-x c = search needs
+
+loop-less : tie.Need-loop-less Inv-loop μ-loop
+loop-less c = search needs
+
+loop-again : tie.Need-loop-again Inv-loop μ-loop
+loop-again c =
+    let l = c .before .before .loop in
+    let p = c .before .before .before .args in (
+      omega arith,
+      omega arith,
+      fill-more 0 (λ y. wordCount (now (p .power)) (p .words) (y / 16) (y % 16)) 256 (l .x) (l .r) _ (omega arith)
+          (c .words-between .ensures .0) (l .inv .2),
+    )
+
+returns : tie.Need-returns Inv-loop μ-loop
+returns c =
+    let l = c .before .loop in
+    let p = c .before .before .args in
+    λ x h. (
+      l .inv .2 .holds x (omega arith),
+      omega (
+        arith,
+        l .inv .2 .holds x (omega arith),
+        c .before .before .pre .1,
+        count-le (now (p .power)) (p .words)
+            (x / 16) (x % 16),
+      ),
+    )
+
+pub word-counts-spec : {M : Type 1} → statement M
+word-counts-spec =
+    tie.close
+    (tie.spec
+    Inv-loop
+    μ-loop
+    mul-n
+    loop-holds
+    cast-words-between
+    words-between-requires
+    mul-r
+    array-write-r
+    add-x
+    loop-less
+    loop-again
+    returns)

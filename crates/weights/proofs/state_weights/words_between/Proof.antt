@@ -1,0 +1,80 @@
+-- The words are tried one by one.
+use mathlib.Core.Path.{_≡_, sym, ap, _∙_}
+use mathlib.Core.Logic.{⊎-elim}
+use Prim.Native.Nat.{_-_, _≤_}
+use native.Mathlib.Omega.{arith}
+use denote.Ref.{now}
+use Rattle.weights.specs.PowerTable.{wordCount}
+use Rattle.weights.proofs.CodeWeights.{count-none, count-yes, count-no}
+use borrow.Author.Needs.{needs}
+use Rattle.weights.proofs.state_weights.words_between.Statement.{statement}
+use Rattle.weights.proofs.state_weights.words_between.Tie as tie
+
+abbrev Inv-loop : tie.InvT-loop
+Inv-loop power words s t count₀ w₀ count w = (w ≤ words) × (count ≤ w) × (count ≡ wordCount power w s t)
+
+abbrev μ-loop : tie.MeasureT-loop
+μ-loop power words s t count₀ w₀ count w = words - w
+
+loop-holds : tie.Need-loop-holds Inv-loop μ-loop
+loop-holds c = (omega arith, omega arith, sym (count-none _ _ _))
+
+mul-if1 : tie.Need-mul-if1 Inv-loop μ-loop
+mul-if1 c = search needs
+
+add-if1 : tie.Need-add-if1 Inv-loop μ-loop
+add-if1 c = search needs
+
+element-copy-out-if1 : tie.Need-element-copy-out-if1 Inv-loop μ-loop
+element-copy-out-if1 c = search needs
+
+add-count : tie.Need-add-count Inv-loop μ-loop
+add-count c = search needs
+
+add-w : tie.Need-add-w Inv-loop μ-loop
+add-w c = search needs
+
+loop-less : tie.Need-loop-less Inv-loop μ-loop
+loop-less c = search needs
+
+loop-again : tie.Need-loop-again Inv-loop μ-loop
+loop-again c =
+    let l = c .before .before .before .loop in
+    let p = c .before .before .before .before .args in
+    ⊎-elim
+    (λ u. (
+      omega arith,
+      omega (arith, u .1),
+      omega
+          (arith, u .1, count-yes (now (p .power)) (p .s) (p .t) (l .w) (u .0 .taken)),
+    ))
+    (λ u. (
+      omega arith,
+      omega (arith, u .1),
+      omega
+          (arith, u .1, count-no (now (p .power)) (p .s) (p .t) (l .w) (u .0 .left)),
+    ))
+    (c .if1 .came)
+
+returns : tie.Need-returns Inv-loop μ-loop
+returns c =
+    let l = c .before .loop in
+    let p = c .before .before .args in
+    let e : l .w ≡ p .words = omega arith in
+    (l .inv .2 ∙ ap (λ k. wordCount (now (p .power)) k (p .s) (p .t)) e, omega arith)
+
+pub words-between-spec : {M : Type 1} → statement M
+words-between-spec =
+    tie.close
+    (tie.spec
+    Inv-loop
+    μ-loop
+    loop-holds
+    mul-if1
+    add-if1
+    element-copy-out-if1
+    add-count
+    add-w
+    loop-less
+    loop-again
+    returns)

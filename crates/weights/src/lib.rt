@@ -1,0 +1,2 @@
+// "Weights."
+pub mod state_weights;

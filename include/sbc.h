@@ -1,0 +1,132 @@
+/* Proved sliding-block codes: the calls of target/staticlib/libapi.a, which `rt staticlib api` writes.
+ *
+ * Bytes go as a pointer to the first and their number. No pointer is null, even where the number is 0, and `out` lies
+ * apart from the bytes that are read. Nothing is kept after a call and nothing is allocated, so calls may run at the
+ * same time on different outputs. A call takes less than 450 KB of stack (measured on x86-64; compiling takes most).
+ *
+ * Every call answers one number, the refusal times 2^56 plus a value; take it apart by `sbc_refusal` and `sbc_value`.
+ * Refusal 0 is a result. The value of a result is written at each call. The value of a refusal is 0, but with 11 it is
+ * the place of the first bad byte, and with every refusal of `sbc_set` the number of the first bad record, both
+ * counted from 0. A value above 2^56 - 1 would be answered as 2^56 - 1.
+ *
+ * A result fills `out` from its first byte, and bytes past its end stay as they were. A refusal changes no byte.
+ * Where several refusals hold, the first in the order written at the call is answered.
+ */
+#ifndef SBC_H
+#define SBC_H
+
+#include <stddef.h>
+#include <stdint.h>
+
+#ifdef __cplusplus
+extern "C" {
+#endif
+
+/* The refusals. */
+enum {
+    SBC_DONE = 0,            /* none: a result */
+    SBC_PARAMETERS = 1,      /* p, q or cap out of range */
+    SBC_STATES = 2,          /* K, a next state, or d and k out of range */
+    SBC_NO_CODE = 3,         /* all weights 0: there is no code */
+    SBC_TOO_HEAVY = 4,       /* the component's weights sum to over 128 */
+    SBC_TOO_MANY_EDGES = 5,  /* the component has over 2,048 edges, before any split or after one */
+    SBC_NO_WINDOW = 6,       /* no window up to 15 and 15 */
+    SBC_FIELD = 7,           /* record field out of range, absent state not 0, or fill not 0 */
+    SBC_LENGTH = 8,          /* length is not what the fields say, or too short for them */
+    SBC_DISOBEYS = 9,        /* some recording breaks the constraint */
+    SBC_WINDOW_FAILS = 10,   /* the window fails */
+    SBC_BAD_BYTE = 11,       /* a block of 2^p or more, or a word of 2^q or more; the value is its place */
+    SBC_TOO_FEW_WORDS = 12,  /* fewer than a words */
+    SBC_SHORT_OUTPUT = 13    /* the output is too short */
+};
+
+/* Sizes, in bytes. */
+enum {
+    /* The block that stands where no edge reads the words; no datum has this value. */
+    SBC_MARK = 255,
+    /* The longest job: p, q, cap, K, and two bytes for each of 16 states. */
+    SBC_JOB_MAX = 4 + 2 * 16,
+    /* A run-length job: d, k, p, q, cap. */
+    SBC_RUN_LENGTH_JOB = 5,
+    /* The longest record, 3,864: a header of 3 + 4 + 7 + 4 + 4 + 4 + 4 bits, two next states of 1 + 4 bits for each of
+     * 16 constraint states, and a word of 8 bits with a next state of 7 for each of 128 states and 16 data. */
+    SBC_RECORD_MAX = (30 + 16 * 2 * (1 + 4) + 128 * 16 * (8 + 7) + 7) / 8,
+    /* The most words that a recording has beyond its blocks: N blocks give N + a words, and a is at most 15. */
+    SBC_LOOKAHEAD_MAX = 15,
+    /* The longest set: the count, and 255 of the longest records behind their lengths. */
+    SBC_SET_MAX = 1 + 255 * (2 + SBC_RECORD_MAX),
+    /* Room for every listing: a line such as "4 8 128 15 15" and 128 * 16 lines such as "127 15 11111111 127", each
+     * with its newline. */
+    SBC_LISTING_MAX = 14 + 128 * 16 * 20
+};
+
+/* The refusal of an answer: 0 for a result, otherwise 1 to 13. */
+static inline unsigned sbc_refusal(uint64_t answer)
+{
+    return (unsigned)(answer >> 56);
+}
+
+/* The value of an answer. */
+static inline uint64_t sbc_value(uint64_t answer)
+{
+    return answer & (((uint64_t)1 << 56) - 1);
+}
+
+/* Compiles a job to a record.
+ * job: p (1 to 4), q (1 to 8), cap (1 to 16), K (1 to 16), then for each of K states the next states for channel bits
+ * 0 and 1, with 255 for none.
+ * out: the packed record; SBC_RECORD_MAX bytes are always enough.
+ * Answers how many bytes were written.
+ * Refusals in order: 8 below four bytes; 1; 2 for K; 8 for any length but 4 + 2 K; 2 for a next state; 3; 4; 5; 6;
+ * 13. */
+uint64_t sbc_compile(const uint8_t *job, size_t job_length, uint8_t *out, size_t out_length);
+
+/* Compiles a run-length job to a record.
+ * job: the five bytes d, k, p, q, cap, with d <= k <= 15.
+ * out: the packed record; SBC_RECORD_MAX bytes are always enough.
+ * Answers how many bytes were written.
+ * Refusals in order: 8 for any length but five; 1; 2; 3; 4; 5; 6; 13. */
+uint64_t sbc_compile_run_length(const uint8_t *job, size_t job_length, uint8_t *out, size_t out_length);
+
+/* Checks a record: it is accepted when every recording under its table obeys its constraint, and its window does what
+ * a window must.
+ * Answers 0.
+ * Refusals in order: 8 below four bytes; 7 for the header; 8; 7 for the rest; 9; 10. */
+uint64_t sbc_check(const uint8_t *record, size_t record_length);
+
+/* Records blocks under a record.
+ * blocks: one byte each, below 2^p.
+ * out: one word a byte, a more than there are blocks.
+ * Answers how many words were written.
+ * Refusals in order: those of sbc_check; 13; 11 with the place of the first bad block. */
+uint64_t sbc_encode(const uint8_t *record, size_t record_length, const uint8_t *blocks, size_t blocks_length,
+                    uint8_t *out, size_t out_length);
+
+/* Reads words under a record by its window.
+ * words: one byte each, below 2^q. Words that no recording has are read too.
+ * out: one block a byte, a fewer than there are words; SBC_MARK where no edge reads the words.
+ * Answers how many blocks were written.
+ * Refusals in order: those of sbc_check; 12; 13; 11 with the place of the first bad word. */
+uint64_t sbc_decode(const uint8_t *record, size_t record_length, const uint8_t *words, size_t words_length,
+                    uint8_t *out, size_t out_length);
+
+/* Checks a set of records.
+ * set: one count byte, then each record behind a two-byte length, most significant byte first.
+ * Answers how many records the set has.
+ * Refusals in order, the value being the record's number: 8 with 0 for no bytes at all; then, record by record, 8 if
+ * its length or bytes are cut off, else those of sbc_check; last 8, with the count, for bytes left over. */
+uint64_t sbc_set(const uint8_t *set, size_t set_length);
+
+/* Lists the table of a run-length job as text.
+ * job: the five bytes d, k, p, q, cap.
+ * out: a line with p, q, states, m and a, then a line for each state and datum with state, datum, word in binary and
+ * next state; SBC_LISTING_MAX bytes are always enough. No zero byte ends it.
+ * Answers how many bytes were written.
+ * Refusals in order: 8 for any length but five; 1; 2; 3; 4; 5; 6; 13. */
+uint64_t sbc_listing(const uint8_t *job, size_t job_length, uint8_t *out, size_t out_length);
+
+#ifdef __cplusplus
+}
+#endif
+
+#endif
