@@ -1,5 +1,6 @@
 -- The tally of the code is that of the definition, and its numbers stay small.
--- In order: number-le; set-le, few-none, few-more, few-swept; swept-none, swept-more; size-within, sum-done, sum-refused, within, told-is; counted-is.
+-- In order: number-le; set-le, few-none, few-more, few-swept; swept-none, swept-more;
+-- size-within, sum-done, sum-refused, within, told-is; counted-is.
 -- Assumes nothing.
 use mathlib.Core.Path.{_≡_, refl, sym, ap, ap₂, subst, _∙_}
 use mathlib.Core.Bool.{Bool, true, false}

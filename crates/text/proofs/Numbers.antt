@@ -27,12 +27,18 @@ module _ (b : ℕ) (two : 1 < b) where
   pow-one = pow-suc b 0 ∙ ap (λ m. m * b) (pow-zero b) ∙ one-mul b
 
   one-digit : (n : ℕ) → n < b → Sized b n 1
-  one-digit n h = record { some = omega arith; holds = let e = pow-one in omega arith; least = λ l. absurd (omega arith) }
+  one-digit n h = record {
+    some = omega arith;
+    holds = let e = pow-one in omega arith;
+    least = λ l. absurd (omega arith);
+  }
 
   more-digits : (n s : ℕ) → b ≤ n → Sized b (n / b) s → Sized b n (suc s)
   more-digits n s h z = record {
     some = omega arith;
-    holds = subst (λ m. n < m) (sym (pow-suc b s)) (div-lt-iff-lt-mul {k = b} {x = n} {y = b ^ s} (omega arith) .0 (z .holds));
+    holds =
+        subst (λ m. n < m) (sym (pow-suc b s))
+        (div-lt-iff-lt-mul {k = b} {x = n} {y = b ^ s} (omega arith) .0 (z .holds));
     least = λ l. subst (λ m. b ^ m ≤ n) (let e : s ≡ suc s - 1 = omega arith in e) (go (decLt 1 s));
   }
     where
@@ -53,7 +59,9 @@ module _ (b : ℕ) (two : 1 < b) where
   size-sized (suc k) n h = go (size-sized k (n / b)) (ltb n b) refl
     where
       less : n / b < b ^ suc k
-      less = div-lt-iff-lt-mul {k = b} {x = n} {y = b ^ suc k} (omega arith) .1 (subst (λ m. n < m) (pow-suc b (suc k)) h)
+      less =
+          div-lt-iff-lt-mul {k = b} {x = n} {y = b ^ suc k} (omega arith) .1
+          (subst (λ m. n < m) (pow-suc b (suc k)) h)
 
       go : (n / b < b ^ suc k → Sized b (n / b) (size b (suc k) (n / b))) → (t : Bool) → ltb n b ≡ t
           → Sized b n (if t then 1 else suc (size b (suc k) (n / b)))
@@ -77,7 +85,10 @@ module _ (b : ℕ) (two : 1 < b) where
         where
           case : Dec (s ≤ r) → s ≤ r
           case (yes l) = l
-          case (no l) = let g = z .least (omega arith) in let k = pow-less (s - 1) r (omega arith) in absurd (omega arith)
+          case (no l) =
+              let g = z .least (omega arith) in
+              let k = pow-less (s - 1) r (omega arith) in
+              absurd (omega arith)
 
       none-over : least < r → r ≤ s
       none-over l = let g = no-fewer l in let h = z .holds in let k = pow-less (r - 1) s (omega arith) in omega arith

@@ -1,5 +1,6 @@
 -- Text in lent bytes, and numbers as text.
--- In order: bytes, of a quoted text; size, how many digits a number has; decimal, hex; Added, a text put behind another.
+-- In order: bytes, of a quoted text; size, how many digits a number has; decimal, hex; Added, a text put behind
+-- another.
 -- Assumes nothing.
 use mathlib.Core.Path.{_≡_}
 use mathlib.Core.List.{List, [], _∷_, _++_}

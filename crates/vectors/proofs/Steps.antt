@@ -31,7 +31,8 @@ module _ (xs : List ℕ) (c : Case) where
   }
 
 -- what a case is held to goes by its kind
-pub kind-set : (xs : List ℕ) (c : Case) (r : Bool) → c .kind ≡ 6 → Says r (SetCaseAgrees xs c) → Says r (CaseAgrees xs c)
+pub kind-set : (xs : List ℕ) (c : Case) (r : Bool) → c .kind ≡ 6 → Says r (SetCaseAgrees xs c)
+    → Says r (CaseAgrees xs c)
 unfolding CaseAgrees
 kind-set xs c r e s = subst (λ b. Says r (if b then SetCaseAgrees xs c else CallAgrees xs c)) (sym (eq-eqb _ _ e)) s
 

@@ -34,7 +34,8 @@ unfolding Early
 early-unless r true o h e = e
 early-unless r false o h e = h
 
-early-onward : {A B : Type 0} (o : Outcome A) (f : A → Outcome B) → Early o → ((a : A) → Early (f a)) → Early (onward o f)
+early-onward : {A B : Type 0} (o : Outcome A) (f : A → Outcome B) → Early o → ((a : A) → Early (f a))
+    → Early (onward o f)
 unfolding Early
 early-onward (done a) f e g = g a
 early-onward (refused r) f e g = e
@@ -95,7 +96,10 @@ module _ (xs : List ℕ) (room : ℕ) where
     where
       go : (o : Outcome Code) → Early o → Refused r ≡ answerOf (Into o) → fitting room (printed o) ≡ Into o
       go (done c) h e = refl
-      go (refused s) h e = let q : numberOf r ≡ numberOf s = ap numberOf (let p : r ≡ s = cc in p) in absurd (omega arith)
+      go (refused s) h e =
+          let p : r ≡ s = cc in
+          let q = ap numberOf p in
+          absurd (omega arith)
 
   -- THEOREM: another refusal left the bytes as lent, and its text is what the program prints
   pub told-other : (r : Refusal) (B C : List ℕ) → Refused r ≡ answerOf (listInto xs room) → (numberOf r ≡ 13 → ⊥)
@@ -112,9 +116,10 @@ module _ (xs : List ℕ) (room : ℕ) where
 pub other-told : (xs B C D : List ℕ) (r : Refusal) (a : Answer) → refusal r ≡ listingOf xs → C ≡ B
     → a ≡ answerOf (fitting (length C) (refusal r)) → D ≡ outputOf (fitting (length C) (refusal r)) C
     → (a ≡ answerOf (fitting (length B) (listingOf xs))) × (D ≡ outputOf (fitting (length B) (listingOf xs)) B)
-other-told xs B C D r a e f p q =
-    (p ∙ ap₂ (λ X t. answerOf (fitting (length X) t)) f e,
-    q ∙ ap₂ (λ X t. outputOf (fitting (length X) t) X) f e)
+other-told xs B C D r a e f p q = (
+  p ∙ ap₂ (λ X t. answerOf (fitting (length X) t)) f e,
+  q ∙ ap₂ (λ X t. outputOf (fitting (length X) t) X) f e,
+)
 
 -- ---- lent bytes
 pub filled : (B C : List ℕ) (i : ℕ) → i ≡ length B → C ≡ replicate i 165 ++ drop i B → C ≡ replicate (length B) 165

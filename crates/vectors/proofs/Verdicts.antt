@@ -89,13 +89,14 @@ module _ (kind : ℕ) (first second : List ℕ) (room refusal value : ℕ) (outp
       → Says r (Agrees kind first second room refusal value output)
   agrees-so n v B C r en hn ev hv b w (p, q) =
       let e : C ≡ outputOf (outcomeOf kind first second room) (replicate room 165) =
-              w ∙ ap (outputOf (outcomeOf kind first second room)) b in
-      ((λ t. record {
-        number = ap answerNumber (sym answered) ∙ sym en ∙ hn;
-        value = ap answerValue (sym answered) ∙ sym ev ∙ hv;
-        output = subst (λ X. Stands X output) e (p t);
-      }),
-      (λ g. q (subst (λ X. Stands X output) (sym e) (g .output))))
+      w ∙ ap (outputOf (outcomeOf kind first second room)) b in (
+        (λ t. record {
+          number = ap answerNumber (sym answered) ∙ sym en ∙ hn;
+          value = ap answerValue (sym answered) ∙ sym ev ∙ hv;
+          output = subst (λ X. Stands X output) e (p t);
+        }),
+        (λ g. q (subst (λ X. Stands X output) (sym e) (g .output))),
+      )
 
 -- ---- a set agrees
 pub set-so : (set : List ℕ) (refusal value size : ℕ) (a : SetAnswer) (n v : ℕ) → a ≡ setAnswer (readSet set) → size ≡ 0

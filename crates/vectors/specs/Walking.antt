@@ -1,6 +1,6 @@
 -- The walk through the file: which tallies it comes to.
--- In order: part; CallAgrees, SetCaseAgrees, CaseAgrees, Told, of one case; nothing, withCase; Walked, a tally of the cases from the first on; Few, what
--- the code needs of a tally.
+-- In order: part; CallAgrees, SetCaseAgrees, CaseAgrees, Told, of one case; nothing, more, withCase; Walked, a
+-- tally of the cases from the first on; Few, what the code needs of a tally.
 -- Assumes nothing.
 use mathlib.Core.Path.{_≡_}
 use mathlib.Core.List.{List}

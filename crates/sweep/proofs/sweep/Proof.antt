@@ -1,5 +1,5 @@
--- `sweep` meets its contract. The loop's invariant: the tally is that of the jobs below number i. The measure is what is
--- left of the numbers.
+-- `sweep` meets its contract. The loop's invariant: the tally is that of the jobs below number i. The measure is what
+-- is left of the numbers.
 -- Assumes nothing.
 use mathlib.Core.Path.{_≡_, sym, ap, subst, _∙_}
 use Prim.Native.Nat.{_+_, _-_, _≤_}

@@ -35,16 +35,21 @@ mul-r : tie.Need-mul-r
 mul-r c = omega (arith, c .answer-number .ensures, number-le (c .before .before .compile-run-length .result))
 
 element-copy-out-r : tie.Need-element-copy-out-r
-element-copy-out-r c = omega (arith, c .answer-number .ensures, number-le (c .before .before .compile-run-length .result))
+element-copy-out-r c =
+    omega (arith, c .answer-number .ensures, number-le (c .before .before .compile-run-length .result))
 
 add-r-2 : tie.Need-add-r-2
-add-r-2 c = omega (arith, c .before .before .before .before .before .before .before .before .pre .1 .each (c .before .answer-number .result))
+add-r-2 c =
+    let start = c .before .before .before .before .before .before .before .before in
+    omega (arith, start .pre .1 .each (c .before .answer-number .result))
 
 mul-r-2 : tie.Need-mul-r-2
-mul-r-2 c = omega (arith, c .before .answer-number .ensures, number-le (c .before .before .before .compile-run-length .result))
+mul-r-2 c =
+    omega (arith, c .before .answer-number .ensures, number-le (c .before .before .before .compile-run-length .result))
 
 element-write-r : tie.Need-element-write-r
-element-write-r c = omega (arith, c .before .answer-number .ensures, number-le (c .before .before .before .compile-run-length .result))
+element-write-r c =
+    omega (arith, c .before .answer-number .ensures, number-le (c .before .before .before .compile-run-length .result))
 
 slice-aggregate-sum-with : tie.Need-slice-aggregate-sum-with
 slice-aggregate-sum-with c = search needs
@@ -55,7 +60,8 @@ slice-aggregate-sum-with-2 c = search needs
 sum-with-requires : tie.Need-sum-with-requires
 sum-with-requires c κs =
     let k = c .before .before .before .before .before in
-    within (compileRunLength (k .before .before .before .before .job-at .result) _) _ _ (k .compile-run-length .result) (k .compile-run-length .ensures .0) (k .compile-run-length .ensures .1)
+    within (compileRunLength (k .before .before .before .before .job-at .result) _) _ _
+    (k .compile-run-length .result) (k .compile-run-length .ensures .0) (k .compile-run-length .ensures .1)
 
 returns : tie.Need-returns
 returns c =
@@ -64,7 +70,8 @@ returns c =
     let b = k .before .before .before in
     let j = b .before in
     counted-is (j .before .args .t1) (j .job-at .result) (b .buffer .result) _ (k .compile-run-length .result)
-    (number .answer-number .result) (c .sum-with .result) (b .buffer .ensures) (k .compile-run-length .ensures .0) (k .compile-run-length .ensures .1)
+    (number .answer-number .result) (c .sum-with .result) (b .buffer .ensures)
+    (k .compile-run-length .ensures .0) (k .compile-run-length .ensures .1)
     (number .answer-number .ensures) (c .sum-with .ensures) ∙ ap (counted (j .before .args .t1)) (j .job-at .ensures)
 
 pub with-job-spec : {M : Type 1} → statement M

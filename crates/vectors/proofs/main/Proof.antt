@@ -25,21 +25,24 @@ array-share-prefix-bytes : tie.Need-array-share-prefix-bytes
 array-share-prefix-bytes c =
     let n = c .before in
     let k = n .before .before .before in
-    let f = whole-fits (k .load .result) (k .load .last .1 .0) (n .loaded .given .0 .0) (k .load .ensures) (n .loaded .given .1) in
+    let f = whole-fits (k .load .result) (k .load .last .1 .0) (n .loaded .given .0 .0) (k .load .ensures)
+    (n .loaded .given .1) in
     f .0
 
 slice-aggregate-run : tie.Need-slice-aggregate-run
 slice-aggregate-run c =
     let n = c .before .before in
     let k = n .before .before .before in
-    let f = whole-fits (k .load .result) (k .load .last .1 .0) (n .loaded .given .0 .0) (k .load .ensures) (n .loaded .given .1) in
+    let f = whole-fits (k .load .result) (k .load .last .1 .0) (n .loaded .given .0 .0) (k .load .ensures)
+    (n .loaded .given .1) in
     f .1
 
 run-requires : tie.Need-run-requires
 run-requires c κs =
     let n = c .before .before in
     let k = n .before .before .before in
-    let f = whole-fits (k .load .result) (k .load .last .1 .0) (n .loaded .given .0 .0) (k .load .ensures) (n .loaded .given .1) in
+    let f = whole-fits (k .load .result) (k .load .last .1 .0) (n .loaded .given .0 .0) (k .load .ensures)
+    (n .loaded .given .1) in
     omega (arith, f .0, f .1, k .load .kept .1 .0, k .before .before .before .buffer .ensures)
 
 enum-told : tie.Need-enum-told

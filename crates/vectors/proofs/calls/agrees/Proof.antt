@@ -32,7 +32,7 @@ returns c =
     let O = now (a .output) in
     let room = length (now (a .out)) in
     let so : k .call .result ≡ answerOf (outcomeOf (a .kind) F S room) =
-            k .call .ensures .0 ∙ ap (λ n. answerOf (outcomeOf (a .kind) F S n)) (f .fill .kept .0) in
+    k .call .ensures .0 ∙ ap (λ n. answerOf (outcomeOf (a .kind) F S n)) (f .fill .kept .0) in
     let n = c .before in
     number-differs (a .kind) F S room (a .refusal) (a .value) O (k .call .result) so (n .answer-number .result)
     (n .answer-number .ensures) (c .if1 .taken)
@@ -53,7 +53,7 @@ returns-2 c =
     let O = now (a .output) in
     let room = length (now (a .out)) in
     let so : k .call .result ≡ answerOf (outcomeOf (a .kind) F S room) =
-            k .call .ensures .0 ∙ ap (λ n. answerOf (outcomeOf (a .kind) F S n)) (f .fill .kept .0) in
+    k .call .ensures .0 ∙ ap (λ n. answerOf (outcomeOf (a .kind) F S n)) (f .fill .kept .0) in
     let v = c .before in
     value-differs (a .kind) F S room (a .refusal) (a .value) O (k .call .result) so (v .answer-value .result)
     (v .answer-value .ensures) (c .if2 .taken)
@@ -78,11 +78,12 @@ returns-3 c =
     let O = now (a .output) in
     let room = length (now (a .out)) in
     let so : k .call .result ≡ answerOf (outcomeOf (a .kind) F S room) =
-            k .call .ensures .0 ∙ ap (λ n. answerOf (outcomeOf (a .kind) F S n)) (f .fill .kept .0) in
+    k .call .ensures .0 ∙ ap (λ n. answerOf (outcomeOf (a .kind) F S n)) (f .fill .kept .0) in
     agrees-so (a .kind) F S room (a .refusal) (a .value) O (k .call .result) so (n .answer-number .result)
     (v .answer-value .result) (f .fill .last .0) _ (c .stands .result) (n .answer-number .ensures) (e₁ .if1 .left)
     (v .answer-value .ensures) (e₂ .if2 .left) (f .fill .ensures)
-    (k .call .ensures .1 ∙ ap (λ m. outputOf (outcomeOf (a .kind) F S m) (f .fill .last .0)) (f .fill .kept .0)) (c .stands .ensures)
+    (k .call .ensures .1 ∙ ap (λ m. outputOf (outcomeOf (a .kind) F S m) (f .fill .last .0)) (f .fill .kept .0))
+    (c .stands .ensures)
 
 pub agrees-spec : {M : Type 1} → statement M
 agrees-spec =

@@ -3,8 +3,8 @@
 use denote.Ref.{now}
 use lib.ListN.{length}
 use Rattle.vectors.specs.Agreeing.{outcomeOf}
-use Rattle.vectors.proofs.Verdicts.{same-outcome, out-compile, out-run-length, out-check, out-encode, out-decode}
-use Rattle.vectors.proofs.Verdicts.{out-list, checked-out}
+use Rattle.vectors.proofs.Verdicts.{same-outcome, out-compile, out-run-length, out-check}
+use Rattle.vectors.proofs.Verdicts.{out-encode, out-decode, out-list, checked-out}
 use borrow.Author.Needs.{needs}
 use Rattle.vectors.proofs.calls.call.Statement.{statement}
 use Rattle.vectors.proofs.calls.call.Tie as tie
@@ -21,7 +21,8 @@ returns c =
     let a = k .before .before .before .before .before .before .args in
     let B = now (a .out) in
     same-outcome (outcomeOf (a .kind) (now (a .first)) (now (a .second)) (length B)) _ B _ (k .compile-job .result)
-    (out-compile (a .kind) (now (a .first)) (now (a .second)) (length B) (k .before .before .if1 .taken)) (k .compile-job .ensures .0) (k .compile-job .ensures .1)
+    (out-compile (a .kind) (now (a .first)) (now (a .second)) (length B) (k .before .before .if1 .taken))
+    (k .compile-job .ensures .0) (k .compile-job .ensures .1)
 
 compile-run-length-requires : tie.Need-compile-run-length-requires
 compile-run-length-requires c κs = search needs
@@ -34,8 +35,10 @@ returns-2 c =
     let k = c .before .before in
     let a = k .before .before .before .before .before .before .before .args in
     let B = now (a .out) in
-    same-outcome (outcomeOf (a .kind) (now (a .first)) (now (a .second)) (length B)) _ B _ (k .compile-run-length .result)
-    (out-run-length (a .kind) (now (a .first)) (now (a .second)) (length B) (k .before .before .if2 .taken)) (k .compile-run-length .ensures .0) (k .compile-run-length .ensures .1)
+    same-outcome (outcomeOf (a .kind) (now (a .first)) (now (a .second)) (length B)) _ B _
+    (k .compile-run-length .result)
+    (out-run-length (a .kind) (now (a .first)) (now (a .second)) (length B) (k .before .before .if2 .taken))
+    (k .compile-run-length .ensures .0) (k .compile-run-length .ensures .1)
 
 check-requires : tie.Need-check-requires
 check-requires c κs = search needs
@@ -61,7 +64,8 @@ returns-4 c =
     let a = k .before .before .before .before .before .before .before .before .before .args in
     let B = now (a .out) in
     same-outcome (outcomeOf (a .kind) (now (a .first)) (now (a .second)) (length B)) _ B _ (k .encode .result)
-    (out-encode (a .kind) (now (a .first)) (now (a .second)) (length B) (k .before .before .if4 .taken)) (k .encode .ensures .0) (k .encode .ensures .1)
+    (out-encode (a .kind) (now (a .first)) (now (a .second)) (length B) (k .before .before .if4 .taken))
+    (k .encode .ensures .0) (k .encode .ensures .1)
 
 decode-requires : tie.Need-decode-requires
 decode-requires c κs = search needs
@@ -75,7 +79,8 @@ returns-5 c =
     let a = k .before .before .before .before .before .before .before .before .before .before .args in
     let B = now (a .out) in
     same-outcome (outcomeOf (a .kind) (now (a .first)) (now (a .second)) (length B)) _ B _ (k .decode .result)
-    (out-decode (a .kind) (now (a .first)) (now (a .second)) (length B) (k .before .before .if5 .taken)) (k .decode .ensures .0) (k .decode .ensures .1)
+    (out-decode (a .kind) (now (a .first)) (now (a .second)) (length B) (k .before .before .if5 .taken))
+    (k .decode .ensures .0) (k .decode .ensures .1)
 
 list-or-tell-requires : tie.Need-list-or-tell-requires
 list-or-tell-requires c κs = search needs
@@ -95,7 +100,7 @@ returns-6 c =
     let B = now (a .out) in
     same-outcome (outcomeOf (a .kind) (now (a .first)) (now (a .second)) (length B)) _ B _ (k .list-or-tell .result)
     (out-list (a .kind) (now (a .first)) (now (a .second)) (length B) (e₁ .if1 .left) (e₂ .if2 .left) (e₃ .if3 .left)
-        (e₄ .if4 .left) (e₅ .if5 .left)) (k .list-or-tell .ensures .0) (k .list-or-tell .ensures .1)
+    (e₄ .if4 .left) (e₅ .if5 .left)) (k .list-or-tell .ensures .0) (k .list-or-tell .ensures .1)
 
 pub call-spec : {M : Type 1} → statement M
 call-spec =

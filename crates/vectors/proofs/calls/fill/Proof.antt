@@ -34,9 +34,11 @@ loop-less c = search needs
 loop-again : tie.Need-loop-again Inv-loop μ-loop
 loop-again c =
     let l = c .before .loop in
-    let B = now (c .before .before .args .out) in
-    (omega arith, simp length-set (l .inv .1),
-    ap (λ X. set X (l .i) 165) (l .inv .2) ∙ fill-more (l .i) 165 B (omega arith))
+    let B = now (c .before .before .args .out) in (
+      omega arith,
+      simp length-set (l .inv .1),
+      ap (λ X. set X (l .i) 165) (l .inv .2) ∙ fill-more (l .i) 165 B (omega arith),
+    )
 
 same-length : tie.Need-same-length Inv-loop μ-loop
 same-length c = c .before .loop .inv .1

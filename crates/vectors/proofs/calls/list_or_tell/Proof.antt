@@ -75,7 +75,7 @@ returns-3 c =
     let e = sym (known .r .given .1) ∙ k .list-run-length .ensures .0 in
     let r = known .r .given .0 .0 in
     let (text, kept) = told-other xs (length B) r B (k .list-run-length .last .1 .0) e
-            (λ q. other .if1 .left (num .refusal-number .ensures ∙ q)) (k .list-run-length .ensures .1) in
+    (λ q. other .if1 .left (num .refusal-number .ensures ∙ q)) (k .list-run-length .ensures .1) in
     other-told xs B (k .list-run-length .last .1 .0) _ r (put .put-refusal .result) text kept
     (put .put-refusal .ensures .0) (put .put-refusal .ensures .1)
 

@@ -14,7 +14,7 @@ use Rattle.vectors.proofs.calls.stands.Statement.{statement}
 use Rattle.vectors.proofs.calls.stands.Tie as tie
 
 abbrev Inv-loop : tie.InvT-loop
-Inv-loop out output i₀ i = 
+Inv-loop out output i₀ i =
     (i ≤ length out) × (length output ≤ length out) × ((k : ℕ) → k < i → getD out k 0 ≡ getD output k 165)
 
 abbrev μ-loop : tie.MeasureT-loop
@@ -46,9 +46,11 @@ loop-less c = search needs
 
 loop-again : tie.Need-loop-again Inv-loop μ-loop
 loop-again c =
-    let l = c .before .before .before .before .loop in
-    (omega arith, l .inv .1,
-    below-more _ _ (l .inv .2) (c .if2 .left ∙ c .before .expected .ensures))
+    let l = c .before .before .before .before .loop in (
+      omega arith,
+      l .inv .1,
+      below-more _ _ (l .inv .2) (c .if2 .left ∙ c .before .expected .ensures),
+    )
 
 returns-3 : tie.Need-returns-3 Inv-loop μ-loop
 returns-3 c =

@@ -78,11 +78,13 @@ returns c =
     let kind = three .before in
     let two = kind .before in
     let one = two .before in
-    let a = one .before .before .args in
-    (case-is (now (a .bytes)) (a .at) (kind .byte .result) (three .two3 .result) (one .two .result) (two .two2 .result)
-    (refusal .byte2 .result) (four .two4 .result) (five .two5 .result) (c .two6 .result) (kind .byte .ensures .0)
-    (three .two3 .ensures .0) (one .two .ensures .0) (two .two2 .ensures .0) (refusal .byte2 .ensures .0)
-    (four .two4 .ensures .0) (five .two5 .ensures .0) (c .two6 .ensures .0), three .two3 .ensures .1)
+    let a = one .before .before .args in (
+      case-is (now (a .bytes)) (a .at) (kind .byte .result) (three .two3 .result) (one .two .result) (two .two2 .result)
+          (refusal .byte2 .result) (four .two4 .result) (five .two5 .result) (c .two6 .result) (kind .byte .ensures .0)
+          (three .two3 .ensures .0) (one .two .ensures .0) (two .two2 .ensures .0) (refusal .byte2 .ensures .0)
+          (four .two4 .ensures .0) (five .two5 .ensures .0) (c .two6 .ensures .0),
+      three .two3 .ensures .1,
+    )
 
 pub case-at-spec : {M : Type 1} → statement M
 case-at-spec =

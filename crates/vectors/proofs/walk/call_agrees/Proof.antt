@@ -40,7 +40,8 @@ slice-aggregate-agrees : tie.Need-slice-aggregate-agrees
 slice-aggregate-agrees c =
     let b = c .before .before .before in
     let k = b .before .before in
-    let h : k .args .c .room ≤ length (b .large-buffer .result) = omega (arith, b .large-buffer .ensures, k .pre .room) in
+    let h : k .args .c .room ≤ length (b .large-buffer .result) =
+    omega (arith, b .large-buffer .ensures, k .pre .room) in
     sym (length-take-le (k .args .c .room) (b .large-buffer .result) h)
 
 sub-agrees-3 : tie.Need-sub-agrees-3
@@ -64,7 +65,7 @@ returns c =
     let d = start .args .c in
     let h : d .room ≤ length (b .large-buffer .result) = omega (arith, b .large-buffer .ensures, start .pre .room) in
     subst (λ n. Says (k .agrees .result) (Agrees (d .kind) (part xs (d .first) (d .behind)) (part xs (d .second)
-        (d .told)) n (d .refusal) (d .value) (part xs (d .output) (d .end))))
+    (d .told)) n (d .refusal) (d .value) (part xs (d .output) (d .end))))
     (length-take-le (d .room) (b .large-buffer .result) h) (k .agrees .ensures)
 
 pub call-agrees-spec : {M : Type 1} → statement M

@@ -32,9 +32,12 @@ is-case-requires c κs = omega (arith, c .before .before .before .pre, c .loop .
 
 step-requires : tie.Need-step-requires Inv-loop μ-loop
 step-requires c κs =
-    let l = c .before .before .loop in
-    (omega (arith, c .before .before .before .before .before .pre, l .inv .0), l .inv .1,
-    c .before .is-case .ensures (c .if1 .taken), l .inv .2)
+    let l = c .before .before .loop in (
+      omega (arith, c .before .before .before .before .before .pre, l .inv .0),
+      l .inv .1,
+      c .before .is-case .ensures (c .if1 .taken),
+      l .inv .2,
+    )
 
 loop-less : tie.Need-loop-less Inv-loop μ-loop
 loop-less c =

@@ -35,7 +35,8 @@ element-copy-out-r-2 : tie.Need-element-copy-out-r-2
 element-copy-out-r-2 c = search needs
 
 add-r-4 : tie.Need-add-r-4
-add-r-4 c = omega (arith, c .before .before .pre .2 .differ (c .before .before .args .c .kind), c .before .before .pre .3)
+add-r-4 c =
+    omega (arith, c .before .before .pre .2 .differ (c .before .before .args .c .kind), c .before .before .pre .3)
 
 mul-r-4 : tie.Need-mul-r-4
 mul-r-4 c = search needs
