@@ -16,7 +16,7 @@ use Rattle.views.specs.Phrases.{words, plural}
 infixl 5 _then_
 -- THEOREM: one text behind another
 pub _then_ : {s t B C D : List ℕ} {at m r : ℕ} → Added s at B C m → Added t m C D r → Added (s ++ t) at B D r
-p then q = added-more _ _ _ _ _ _ _ _ p q
+p then q = added-more p q
 
 -- no text behind the first r bytes
 pub begun : {s B C : List ℕ} {at r : ℕ} → Added s at B C r → Added [] r C C r
