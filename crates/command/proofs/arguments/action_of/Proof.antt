@@ -1,0 +1,121 @@
+-- `action_of` meets its contract: the tests are those of the definition, in its order.
+-- Assumes nothing.
+use mathlib.Core.Path.{_≡_, sym, _∙_}
+use mathlib.Core.Bool.{true, false}
+use denote.Ref.{now}
+use Rattle.text.specs.Words.{words, same}
+use Rattle.command.specs.Naming.{actionOf}
+use borrow.Author.Needs.{needs}
+use Rattle.command.proofs.arguments.action_of.Statement.{statement}
+use Rattle.command.proofs.arguments.action_of.Tie as tie
+
+slice-aggregate-is-same : tie.Need-slice-aggregate-is-same
+slice-aggregate-is-same c = search needs
+
+is-same-requires : tie.Need-is-same-requires
+is-same-requires c κs = search needs
+
+returns : tie.Need-returns
+unfolding words actionOf
+returns c =
+    let w = now (c .before .before .before .before .args .word) in
+    let e1 : same w (words "compile") ≡ true = sym (c .before .is-same .ensures) ∙ c .if1 .taken in
+    simp (e1)
+
+slice-aggregate-is-same-2 : tie.Need-slice-aggregate-is-same-2
+slice-aggregate-is-same-2 c = search needs
+
+is-same-requires-2 : tie.Need-is-same-requires-2
+is-same-requires-2 c κs = search needs
+
+returns-2 : tie.Need-returns-2
+unfolding words actionOf
+returns-2 c =
+    let w = now (c .before .before .before .before .before .before .before .args .word) in
+    let e1 : same w (words "compile") ≡ false = sym (c .before .before .before .before .is-same .ensures) ∙ c .before .before .before .if1 .left in
+    let e2 : same w (words "compile-job") ≡ true = sym (c .before .is-same2 .ensures) ∙ c .if2 .taken in
+    simp (e1, e2)
+
+slice-aggregate-is-same-3 : tie.Need-slice-aggregate-is-same-3
+slice-aggregate-is-same-3 c = search needs
+
+is-same-requires-3 : tie.Need-is-same-requires-3
+is-same-requires-3 c κs = search needs
+
+returns-3 : tie.Need-returns-3
+unfolding words actionOf
+returns-3 c =
+    let w = now (c .before .before .before .before .before .before .before .before .before .before .args .word) in
+    let e1 : same w (words "compile") ≡ false = sym (c .before .before .before .before .before .before .before .is-same .ensures) ∙ c .before .before .before .before .before .before .if1 .left in
+    let e2 : same w (words "compile-job") ≡ false = sym (c .before .before .before .before .is-same2 .ensures) ∙ c .before .before .before .if2 .left in
+    let e3 : same w (words "trace") ≡ true = sym (c .before .is-same3 .ensures) ∙ c .if3 .taken in
+    simp (e1, e2, e3)
+
+slice-aggregate-is-same-4 : tie.Need-slice-aggregate-is-same-4
+slice-aggregate-is-same-4 c = search needs
+
+is-same-requires-4 : tie.Need-is-same-requires-4
+is-same-requires-4 c κs = search needs
+
+returns-4 : tie.Need-returns-4
+unfolding words actionOf
+returns-4 c =
+    let w = now (c .before .before .before .before .before .before .before .before .before .before .before .before .before .args .word) in
+    let e1 : same w (words "compile") ≡ false = sym (c .before .before .before .before .before .before .before .before .before .before .is-same .ensures) ∙ c .before .before .before .before .before .before .before .before .before .if1 .left in
+    let e2 : same w (words "compile-job") ≡ false = sym (c .before .before .before .before .before .before .before .is-same2 .ensures) ∙ c .before .before .before .before .before .before .if2 .left in
+    let e3 : same w (words "trace") ≡ false = sym (c .before .before .before .before .is-same3 .ensures) ∙ c .before .before .before .if3 .left in
+    let e4 : same w (words "set") ≡ true = sym (c .before .is-same4 .ensures) ∙ c .if4 .taken in
+    simp (e1, e2, e3, e4)
+
+slice-aggregate-is-same-5 : tie.Need-slice-aggregate-is-same-5
+slice-aggregate-is-same-5 c = search needs
+
+is-same-requires-5 : tie.Need-is-same-requires-5
+is-same-requires-5 c κs = search needs
+
+returns-5 : tie.Need-returns-5
+unfolding words actionOf
+returns-5 c =
+    let w = now (c .before .before .before .before .before .before .before .before .before .before .before .before .before .before .before .before .args .word) in
+    let e1 : same w (words "compile") ≡ false = sym (c .before .before .before .before .before .before .before .before .before .before .before .before .before .is-same .ensures) ∙ c .before .before .before .before .before .before .before .before .before .before .before .before .if1 .left in
+    let e2 : same w (words "compile-job") ≡ false = sym (c .before .before .before .before .before .before .before .before .before .before .is-same2 .ensures) ∙ c .before .before .before .before .before .before .before .before .before .if2 .left in
+    let e3 : same w (words "trace") ≡ false = sym (c .before .before .before .before .before .before .before .is-same3 .ensures) ∙ c .before .before .before .before .before .before .if3 .left in
+    let e4 : same w (words "set") ≡ false = sym (c .before .before .before .before .is-same4 .ensures) ∙ c .before .before .before .if4 .left in
+    let e5 : same w (words "help") ≡ true = sym (c .before .is-same5 .ensures) ∙ c .if5 .taken in
+    simp (e1, e2, e3, e4, e5)
+
+record-action-requires : tie.Need-record-action-requires
+record-action-requires c κs = search needs
+
+returns-6 : tie.Need-returns-6
+unfolding words actionOf
+returns-6 c =
+    let w = now (c .before .before .before .before .before .before .before .before .before .before .before .before .before .before .before .before .before .args .word) in
+    let e1 : same w (words "compile") ≡ false = sym (c .before .before .before .before .before .before .before .before .before .before .before .before .before .before .is-same .ensures) ∙ c .before .before .before .before .before .before .before .before .before .before .before .before .before .if1 .left in
+    let e2 : same w (words "compile-job") ≡ false = sym (c .before .before .before .before .before .before .before .before .before .before .before .is-same2 .ensures) ∙ c .before .before .before .before .before .before .before .before .before .before .if2 .left in
+    let e3 : same w (words "trace") ≡ false = sym (c .before .before .before .before .before .before .before .before .is-same3 .ensures) ∙ c .before .before .before .before .before .before .before .if3 .left in
+    let e4 : same w (words "set") ≡ false = sym (c .before .before .before .before .before .is-same4 .ensures) ∙ c .before .before .before .before .if4 .left in
+    let e5 : same w (words "help") ≡ false = sym (c .before .before .is-same5 .ensures) ∙ c .before .if5 .left in
+    c .record-action .ensures ∙ sym (simp (e1, e2, e3, e4, e5))
+
+pub action-of-spec : {M : Type 1} → statement M
+action-of-spec =
+    tie.close
+    (tie.spec
+    slice-aggregate-is-same
+    is-same-requires
+    returns
+    slice-aggregate-is-same-2
+    is-same-requires-2
+    returns-2
+    slice-aggregate-is-same-3
+    is-same-requires-3
+    returns-3
+    slice-aggregate-is-same-4
+    is-same-requires-4
+    returns-4
+    slice-aggregate-is-same-5
+    is-same-requires-5
+    returns-5
+    record-action-requires
+    returns-6)

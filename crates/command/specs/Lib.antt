@@ -1,0 +1,4 @@
+pub mod Naming
+pub mod Parsing
+pub mod Sayings
+pub mod Results
