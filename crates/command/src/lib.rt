@@ -3,7 +3,11 @@ ghost use mathlib.Core.Path.{_≡_};
 ghost use Rattle.command.specs.Naming.{statusOf};
 
 mod arguments;
+mod coding;
+mod compiling;
+mod files;
 mod messages;
+mod usage;
 
 // How a run ends.
 pub enum Status {
