@@ -2,3 +2,4 @@ pub mod Naming
 pub mod Parsing
 pub mod Sayings
 pub mod Results
+pub mod SetText
