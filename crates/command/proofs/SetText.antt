@@ -51,7 +51,7 @@ module _ (s : List ℕ) (i : ℕ) where
   -- the part of the set from its first byte to its end
   pub part-line : (start len : ℕ) → start + len ≤ length s
       → recordLine i start (length (take (start + len - start) (drop start s)))
-          (parse (take (start + len - start) (drop start s)))
+      (parse (take (start + len - start) (drop start s)))
       ≡ recordLine i start len (parse (take len (drop start s)))
   part-line start len h =
       let e : start + len - start ≡ len = omega arith in
@@ -66,10 +66,11 @@ module _ (i start len : ℕ) (v : Verdict) (t : Table) (o : Outcome Code) where
   line-bad r e q = ap (recordLine i start len) (sym (ap (λ v. verdictOf v (codeIn t)) e) ∙ q)
 
   pub line-good : v ≡ Read → verdictOf v (codeIn t) ≡ o
-      → placeText i start len ++ kindText (t .p) (t .q) (t .states) (t .memory) (t .lookahead) ≡ recordLine i start len o
+      → placeText i start len ++ kindText (t .p) (t .q) (t .states) (t .memory) (t .lookahead)
+      ≡ recordLine i start len o
   line-good e q =
       ap (λ n. placeText i start len ++ kindText (t .p) (t .q) n (t .memory) (t .lookahead))
-          (sym (length-map (range (t .states)) (rowIn t) ∙ length-from 0 (t .states)))
+      (sym (length-map (range (t .states)) (rowIn t) ∙ length-from 0 (t .states)))
       ∙ ap (recordLine i start len) (sym (ap (λ v. verdictOf v (codeIn t)) e) ∙ q)
 
 -- ---- the lines of all records

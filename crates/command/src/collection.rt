@@ -31,7 +31,15 @@ fn put_place(out: &mut [u8], at: usize, i: usize, start: usize, len: usize) -> u
 }
 
 // p, q, states, m and a of a code.
-fn put_kind(out: &mut [u8], at: usize, p: usize, q: usize, states: usize, m: usize, a: usize) -> usize
+fn put_kind(
+    out: &mut [u8],
+    at: usize,
+    p: usize,
+    q: usize,
+    states: usize,
+    m: usize,
+    a: usize,
+) -> usize
     ensures written { λ e. ⌜ Added (kindText p q states m a) at (now (out .entry)) (now (out .exit)) e ⌝ }
 {
     let one = put_number(out, at, b"p ", p as u64);

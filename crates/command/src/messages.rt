@@ -19,10 +19,22 @@ fn put_phrase(out: &mut [u8], at: usize, r: Refusal) -> usize
         Refusal::States => put(out, at, b"K, a next state, or d and k out of range"),
         Refusal::NoCode => put(out, at, b"all weights 0"),
         Refusal::TooHeavy => put(out, at, b"component's weights sum over 128"),
-        Refusal::TooManyEdges => put(out, at, b"the component has over 2,048 edges, before any split or after one"),
+        Refusal::TooManyEdges => put(
+            out,
+            at,
+            b"the component has over 2,048 edges, before any split or after one",
+        ),
         Refusal::NoWindow => put(out, at, b"no window up to 15 and 15"),
-        Refusal::Field => put(out, at, b"record field out of range, absent state not 0, or fill not 0"),
-        Refusal::Length => put(out, at, b"length is not what the fields say, or too short for them"),
+        Refusal::Field => put(
+            out,
+            at,
+            b"record field out of range, absent state not 0, or fill not 0",
+        ),
+        Refusal::Length => put(
+            out,
+            at,
+            b"length is not what the fields say, or too short for them",
+        ),
         Refusal::Disobeys => put(out, at, b"some recording breaks the constraint"),
         Refusal::WindowFails => put(out, at, b"the window fails"),
         Refusal::BadByte(place) => put_number(

@@ -2,11 +2,12 @@
 use crate::Status;
 use crate::arguments::Action;
 use crate::arguments::action_of;
+use crate::messages::complain;
 use libc::STDERR_FILENO;
 use libc::STDOUT_FILENO;
 
 // All actions.
-fn tell_all(file: i32) {
+fn tell_all(file: i32) -> bool {
     io::write_all(
         file,
         b"usage: sbc ACTION [ARGUMENT]...
@@ -19,14 +20,14 @@ fn tell_all(file: i32) {
   encode RECORD DATA OUT     record data blocks as words
   decode RECORD WORDS OUT    read words as data blocks
   set FILE                   list the records of a set
-  help [ACTION]              print this, or more of an action
+  help [ACTION]              print this, or more about an action
 A file named - is standard input or standard output.
 ",
-    );
+    )
 }
 
 // The actions that compile.
-fn tell_compiling(file: i32, a: Action) {
+fn tell_compiling(file: i32, a: Action) -> bool {
     match a {
         Action::Compile => io::write_all(
             file,
@@ -48,11 +49,11 @@ K, then for each of K states the next states for channel bits 0 and 1, with 255 
 Prints how the run-length job is compiled, step by step.
 ",
         ),
-    };
+    }
 }
 
 // The actions on a record.
-fn tell_record(file: i32, a: Action) {
+fn tell_record(file: i32, a: Action) -> bool {
     match a {
         Action::Check => io::write_all(
             file,
@@ -72,11 +73,11 @@ Prints the code of the record in FILE: its rate, its window, its constraint and 
 Prints the states and edges of the record in FILE as a Graphviz digraph.
 ",
         ),
-    };
+    }
 }
 
 // The actions that encode and decode.
-fn tell_coding(file: i32, a: Action) {
+fn tell_coding(file: i32, a: Action) -> bool {
     match a {
         Action::Encode => io::write_all(
             file,
@@ -93,11 +94,11 @@ byte each. W words give W - a blocks. A block that cannot be read is the mark 25
 standard error. At most 1,000,015 words.
 ",
         ),
-    };
+    }
 }
 
-// An action.
-fn tell(file: i32, a: Action) {
+// An action; the answer is whether all was written.
+fn tell(file: i32, a: Action) -> bool {
     match a {
         Action::Compile => tell_compiling(file, a),
         Action::CompileJob => tell_compiling(file, a),
@@ -107,15 +108,13 @@ fn tell(file: i32, a: Action) {
         Action::Draw => tell_record(file, a),
         Action::Encode => tell_coding(file, a),
         Action::Decode => tell_coding(file, a),
-        Action::Collection => {
-            io::write_all(
-                file,
-                b"usage: sbc set FILE
+        Action::Collection => io::write_all(
+            file,
+            b"usage: sbc set FILE
 Lists the records of the set in FILE: the number of each, its first byte, its length, p, q, states, m and a. A set is
 a count byte, then each record behind a two-byte length, most significant byte first. At most 1,000,000 bytes.
 ",
-            );
-        }
+        ),
         Action::Help => tell_all(file),
         Action::Unknown => tell_all(file),
     }
@@ -127,11 +126,18 @@ pub fn misused(a: Action) -> Status {
     Status::Misused
 }
 
+// Prints how an action is used.
+fn print_use(a: Action) -> Status {
+    if tell(STDOUT_FILENO, a) {
+        return Status::Done;
+    }
+    complain(b"standard output")
+}
+
 // help [ACTION]
 pub fn help() -> Status {
     if os::arg_count() < 3 {
-        tell(STDOUT_FILENO, Action::Help);
-        return Status::Done;
+        return print_use(Action::Help);
     }
     let mut word = io::buffer();
     let n = os::arg(2, &mut word);
@@ -140,9 +146,6 @@ pub fn help() -> Status {
     }
     match action_of(&word[..n]) {
         Action::Unknown => misused(Action::Help),
-        a => {
-            tell(STDOUT_FILENO, a);
-            Status::Done
-        }
+        a => print_use(a),
     }
 }

@@ -62,10 +62,12 @@ loop-again : tie.Need-loop-again Inv-loop μ-loop
 loop-again c =
     let l = c .before .before .before .before .before .loop in
     let a = c .before .before .before .before .before .before .before .before .args in
-    let d = c .before .before .digit in
-    (omega arith, omega arith,
-    l .inv .2 ∙ number-on (now (a .text)) (l .n) (l .i) (omega arith) (omega (arith, d .ensures .0))
-    ∙ ap (λ k. numberIn (l .n * 10 + k) (drop (l .i + 1) (now (a .text)))) (sym (d .ensures .0)))
+    let d = c .before .before .digit in (
+      omega arith,
+      omega arith,
+      l .inv .2 ∙ number-on (now (a .text)) (l .n) (l .i) (omega arith) (omega (arith, d .ensures .0))
+          ∙ ap (λ k. numberIn (l .n * 10 + k) (drop (l .i + 1) (now (a .text)))) (sym (d .ensures .0)),
+    )
 
 cast-t11 : tie.Need-cast-t11 Inv-loop μ-loop
 cast-t11 c = omega arith

@@ -16,7 +16,8 @@ finish-blocks-requires c κs =
     let call = c .before .before .before .decode in
     let a = c .before .before .before .before .before .before .before .before .args in
     let B = now (a .out) in
-    result-within (decodeUnder (now (a .bytes)) (length B) (now (a .words))) (call .result) B _ (call .ensures .0) (call .ensures .1)
+    let o = decodeUnder (now (a .bytes)) (length B) (now (a .words)) in
+    result-within o (call .result) B _ (call .ensures .0) (call .ensures .1)
 
 same-length : tie.Need-same-length
 same-length c = search needs

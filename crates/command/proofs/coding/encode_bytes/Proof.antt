@@ -16,7 +16,8 @@ finish-requires c κs =
     let call = c .before .before .before .encode in
     let a = c .before .before .before .before .before .before .before .before .args in
     let B = now (a .out) in
-    result-within (encodeUnder (now (a .bytes)) (length B) (now (a .blocks))) (call .result) B _ (call .ensures .0) (call .ensures .1)
+    let o = encodeUnder (now (a .bytes)) (length B) (now (a .blocks)) in
+    result-within o (call .result) B _ (call .ensures .0) (call .ensures .1)
 
 same-length : tie.Need-same-length
 same-length c = search needs

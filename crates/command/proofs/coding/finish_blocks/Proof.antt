@@ -22,7 +22,8 @@ slice-aggregate-marks c =
     let n = c .before .before .a in
     let start = c .before .before .before .before .before .before in
     let out = now (start .args .out) in
-    sym (length-take-le (n .given .0 .0) out (front-long (start .args .a) out (n .given .0 .0) (start .pre) (n .given .1)))
+    let k = n .given .0 .0 in
+    sym (length-take-le k out (front-long (start .args .a) out k (start .pre) (n .given .1)))
 
 marks-requires : tie.Need-marks-requires
 marks-requires c κs = search needs

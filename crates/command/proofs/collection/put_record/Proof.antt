@@ -28,10 +28,12 @@ enum-known-start c = search needs
 
 -- the record that is found lies within the set
 within : (c : tie.After-known-told)
-    → c .before .start .given .0 .0 + c .before .start .given .0 .1 .0 ≤ length (now (c .before .before .before .before .before .before .args .set))
+    → c .before .start .given .0 .0 + c .before .start .given .0 .1 .0
+    ≤ length (now (c .before .before .before .before .before .before .args .set))
 within c =
     let a = c .before .before .before .before .before .before .args in
-    record-within (now (a .set)) (a .i) _ _ (sym (c .before .before .before .find .ensures) ∙ c .before .start .given .1)
+    let found = sym (c .before .before .before .find .ensures) ∙ c .before .start .given .1 in
+    record-within (now (a .set)) (a .i) _ _ found
 
 add-end : tie.Need-add-end
 add-end c = omega (arith, within c)
@@ -55,7 +57,8 @@ returns : tie.Need-returns
 returns c =
     let put = c .before .before in
     let a = put .before .before .before .before .before .before .before .before .args in
-    added-same (text-nowhere (now (a .set)) (a .i) (sym (put .before .before .before .before .before .find .ensures) ∙ put .before .before .before .enum-told .given .1))
+    let told = put .before .before .before in
+    added-same (text-nowhere (now (a .set)) (a .i) (sym (told .before .before .find .ensures) ∙ told .enum-told .given .1))
     (put .put .ensures)
 
 same-length-2 : tie.Need-same-length-2
@@ -70,7 +73,7 @@ returns-2 c =
     let start = k .before .start .given .0 .0 in
     let len = k .before .start .given .0 .1 .0 in
     added-same (part-line s (a .i) start len (within k)
-        ∙ text-at s (a .i) start len (sym (k .before .before .before .find .ensures) ∙ k .before .start .given .1))
+    ∙ text-at s (a .i) start len (sym (k .before .before .before .find .ensures) ∙ k .before .start .given .1))
     (put .put-record-at .ensures)
 
 pub put-record-spec : {M : Type 1} → statement M

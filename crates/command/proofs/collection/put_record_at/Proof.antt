@@ -41,7 +41,7 @@ returns c =
     let a = put .before .before .before .before .before .before .before .before .before .args in
     let bytes = now (a .bytes) in
     added-same (line-bad (a .i) (a .start) (length bytes) (r .result .verdict) (r .result .table) (parse bytes) _
-        (put .before .before .before .enum-told .given .1) (r .ensures .0)) (put .put .ensures)
+    (put .before .before .before .enum-told .given .1) (r .ensures .0)) (put .put .ensures)
 
 same-length-2 : tie.Need-same-length-2
 same-length-2 c = search needs
@@ -55,10 +55,10 @@ returns-2 c =
     let bytes = now (a .bytes) in
     let t = r .result .table in
     added-same (line-good (a .i) (a .start) (length bytes) (r .result .verdict) t (parse bytes)
-        (place .before .before .enum-told2 .given .1) (r .ensures .0))
+    (place .before .before .enum-told2 .given .1) (r .ensures .0))
     (added-more (placeText (a .i) (a .start) (length bytes))
-        (kindText (t .p) (t .q) (t .states) (t .memory) (t .lookahead)) (now (a .out)) _ _ (a .at) _ _
-        (place .put-place .ensures) (kind .put-kind .ensures))
+    (kindText (t .p) (t .q) (t .states) (t .memory) (t .lookahead)) (now (a .out)) _ _ (a .at) _ _
+    (place .put-place .ensures) (kind .put-kind .ensures))
 
 pub put-record-at-spec : {M : Type 1} → statement M
 put-record-at-spec =

@@ -1,5 +1,5 @@
--- `put_records` meets its contract. The loop's invariant: the lines of the records passed stand in front. The measure is
--- how many records are left.
+-- `put_records` meets its contract. The loop's invariant: the lines of the records passed stand in front. The measure
+-- is how many records are left.
 -- Assumes nothing.
 use mathlib.Core.Path.{_≡_, subst}
 use Prim.Native.Nat.{_-_, _≤_}
@@ -34,9 +34,11 @@ loop-again : tie.Need-loop-again Inv-loop μ-loop
 loop-again c =
     let put = c .before .before in
     let l = put .before .before .before .loop in
-    let a = put .before .before .before .before .before .before .args in
-    (omega arith, lines-more (now (a .set)) (now (a .out)) (l .out) _ (l .i) (l .at) _ (l .inv .1)
-        (put .put-record .ensures))
+    let a = put .before .before .before .before .before .before .args in (
+      omega arith,
+      lines-more (now (a .set)) (now (a .out)) (l .out) _ (l .i) (l .at) _ (l .inv .1)
+          (put .put-record .ensures),
+    )
 
 same-length : tie.Need-same-length Inv-loop μ-loop
 same-length c = c .before .loop .inv .1 .kept

@@ -38,7 +38,8 @@ returns c =
     let front = linesTo (now (a .set)) (a .n) in
     let number = told "" (a .n) in
     added-more (front ++ number) (words " records, all good\n") B _ _ 0 _ _
-    (added-more front number B _ _ 0 _ _ (lines .put-records .ensures) (count .put-number .ensures)) (last .put .ensures)
+    (added-more front number B _ _ 0 _ _ (lines .put-records .ensures) (count .put-number .ensures))
+    (last .put .ensures)
 
 pub put-set-spec : {M : Type 1} → statement M
 put-set-spec =

@@ -22,7 +22,8 @@ slice-aggregate-store c =
     let n = c .before .before .a2 in
     let start = c .before .before .before .before .before in
     let out = now (start .args .out) in
-    sym (length-take-le (n .given .0 .0) out (front-long (start .args .a) out (n .given .0 .0) (start .pre) (n .given .1)))
+    let k = n .given .0 .0 in
+    sym (length-take-le k out (front-long (start .args .a) out k (start .pre) (n .given .1)))
 
 store-requires : tie.Need-store-requires
 store-requires c κs = search needs

@@ -41,7 +41,8 @@ returns c =
     let a = number .before .before .before .before .before .args in
     let B = now (a .out) in
     let front = told "sbc: refused " (numberOf (a .r)) in
-    let first = added-same (ap (told "sbc: refused ") (number .before .refusal-number .ensures)) (number .put-number .ensures) in
+    let same = ap (told "sbc: refused ") (number .before .refusal-number .ensures) in
+    let first = added-same same (number .put-number .ensures) in
     let second = added-more front (words ": ") B _ _ 0 _ _ first (colon .put .ensures) in
     added-more (front ++ words ": ") (phraseOf (a .r)) B _ _ 0 _ _ second (phrase .put-phrase .ensures)
 
