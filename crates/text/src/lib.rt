@@ -6,6 +6,7 @@ ghost use Prim.Native.Nat.{_+_, _≤_, min};
 ghost use lib.ListN.{length};
 ghost use lib.Seq.{paste};
 ghost use Rattle.text.specs.Texts.{decimal, hex, Added};
+ghost use Rattle.text.specs.Words.{same};
 
 // The smaller of two numbers.
 fn least(a: usize, b: usize) -> usize
@@ -58,6 +59,14 @@ pub fn put_hex(out: &mut [u8], at: usize, n: u64, width: usize) -> usize
     put(out, at, &digits[..k])
 }
 
+// A name and a number in decimal behind the first `at` bytes; the answer is the place behind them.
+pub fn put_number(out: &mut [u8], at: usize, name: &[u8], n: u64) -> usize
+    ensures written { λ r. ⌜ Added (now (name .entry) ++ decimal n) at (now (out .entry)) (now (out .exit)) r ⌝ }
+{
+    let number = put(out, at, name);
+    put_decimal(out, number, n)
+}
+
 // A name, a number in decimal and a newline behind the first `at` bytes; the answer is the place behind them.
 pub fn put_line(out: &mut [u8], at: usize, name: &[u8], n: u64) -> usize
     ensures written { λ r. ⌜
@@ -66,4 +75,21 @@ pub fn put_line(out: &mut [u8], at: usize, name: &[u8], n: u64) -> usize
     let number = put(out, at, name);
     let end = put_decimal(out, number, n);
     put(out, end, b"\n")
+}
+
+// Whether two texts are the same.
+pub fn is_same(a: &[u8], b: &[u8]) -> bool
+    ensures answer { λ r. ⌜ r ≡ same (now (a .entry)) (now (b .entry)) ⌝ }
+{
+    if a.len() != b.len() {
+        return false;
+    }
+    let mut i = 0;
+    while i < a.len() {
+        if a[i] != b[i] {
+            return false;
+        }
+        i += 1;
+    }
+    true
 }

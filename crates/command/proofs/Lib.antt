@@ -1,0 +1,3 @@
+pub mod Parsing
+pub mod Results
+pub mod SetText

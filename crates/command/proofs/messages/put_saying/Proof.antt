@@ -1,0 +1,60 @@
+-- `put_saying` meets its contract: the number and the condition are put in a row.
+-- Assumes nothing.
+use mathlib.Core.Path.{sym, ap}
+use denote.Ref.{now}
+use mathlib.Core.List.{_++_}
+use Rattle.text.specs.Words.{words, told}
+use Rattle.text.proofs.Adding.{added-same, added-more}
+use Rattle.answer.specs.Refusals.{numberOf}
+use Rattle.command.specs.Sayings.{phraseOf, saying}
+use borrow.Author.Needs.{needs}
+use Rattle.command.proofs.messages.put_saying.Statement.{statement}
+use Rattle.command.proofs.messages.put_saying.Tie as tie
+
+slice-aggregate-put-number : tie.Need-slice-aggregate-put-number
+slice-aggregate-put-number c = search needs
+
+refusal-number-requires : tie.Need-refusal-number-requires
+refusal-number-requires c κs = search needs
+
+put-number-requires : tie.Need-put-number-requires
+put-number-requires c κs = search needs
+
+slice-aggregate-put : tie.Need-slice-aggregate-put
+slice-aggregate-put c = search needs
+
+put-requires : tie.Need-put-requires
+put-requires c κs = search needs
+
+put-phrase-requires : tie.Need-put-phrase-requires
+put-phrase-requires c κs = search needs
+
+same-length : tie.Need-same-length
+same-length c = search needs
+
+returns : tie.Need-returns
+unfolding words saying
+returns c =
+    let phrase = c .before .before in
+    let colon = phrase .before .before .before .before in
+    let number = colon .before .before .before .before .before in
+    let a = number .before .before .before .before .before .args in
+    let B = now (a .out) in
+    let front = told "sbc: refused " (numberOf (a .r)) in
+    let same = ap (told "sbc: refused ") (number .before .refusal-number .ensures) in
+    let first = added-same same (number .put-number .ensures) in
+    let second = added-more front (words ": ") B _ _ 0 _ _ first (colon .put .ensures) in
+    added-more (front ++ words ": ") (phraseOf (a .r)) B _ _ 0 _ _ second (phrase .put-phrase .ensures)
+
+pub put-saying-spec : {M : Type 1} → statement M
+put-saying-spec =
+    tie.close
+    (tie.spec
+    slice-aggregate-put-number
+    refusal-number-requires
+    put-number-requires
+    slice-aggregate-put
+    put-requires
+    put-phrase-requires
+    same-length
+    returns)

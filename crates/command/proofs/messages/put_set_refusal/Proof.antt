@@ -1,0 +1,53 @@
+-- `put_set_refusal` meets its contract: the number of the record is put behind the number and the condition.
+-- Assumes nothing.
+use denote.Ref.{now}
+use mathlib.Core.List.{_++_}
+use Rattle.text.specs.Words.{words, told}
+use Rattle.text.proofs.Adding.{added-more}
+use Rattle.command.specs.Sayings.{saying, setRefusalLine}
+use borrow.Author.Needs.{needs}
+use Rattle.command.proofs.messages.put_set_refusal.Statement.{statement}
+use Rattle.command.proofs.messages.put_set_refusal.Tie as tie
+
+put-saying-requires : tie.Need-put-saying-requires
+put-saying-requires c κs = search needs
+
+slice-aggregate-put-number : tie.Need-slice-aggregate-put-number
+slice-aggregate-put-number c = search needs
+
+put-number-requires : tie.Need-put-number-requires
+put-number-requires c κs = search needs
+
+slice-aggregate-put : tie.Need-slice-aggregate-put
+slice-aggregate-put c = search needs
+
+put-requires : tie.Need-put-requires
+put-requires c κs = search needs
+
+same-length : tie.Need-same-length
+same-length c = search needs
+
+returns : tie.Need-returns
+unfolding words setRefusalLine
+returns c =
+    let last = c .before .before in
+    let number = last .before .before .before .before .before in
+    let first = number .before .before .before .before .before in
+    let a = first .before .before .before .args in
+    let B = now (a .out) in
+    let where-at = told ", at record " (a .i) in
+    added-more (saying (a .r) ++ where-at) (words "\n") B _ _ 0 _ _
+    (added-more (saying (a .r)) where-at B _ _ 0 _ _ (first .put-saying .ensures) (number .put-number .ensures))
+    (last .put .ensures)
+
+pub put-set-refusal-spec : {M : Type 1} → statement M
+put-set-refusal-spec =
+    tie.close
+    (tie.spec
+    put-saying-requires
+    slice-aggregate-put-number
+    put-number-requires
+    slice-aggregate-put
+    put-requires
+    same-length
+    returns)

@@ -1,0 +1,5 @@
+pub mod Naming
+pub mod Parsing
+pub mod Sayings
+pub mod Results
+pub mod SetText

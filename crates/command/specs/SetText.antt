@@ -1,0 +1,47 @@
+-- What is printed of a good set: a line for each record, and how many there are.
+-- In order: placeText, kindText, recordLine; recordText, linesTo, setText.
+-- Assumes nothing.
+use mathlib.Core.List.{List, [], _++_, map}
+use Prim.Native.Nat.{ℕ}
+use lib.ListN.{length, take, drop}
+use Rattle.laws.specs.Lists.{range, concat}
+use Rattle.text.specs.Words.{words, told}
+use Rattle.answer.specs.Outcomes.{Outcome, done, refused}
+use Rattle.table.specs.Rows.{Code}
+use Rattle.record.specs.Parse.{parse}
+use Rattle.sets.specs.declared.Place.{Place}
+use Rattle.sets.specs.declared.Place.the-variants.{At, Nowhere}
+use Rattle.sets.specs.Offsets.{recordPlace}
+
+-- the number of a record, its first byte and its length
+unfoldable pub placeText : ℕ → ℕ → ℕ → List ℕ
+placeText i start len = told "record " i ++ told " at byte " start ++ told ", " len ++ words " bytes: "
+
+-- p, q, states, m and a of a code
+unfoldable pub kindText : ℕ → ℕ → ℕ → ℕ → ℕ → List ℕ
+kindText p q states m a =
+    told "p " p ++ told ", q " q ++ told ", " states ++ told " states, m " m ++ told ", a " a ++ words "\n"
+
+-- a record at a place, if it is good
+abbrev pub recordLine : ℕ → ℕ → ℕ → Outcome Code → List ℕ
+recordLine i start len (done c) =
+    placeText i start len
+    ++ kindText (c .p) (c .q) (length (c .table)) (c .window .memory) (c .window .lookahead)
+recordLine i start len (refused r) = []
+
+-- the record at a place of a set
+abbrev pub placedLine : List ℕ → ℕ → Place → List ℕ
+placedLine s i (At start len) = recordLine i start len (parse (take len (drop start s)))
+placedLine s i Nowhere = []
+
+-- record i of a set
+unfoldable pub recordText : List ℕ → ℕ → List ℕ
+recordText s i = placedLine s i (recordPlace s i)
+
+-- the first n records of a set
+unfoldable pub linesTo : List ℕ → ℕ → List ℕ
+linesTo s n = concat (map (recordText s) (range n))
+
+-- what is printed of a good set of n records
+unfoldable pub setText : List ℕ → ℕ → List ℕ
+setText s n = linesTo s n ++ told "" n ++ words " records, all good\n"

@@ -1,0 +1,151 @@
+// How the command is used.
+use crate::Status;
+use crate::arguments::Action;
+use crate::arguments::action_of;
+use crate::messages::complain;
+use libc::STDERR_FILENO;
+use libc::STDOUT_FILENO;
+
+// All actions.
+fn tell_all(file: i32) -> bool {
+    io::write_all(
+        file,
+        b"usage: sbc ACTION [ARGUMENT]...
+  compile d k p q cap [OUT]  compile a run-length job to a record
+  compile-job FILE [OUT]     compile a job to a record
+  trace d k p q cap          print how a run-length job is compiled
+  check FILE                 say whether a record is accepted
+  show FILE                  print the code of a record
+  draw FILE                  print the code of a record as a Graphviz digraph
+  encode RECORD DATA OUT     record data blocks as words
+  decode RECORD WORDS OUT    read words as data blocks
+  set FILE                   list the records of a set
+  help [ACTION]              print this, or more about an action
+A file named - is standard input or standard output.
+",
+    )
+}
+
+// The actions that compile.
+fn tell_compiling(file: i32, a: Action) -> bool {
+    match a {
+        Action::Compile => io::write_all(
+            file,
+            b"usage: sbc compile d k p q cap [OUT]
+Compiles the run-length constraint (d, k) to a code of p data bits to q channel bits, with weights up to cap, and
+writes its record to OUT, or to standard output. d and k: 0 to 15, d at most k; p: 1 to 4; q: 1 to 8; cap: 1 to 16.
+",
+        ),
+        Action::CompileJob => io::write_all(
+            file,
+            b"usage: sbc compile-job FILE [OUT]
+Compiles the job in FILE to a code, and writes its record to OUT, or to standard output. A job is the bytes p, q, cap,
+K, then for each of K states the next states for channel bits 0 and 1, with 255 for none.
+",
+        ),
+        _ => io::write_all(
+            file,
+            b"usage: sbc trace d k p q cap
+Prints how the run-length job is compiled, step by step.
+",
+        ),
+    }
+}
+
+// The actions on a record.
+fn tell_record(file: i32, a: Action) -> bool {
+    match a {
+        Action::Check => io::write_all(
+            file,
+            b"usage: sbc check FILE
+Says whether the record in FILE is accepted.
+",
+        ),
+        Action::Show => io::write_all(
+            file,
+            b"usage: sbc show FILE
+Prints the code of the record in FILE: its rate, its window, its constraint and its table.
+",
+        ),
+        _ => io::write_all(
+            file,
+            b"usage: sbc draw FILE
+Prints the states and edges of the record in FILE as a Graphviz digraph.
+",
+        ),
+    }
+}
+
+// The actions that encode and decode.
+fn tell_coding(file: i32, a: Action) -> bool {
+    match a {
+        Action::Encode => io::write_all(
+            file,
+            b"usage: sbc encode RECORD DATA OUT
+Encodes the blocks in DATA, one byte each and below 2^p, under the record in RECORD, and writes the words to OUT, one
+byte each. N blocks give N + a words. At most 1,000,000 blocks.
+",
+        ),
+        _ => io::write_all(
+            file,
+            b"usage: sbc decode RECORD WORDS OUT
+Decodes the words in WORDS, one byte each and below 2^q, under the record in RECORD, and writes the blocks to OUT, one
+byte each. W words give W - a blocks. A block that cannot be read is the mark 255; how many there are is said on
+standard error. At most 1,000,015 words.
+",
+        ),
+    }
+}
+
+// An action; the answer is whether all was written.
+fn tell(file: i32, a: Action) -> bool {
+    match a {
+        Action::Compile => tell_compiling(file, a),
+        Action::CompileJob => tell_compiling(file, a),
+        Action::Trace => tell_compiling(file, a),
+        Action::Check => tell_record(file, a),
+        Action::Show => tell_record(file, a),
+        Action::Draw => tell_record(file, a),
+        Action::Encode => tell_coding(file, a),
+        Action::Decode => tell_coding(file, a),
+        Action::Collection => io::write_all(
+            file,
+            b"usage: sbc set FILE
+Lists the records of the set in FILE: the number of each, its first byte, its length, p, q, states, m and a. A set is
+a count byte, then each record behind a two-byte length, most significant byte first. At most 1,000,000 bytes.
+",
+        ),
+        Action::Help => tell_all(file),
+        Action::Unknown => tell_all(file),
+    }
+}
+
+// Says how an action is used.
+pub fn misused(a: Action) -> Status {
+    tell(STDERR_FILENO, a);
+    Status::Misused
+}
+
+// Prints how an action is used.
+fn print_use(a: Action) -> Status {
+    if tell(STDOUT_FILENO, a) {
+        return Status::Done;
+    }
+    complain(b"standard output")
+}
+
+// help [ACTION]
+pub fn help() -> Status {
+    if os::arg_count() < 3 {
+        return print_use(Action::Help);
+    }
+    let mut word = io::buffer();
+    let n = os::arg(2, &mut word);
+    if os::errno() != 0 {
+        return misused(Action::Help);
+    }
+    match action_of(&word[..n]) {
+        Action::Unknown => misused(Action::Help),
+        a => print_use(a),
+    }
+}
