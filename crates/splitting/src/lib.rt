@@ -1,5 +1,5 @@
 // "Splitting, while some state has fewer than n edges out."
-mod choose;
-mod find_run;
+pub mod choose;
+pub mod find_run;
 mod part_state;
 pub mod split_graph;
