@@ -1,10 +1,9 @@
 // A refusal in words.
-ghost use mathlib.Core.Path.{_≡_};
 ghost use Rattle.text.specs.Texts.{Added};
 ghost use Rattle.views.specs.Reasons.{reason, refusalLine};
+use crate::phrases::put_number;
 use answer::Refusal;
 use answer::refusal_number;
-use crate::phrases::put_number;
 use text::put;
 use text::put_decimal;
 
@@ -19,11 +18,24 @@ pub fn put_reason(out: &mut [u8], at: usize, r: Refusal) -> usize
         Refusal::TooHeavy => put(out, at, b"the component's weights sum to over 128"),
         Refusal::TooManyEdges => put(out, at, b"over 2,048 edges"),
         Refusal::NoWindow => put(out, at, b"no window up to 15 and 15"),
-        Refusal::Field => put(out, at, b"a field out of range, an absent state not 0, or fill not 0"),
-        Refusal::Length => put(out, at, b"the length is not what the fields say, or too short for them"),
+        Refusal::Field => put(
+            out,
+            at,
+            b"a field out of range, an absent state not 0, or fill not 0",
+        ),
+        Refusal::Length => put(
+            out,
+            at,
+            b"the length is not what the fields say, or too short for them",
+        ),
         Refusal::Disobeys => put(out, at, b"some recording breaks the constraint"),
         Refusal::WindowFails => put(out, at, b"the window fails"),
-        Refusal::BadByte(place) => put_number(out, at, b"a block or a word too large, at place ", place),
+        Refusal::BadByte(place) => put_number(
+            out,
+            at,
+            b"a block or a word too large, at place ",
+            place,
+        ),
         Refusal::TooFewWords => put(out, at, b"fewer words than the lookahead"),
         Refusal::ShortOutput => put(out, at, b"the output is too short"),
     }

@@ -132,7 +132,7 @@ returns : tie.Need-returns
 unfolding reason words
 returns c =
     added-same (sym (ap reason (c .before .before .before .before .before .enum-told .given .1)))
-        (c .before .before .put .ensures)
+    (c .before .before .put .ensures)
 
 same-length-2 : tie.Need-same-length-2
 same-length-2 c = search needs
@@ -141,7 +141,7 @@ returns-2 : tie.Need-returns-2
 unfolding reason words
 returns-2 c =
     added-same (sym (ap reason (c .before .before .before .before .before .enum-told2 .given .1)))
-        (c .before .before .put2 .ensures)
+    (c .before .before .put2 .ensures)
 
 same-length-3 : tie.Need-same-length-3
 same-length-3 c = search needs
@@ -150,7 +150,7 @@ returns-3 : tie.Need-returns-3
 unfolding reason words
 returns-3 c =
     added-same (sym (ap reason (c .before .before .before .before .before .enum-told3 .given .1)))
-        (c .before .before .put3 .ensures)
+    (c .before .before .put3 .ensures)
 
 same-length-4 : tie.Need-same-length-4
 same-length-4 c = search needs
@@ -159,7 +159,7 @@ returns-4 : tie.Need-returns-4
 unfolding reason words
 returns-4 c =
     added-same (sym (ap reason (c .before .before .before .before .before .enum-told4 .given .1)))
-        (c .before .before .put4 .ensures)
+    (c .before .before .put4 .ensures)
 
 same-length-5 : tie.Need-same-length-5
 same-length-5 c = search needs
@@ -168,7 +168,7 @@ returns-5 : tie.Need-returns-5
 unfolding reason words
 returns-5 c =
     added-same (sym (ap reason (c .before .before .before .before .before .enum-told5 .given .1)))
-        (c .before .before .put5 .ensures)
+    (c .before .before .put5 .ensures)
 
 same-length-6 : tie.Need-same-length-6
 same-length-6 c = search needs
@@ -177,7 +177,7 @@ returns-6 : tie.Need-returns-6
 unfolding reason words
 returns-6 c =
     added-same (sym (ap reason (c .before .before .before .before .before .enum-told6 .given .1)))
-        (c .before .before .put6 .ensures)
+    (c .before .before .put6 .ensures)
 
 same-length-7 : tie.Need-same-length-7
 same-length-7 c = search needs
@@ -186,7 +186,7 @@ returns-7 : tie.Need-returns-7
 unfolding reason words
 returns-7 c =
     added-same (sym (ap reason (c .before .before .before .before .before .enum-told7 .given .1)))
-        (c .before .before .put7 .ensures)
+    (c .before .before .put7 .ensures)
 
 same-length-8 : tie.Need-same-length-8
 same-length-8 c = search needs
@@ -195,7 +195,7 @@ returns-8 : tie.Need-returns-8
 unfolding reason words
 returns-8 c =
     added-same (sym (ap reason (c .before .before .before .before .before .enum-told8 .given .1)))
-        (c .before .before .put8 .ensures)
+    (c .before .before .put8 .ensures)
 
 same-length-9 : tie.Need-same-length-9
 same-length-9 c = search needs
@@ -204,7 +204,7 @@ returns-9 : tie.Need-returns-9
 unfolding reason words
 returns-9 c =
     added-same (sym (ap reason (c .before .before .before .before .before .enum-told9 .given .1)))
-        (c .before .before .put9 .ensures)
+    (c .before .before .put9 .ensures)
 
 same-length-10 : tie.Need-same-length-10
 same-length-10 c = search needs
@@ -213,7 +213,7 @@ returns-10 : tie.Need-returns-10
 unfolding reason words
 returns-10 c =
     added-same (sym (ap reason (c .before .before .before .before .before .enum-told10 .given .1)))
-        (c .before .before .put10 .ensures)
+    (c .before .before .put10 .ensures)
 
 same-length-11 : tie.Need-same-length-11
 same-length-11 c = search needs
@@ -222,7 +222,7 @@ returns-11 : tie.Need-returns-11
 unfolding reason words
 returns-11 c =
     added-same (sym (ap reason (c .before .before .before .before .before .before .r .given .1)))
-        (c .before .before .put-number .ensures)
+    (c .before .before .put-number .ensures)
 
 same-length-12 : tie.Need-same-length-12
 same-length-12 c = search needs
@@ -231,7 +231,7 @@ returns-12 : tie.Need-returns-12
 unfolding reason words
 returns-12 c =
     added-same (sym (ap reason (c .before .before .before .before .before .enum-told11 .given .1)))
-        (c .before .before .put11 .ensures)
+    (c .before .before .put11 .ensures)
 
 same-length-13 : tie.Need-same-length-13
 same-length-13 c = search needs
@@ -240,7 +240,7 @@ returns-13 : tie.Need-returns-13
 unfolding reason words
 returns-13 c =
     added-same (sym (ap reason (c .before .before .before .before .before .enum-told12 .given .1)))
-        (c .before .before .put12 .ensures)
+    (c .before .before .put12 .ensures)
 
 pub put-reason-spec : {M : Type 1} → statement M
 put-reason-spec =

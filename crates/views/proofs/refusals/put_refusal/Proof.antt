@@ -49,7 +49,7 @@ returns c =
     let x2 = x3 .before .before .before .before .before in
     let x1 = x2 .before .before .before .before .before in
     x1 .put .ensures then added-same (ap decimal (x2 .before .refusal-number .ensures)) (x2 .put-decimal .ensures)
-        then x3 .put2 .ensures then x4 .put-reason .ensures then x5 .put3 .ensures
+    then x3 .put2 .ensures then x4 .put-reason .ensures then x5 .put3 .ensures
 
 pub put-refusal-spec : {M : Type 1} → statement M
 put-refusal-spec =
