@@ -6,6 +6,7 @@ use mathlib.Core.Path.{_≡_, refl, sym, ap, ap₂, _∙_}
 use mathlib.Core.Bool.{Bool, true, false, not, _&&_}
 use mathlib.Core.List.{List, [], _++_, append-assoc, append-nil}
 use Prim.Native.Nat.{ℕ, zero, suc, _+_, _≤_}
+use Prim.Native.String.{String}
 use native.Mathlib.Omega.{arith}
 use borrow.Author.Tests.{le-ltb}
 use lib.Dec.{T}
@@ -27,9 +28,9 @@ use Rattle.finish.specs.declared.finish_table.TableRows.{TableRows}
 use Rattle.finish.specs.TableParts.{TableIn}
 use Rattle.text.specs.Texts.{Added}
 use Rattle.text.proofs.Adding.{added-same}
-use Rattle.views.specs.Phrases.{words, counted}
+use Rattle.views.specs.Phrases.{words}
 use Rattle.views.proofs.Behind.{_then_}
-use Rattle.trace.specs.Lines.{graphLine, splitLine, splitLines, tableLine}
+use Rattle.trace.specs.Lines.{sizeText, graphLine, splitLine, splitLines, tableLine}
 use Rattle.trace.specs.Traced.{splitText}
 
 pub lines-on : (k q n : ℕ) (x : Work) → goesOn n x ≡ true
@@ -117,32 +118,33 @@ module _ (n q : ℕ) (g h : Graph) (p : Splits n g) (c : Going n g h) (at r : �
         told-crowded z =
             let (j, k, l) = next (t .fuel) refl in
             let full : crowded (split n (workIn h)) ≡ true = sym (s .crowds) ∙ z in
-            let off = lines-off j q n (split n (workIn h)) (ap (λ b. not b && unfinished n (split n (workIn h))) full)
+            let off = lines-off j q n (split n (workIn h))
+                (ap (λ b. not b && unfinished n (split n (workIn h))) full)
             in
             let text = t .text ++ splitLine q n (workIn h) in
             added-same (sym (append-nil text) ∙ ap (λ y. text ++ y) (sym off) ∙ l) (t .added then line)
 
 -- ---- the whole text of splitting
-pub graph-line : (g : Graph) → words "graph of " ++ counted (g .states) " state" ++ words " and "
-    ++ counted (g .edges) " edge" ++ words "\n" ≡ graphLine (workIn g)
-unfolding graphLine
-graph-line g = rw (length-map-range (weightAt g) (g .states), length-map-range (arcAt g) (g .edges))
+pub graph-line : (w : String) (g : Graph) → words w ++ sizeText (g .states) (g .edges) ≡ graphLine w (workIn g)
+graph-line w g =
+    ap₂ (λ s e. words w ++ sizeText s e) (sym (length-map-range (weightAt g) (g .states)))
+    (sym (length-map-range (arcAt g) (g .edges)))
 
 module _ (q n : ℕ) (g : Graph) (r : NextGraph) (s : SplitAllInto n g r) where
   pub split-crowded : r .crowded ≡ true
-      → graphLine (workIn g) ++ splitLines (sum (weightsIn g)) q n (workIn g) ≡ splitText q n (workIn g)
+      → graphLine "graph of " (workIn g) ++ splitLines (sum (weightsIn g)) q n (workIn g) ≡ splitText q n (workIn g)
   unfolding splitText
   split-crowded z = rw (sym (s .crowds) ∙ z) (sym (append-nil _))
 
   pub split-done : r .crowded ≡ false → (rows : TableRows) → TableIn n (r .graph) rows
-      → ((graphLine (workIn g) ++ splitLines (sum (weightsIn g)) q n (workIn g)) ++ graphLine (workIn (r .graph)))
-      ++ tableLine (rows .states) ≡ splitText q n (workIn g)
+      → ((graphLine "graph of " (workIn g) ++ splitLines (sum (weightsIn g)) q n (workIn g))
+      ++ graphLine "finished with " (workIn (r .graph))) ++ tableLine (rows .states) ≡ splitText q n (workIn g)
   unfolding splitText
   split-done z rows i =
       let long : rows .states ≡ length (tableOf n (workIn (r .graph))) =
       sym (length-map (range (rows .states)) _ ∙ length-from 0 (rows .states)) ∙ ap length (i .rows) in
-      let first = graphLine (workIn g) ++ splitLines (sum (weightsIn g)) q n (workIn g) in
-      append-assoc first (graphLine (workIn (r .graph))) (tableLine (rows .states))
-      ∙ ap (λ k. first ++ (graphLine (workIn (r .graph)) ++ tableLine k)) long
-      ∙ ap (λ y. first ++ (graphLine y ++ tableLine (length (tableOf n y)))) (s .work z)
+      let first = graphLine "graph of " (workIn g) ++ splitLines (sum (weightsIn g)) q n (workIn g) in
+      append-assoc first (graphLine "finished with " (workIn (r .graph))) (tableLine (rows .states))
+      ∙ ap (λ k. first ++ (graphLine "finished with " (workIn (r .graph)) ++ tableLine k)) long
+      ∙ ap (λ y. first ++ (graphLine "finished with " y ++ tableLine (length (tableOf n y)))) (s .work z)
       ∙ rw (sym (s .crowds) ∙ z) refl

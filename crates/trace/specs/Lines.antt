@@ -1,10 +1,11 @@
 -- The lines of a trace, one a step of compiling.
--- In order: listed; weightsLine, componentLine, graphLine; edgeText, arcText, partLine, splitLine, splitLines;
+-- In order: listed; weightsLine, componentLine; sizeText, graphLine; edgeText, arcText, partLine, splitLine, splitLines;
 -- tableLine, windowLine; ending.
 -- Assumes nothing.
 use mathlib.Core.Bool.{true, false}
 use mathlib.Core.List.{List, [], _++_, map}
 use Prim.Native.Nat.{ℕ, zero, suc, _-_, _/_}
+use Prim.Native.String.{String}
 use lib.ListN.{length, getD}
 use Rattle.laws.specs.Lists.{concat}
 use Rattle.answer.specs.Outcomes.{Outcome, done, refused}
@@ -30,11 +31,13 @@ componentLine C weight =
     words "component of states" ++ listed C ++ told ", start " (getD C 0 0) ++ told ", total weight " weight
     ++ words "\n"
 
--- "graph of 2 states and 12 edges"
-unfoldable pub graphLine : Work → List ℕ
-graphLine x =
-    words "graph of " ++ counted (length (x .weights)) " state" ++ words " and "
-    ++ counted (length (x .arcs)) " edge" ++ words "\n"
+-- "2 states and 8 edges"
+unfoldable pub sizeText : ℕ → ℕ → List ℕ
+sizeText states edges = counted states " state" ++ words " and " ++ counted edges " edge" ++ words "\n"
+
+-- "graph of 2 states and 8 edges" before the splits, "finished with 3 states and 13 edges" after them
+abbrev pub graphLine : String → Work → List ℕ
+graphLine w x = words w ++ sizeText (length (x .weights)) (length (x .arcs))
 
 -- an edge by its word and its target: " 011/1"
 unfoldable pub edgeText : ℕ → ℕ → ℕ → List ℕ

@@ -27,11 +27,11 @@ use Rattle.trace.specs.Lines.{
 
 -- the graph that splitting ends with, and its table, unless it has too many edges
 abbrev pub endText : ℕ → Work → List ℕ
-endText n x = if crowded x then [] else graphLine x ++ tableLine (length (tableOf n x))
+endText n x = if crowded x then [] else graphLine "finished with " x ++ tableLine (length (tableOf n x))
 
 -- the graph, its splits, and what they end with
 unfoldable pub splitText : ℕ → ℕ → Work → List ℕ
-splitText q n x = graphLine x ++ splitLines (sum (x .weights)) q n x ++ endText n (splitAll n x)
+splitText q n x = graphLine "graph of " x ++ splitLines (sum (x .weights)) q n x ++ endText n (splitAll n x)
 
 -- weights, component, and, if it weighs from 1 to 128 and has at most 2,048 edges, all that comes of it
 unfoldable pub stages : Job → List ℕ

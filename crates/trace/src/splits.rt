@@ -1,4 +1,5 @@
 // The splits of a graph, one line each, and the graph and the table that they end with.
+ghost use mathlib.Core.List.{_++_};
 ghost use Prim.Native.Nat.{_≤_, _<_};
 ghost use lib.Dec.{T};
 ghost use lib.ListN.{length};
@@ -9,7 +10,7 @@ ghost use Rattle.graph.specs.Value.{weightsIn, arcsIn, workIn, Fits};
 ghost use Rattle.splitting.specs.SplitParts.{Splits, keptArcs};
 ghost use Rattle.compiler.specs.JobValues.{jobIn, JobReady};
 ghost use Rattle.compiler.specs.Stages.{Begun};
-ghost use Rattle.trace.specs.Lines.{graphLine, partLine, splitLine, splitLines, tableLine};
+ghost use Rattle.trace.specs.Lines.{sizeText, partLine, splitLine, splitLines, tableLine};
 ghost use Rattle.trace.specs.Traced.{splitText};
 ghost use Rattle.trace.specs.ChoiceParts.{Orderly};
 use crate::choices::Choice;
@@ -25,15 +26,15 @@ use text::put;
 use views::phrases::put_count;
 use views::phrases::put_number;
 
-// The line of a graph.
-fn put_graph(out: &mut [u8], at: usize, g: Graph) -> usize
-    requires { ⌜ Fits g ⌝ }
-    ensures written { λ r. ⌜ Added (graphLine (workIn g)) at (now (out .entry)) (now (out .exit)) r ⌝ }
+// A name, and how many states and edges a graph has.
+fn put_graph(out: &mut [u8], at: usize, name: &[u8], states: usize, edges: usize) -> usize
+    ensures written { λ r. ⌜
+        Added (now (name .entry) ++ sizeText states edges) at (now (out .entry)) (now (out .exit)) r ⌝ }
 {
-    let states = put(out, at, b"graph of ");
-    let and = put_count(out, states, g.states, b" state");
-    let edges = put(out, and, b" and ");
-    let end = put_count(out, edges, g.edges, b" edge");
+    let first = put(out, at, name);
+    let and = put_count(out, first, states, b" state");
+    let next = put(out, and, b" and ");
+    let end = put_count(out, next, edges, b" edge");
     put(out, end, b"\n")
 }
 
@@ -112,14 +113,14 @@ pub fn put_splitting(
     requires { ⌜ JobReady j × Begun (jobIn j) n g start ⌝ }
     ensures written { λ r. ⌜ Added (splitText (j .q) n (workIn g)) at (now (out .entry)) (now (out .exit)) r ⌝ }
 {
-    let first = put_graph(out, at, g);
+    let first = put_graph(out, at, b"graph of ", g.states, g.edges);
     let end = put_splits(out, first, g, n, j.q);
     let all = split_all(g, n);
     if all.crowded {
         return end;
     }
     let h = all.graph;
-    let last = put_graph(out, end, h);
+    let last = put_graph(out, end, b"finished with ", h.states, h.edges);
     let rows = finish_table(h, n);
     put_table(out, last, rows.states)
 }
