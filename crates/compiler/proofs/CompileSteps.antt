@@ -133,7 +133,7 @@ module _ (j : JobValue) (r : JobReady j) where
         (subst (λ w. Powers (powerCodes (constraintOf (j .constraint)) (j .q)) w (j .constraint .states)) (sym f)
             job-powers)
 
-    held-tabled : tabled P words (j .constraint .states) ≡ graphOf (jobIn j)
+    pub held-tabled : tabled P words (j .constraint .states) ≡ graphOf (jobIn j)
     held-tabled = ap₂ (λ X w. tabled X w (j .constraint .states)) e f ∙ job-tabled
 
     -- THEOREM: the component that the code finds is the job's

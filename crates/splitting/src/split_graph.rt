@@ -16,7 +16,7 @@ ghost use Rattle.graph.specs.Value.{weightsIn, arcsIn, workIn, Fits};
 ghost use Rattle.splitting.specs.SplitParts.{SplitInto, Splits, SplitAllInto};
 
 // One split.
-fn split(g: Graph, n: usize) -> NextGraph
+pub fn split(g: Graph, n: usize) -> NextGraph
     requires { ⌜ Fits g × (g .states < 128) × (0 < n) × (n ≤ 16)
         × T (any (splittable (weightsIn g) (arcsIn g)) (range (length (weightsIn g)))) ⌝ }
     ensures answer { λ r. ⌜ SplitInto n g r ⌝ }
@@ -53,7 +53,7 @@ fn out_counts(g: Graph) -> [usize; 128]
 }
 
 // "some state has fewer than n edges out".
-fn is_unfinished(g: Graph, n: usize) -> bool
+pub fn is_unfinished(g: Graph, n: usize) -> bool
     requires { ⌜ Fits g ⌝ }
     ensures answer { λ r. ⌜ r ≡ unfinished n (workIn g) ⌝ }
 {

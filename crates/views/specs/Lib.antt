@@ -2,3 +2,4 @@ pub mod Phrases
 pub mod Shown
 pub mod Drawn
 pub mod ArrowsTo
+pub mod Reasons

@@ -1,4 +1,5 @@
 // What a person reads of a code, as text in lent bytes.
 pub mod drawing;
-mod phrases;
+pub mod phrases;
+pub mod refusals;
 pub mod showing;

@@ -1,0 +1,4 @@
+pub mod Pieces
+pub mod Chosen
+pub mod SplitTexts
+pub mod StageTexts

@@ -1,0 +1,150 @@
+-- The lines of the splits, and what comes of them.
+-- In order: lines-on, lines-off; Told, told-start, told-line, told-more, told-crowded, told-end; graph-line;
+-- split-crowded, split-done.
+-- Assumes nothing.
+use mathlib.Core.Path.{_≡_, refl, sym, ap, ap₂, _∙_}
+use mathlib.Core.Bool.{Bool, true, false, not, _&&_}
+use mathlib.Core.List.{List, [], _++_, append-assoc, append-nil}
+use Prim.Native.Nat.{ℕ, zero, suc, _+_, _≤_}
+use Prim.Native.String.{String}
+use native.Mathlib.Omega.{arith}
+use borrow.Author.Tests.{le-ltb}
+use lib.Dec.{T}
+use lib.ListN.{length, length-map}
+use Rattle.laws.specs.Lists.{range, sum}
+use Rattle.laws.proofs.Tests.{length-from}
+use Rattle.graph.specs.declared.Graph.{Graph}
+use Rattle.graph.specs.declared.NextGraph.{NextGraph}
+use Rattle.graph.specs.Arcs.{Work}
+use Rattle.graph.specs.Splitting.{unfinished, crowded, goesOn, split}
+use Rattle.graph.specs.TableOf.{tableOf}
+use Rattle.graph.specs.Value.{arcAt, arcsIn, weightAt, weightsIn, workIn}
+use Rattle.graph.proofs.CodeLists.{length-map-range}
+use Rattle.graph.proofs.Split.{split-inv, split-length}
+use Rattle.graph.proofs.Loop.{states-le}
+use Rattle.splitting.specs.SplitParts.{SplitInto, Splits, SplitAllInto}
+use Rattle.splitting.proofs.CodeLoop.{Going, going-grows}
+use Rattle.finish.specs.declared.finish_table.TableRows.{TableRows}
+use Rattle.finish.specs.TableParts.{TableIn}
+use Rattle.text.specs.Texts.{Added}
+use Rattle.text.proofs.Adding.{added-same}
+use Rattle.views.specs.Phrases.{words}
+use Rattle.views.proofs.Behind.{_then_}
+use Rattle.trace.specs.Lines.{sizeText, graphLine, splitLine, splitLines, tableLine}
+use Rattle.trace.specs.Traced.{splitText}
+
+pub lines-on : (k q n : ℕ) (x : Work) → goesOn n x ≡ true
+    → splitLines (suc k) q n x ≡ splitLine q n x ++ splitLines k q n (split n x)
+unfolding splitLines
+lines-on k q n x e = rw (e, splitLines)
+
+pub lines-off : (k q n : ℕ) (x : Work) → goesOn n x ≡ false → splitLines k q n x ≡ []
+unfolding splitLines
+lines-off zero q n x e = refl
+lines-off (suc k) q n x e = rw (e, splitLines)
+
+-- ---- the loop
+-- the text put since the loop began has the lines of the splits that led from g to h, and those left are for h
+pub record Told (n q : ℕ) (g h : Graph) (at : ℕ) (B C : List ℕ) (r : ℕ) : Type 0 where
+  pub text : List ℕ
+  pub fuel : ℕ
+  pub enough : sum (weightsIn g) ≤ fuel + h .states
+  pub left : text ++ splitLines fuel q n (workIn h) ≡ splitLines (sum (weightsIn g)) q n (workIn g)
+  pub added : Added text at B C r
+
+pub told-start : (n q : ℕ) (g : Graph) (at : ℕ) (B C : List ℕ) (r : ℕ) → Added [] at B C r → Told n q g g at B C r
+told-start n q g at B C r a = record {
+  text = [];
+  fuel = sum (weightsIn g);
+  enough = omega arith;
+  left = refl;
+  added = a;
+}
+
+module _ (n q : ℕ) (g h : Graph) (p : Splits n g) (c : Going n g h) (at r : ℕ) (B C : List ℕ)
+    (t : Told n q g h at B C r) where
+  not-crowded : crowded (workIn h) ≡ false
+  not-crowded = le-ltb 2048 (length (arcsIn h)) (rw (length-map-range (arcAt h) (h .edges)) (c .fits .room))
+
+  goes : (b : Bool) → unfinished n (workIn h) ≡ b → goesOn n (workIn h) ≡ b
+  goes b u = ap₂ (λ x y. not x && y) not-crowded u
+
+  -- THEOREM: nothing is left to split
+  pub told-end : unfinished n (workIn h) ≡ false → Added (splitLines (sum (weightsIn g)) q n (workIn g)) at B C r
+  told-end u =
+      added-same (sym (append-nil (t .text)) ∙ ap (λ l. t .text ++ l) (sym (lines-off (t .fuel) q n (workIn h)
+      (goes false u))) ∙ t .left) (t .added)
+
+  module _ (u : unfinished n (workIn h) ≡ true) (D : List ℕ) (e : ℕ)
+      (line : Added (splitLine q n (workIn h)) r C D e)
+    where
+      more : suc (h .states) ≤ sum (weightsIn g)
+      more =
+          let s : T (unfinished n (workIn h)) = rw u tt in
+          let k = split-length n (sum (weightsIn g)) (workIn h) (p .some) (c .inv) s in
+          let l = states-le n (sum (weightsIn g)) (p .some) (split n (workIn h))
+          (split-inv n (sum (weightsIn g)) (workIn h) (p .some) (c .inv) s) in
+          let m = length-map-range (weightAt h) (h .states) in
+          omega arith
+
+      -- one line less left
+      next : (k : ℕ) → t .fuel ≡ k → (j : ℕ) × (k ≡ suc j)
+          × ((t .text ++ splitLine q n (workIn h)) ++ splitLines j q n (split n (workIn h))
+          ≡ splitLines (sum (weightsIn g)) q n (workIn g))
+      next zero z = absurd (omega (arith, more, t .enough))
+      next (suc j) z = (
+        j,
+        refl,
+        append-assoc (t .text) (splitLine q n (workIn h)) (splitLines j q n (split n (workIn h)))
+            ∙ ap (λ l. t .text ++ l) (sym (lines-on j q n (workIn h) (goes true u)))
+            ∙ ap (λ k. t .text ++ splitLines k q n (workIn h)) (sym z) ∙ t .left,
+      )
+
+      module _ (x : NextGraph) (s : SplitInto n h x) where
+        -- THEOREM: the line of one split more
+        pub told-more : x .crowded ≡ false → Told n q g (x .graph) at B D e
+        told-more z =
+            let (j, k, l) = next (t .fuel) refl in
+            record {
+              text = t .text ++ splitLine q n (workIn h);
+              fuel = j;
+              enough = omega (arith, t .enough, going-grows n g h p c u x s z);
+              left = ap (λ y. (t .text ++ splitLine q n (workIn h)) ++ splitLines j q n y) (s .work z) ∙ l;
+              added = t .added then line;
+            }
+
+        -- THEOREM: the split that makes too many edges is the last
+        pub told-crowded : x .crowded ≡ true → Added (splitLines (sum (weightsIn g)) q n (workIn g)) at B D e
+        told-crowded z =
+            let (j, k, l) = next (t .fuel) refl in
+            let full : crowded (split n (workIn h)) ≡ true = sym (s .crowds) ∙ z in
+            let off = lines-off j q n (split n (workIn h))
+                (ap (λ b. not b && unfinished n (split n (workIn h))) full)
+            in
+            let text = t .text ++ splitLine q n (workIn h) in
+            added-same (sym (append-nil text) ∙ ap (λ y. text ++ y) (sym off) ∙ l) (t .added then line)
+
+-- ---- the whole text of splitting
+pub graph-line : (w : String) (g : Graph) → words w ++ sizeText (g .states) (g .edges) ≡ graphLine w (workIn g)
+graph-line w g =
+    ap₂ (λ s e. words w ++ sizeText s e) (sym (length-map-range (weightAt g) (g .states)))
+    (sym (length-map-range (arcAt g) (g .edges)))
+
+module _ (q n : ℕ) (g : Graph) (r : NextGraph) (s : SplitAllInto n g r) where
+  pub split-crowded : r .crowded ≡ true
+      → graphLine "graph of " (workIn g) ++ splitLines (sum (weightsIn g)) q n (workIn g) ≡ splitText q n (workIn g)
+  unfolding splitText
+  split-crowded z = rw (sym (s .crowds) ∙ z) (sym (append-nil _))
+
+  pub split-done : r .crowded ≡ false → (rows : TableRows) → TableIn n (r .graph) rows
+      → ((graphLine "graph of " (workIn g) ++ splitLines (sum (weightsIn g)) q n (workIn g))
+      ++ graphLine "finished with " (workIn (r .graph))) ++ tableLine (rows .states) ≡ splitText q n (workIn g)
+  unfolding splitText
+  split-done z rows i =
+      let long : rows .states ≡ length (tableOf n (workIn (r .graph))) =
+      sym (length-map (range (rows .states)) _ ∙ length-from 0 (rows .states)) ∙ ap length (i .rows) in
+      let first = graphLine "graph of " (workIn g) ++ splitLines (sum (weightsIn g)) q n (workIn g) in
+      append-assoc first (graphLine "finished with " (workIn (r .graph))) (tableLine (rows .states))
+      ∙ ap (λ k. first ++ (graphLine "finished with " (workIn (r .graph)) ++ tableLine k)) long
+      ∙ ap (λ y. first ++ (graphLine "finished with " y ++ tableLine (length (tableOf n y)))) (s .work z)
+      ∙ rw (sym (s .crowds) ∙ z) refl

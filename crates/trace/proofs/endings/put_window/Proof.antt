@@ -1,0 +1,50 @@
+-- `put_window` meets its contract: its parts are put in a row.
+-- Assumes nothing.
+use Rattle.views.specs.Phrases.{words}
+use Rattle.views.proofs.Behind.{_then_}
+use Rattle.trace.specs.Lines.{windowLine}
+use borrow.Author.Needs.{needs}
+use Rattle.trace.proofs.endings.put_window.Statement.{statement}
+use Rattle.trace.proofs.endings.put_window.Tie as tie
+
+slice-aggregate-put-number : tie.Need-slice-aggregate-put-number
+slice-aggregate-put-number c = search needs
+
+put-number-requires : tie.Need-put-number-requires
+put-number-requires c κs = search needs
+
+slice-aggregate-put-number-2 : tie.Need-slice-aggregate-put-number-2
+slice-aggregate-put-number-2 c = search needs
+
+put-number-requires-2 : tie.Need-put-number-requires-2
+put-number-requires-2 c κs = search needs
+
+slice-aggregate-put : tie.Need-slice-aggregate-put
+slice-aggregate-put c = search needs
+
+put-requires : tie.Need-put-requires
+put-requires c κs = search needs
+
+same-length : tie.Need-same-length
+same-length c = search needs
+
+returns : tie.Need-returns
+unfolding windowLine words
+returns c =
+    let x3 = c .before .before in
+    let x2 = x3 .before .before .before .before .before in
+    let x1 = x2 .before .before .before .before .before in
+    x1 .put-number .ensures then x2 .put-number2 .ensures then x3 .put .ensures
+
+pub put-window-spec : {M : Type 1} → statement M
+put-window-spec =
+    tie.close
+    (tie.spec
+    slice-aggregate-put-number
+    put-number-requires
+    slice-aggregate-put-number-2
+    put-number-requires-2
+    slice-aggregate-put
+    put-requires
+    same-length
+    returns)

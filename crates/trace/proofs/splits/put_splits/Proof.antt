@@ -1,0 +1,166 @@
+-- `put_splits` meets its contract. The loop's invariant: the splits left lead from the graph in work to the end, and
+-- their lines are those that are left. Each split makes one state more, and there are at most 128.
+-- Assumes nothing.
+use mathlib.Core.Path.{_≡_, refl, sym, _∙_}
+use mathlib.Core.Bool.{true}
+use Prim.Native.Nat.{_-_}
+use native.Mathlib.Omega.{arith}
+use Rattle.graph.specs.Splitting.{unfinished}
+use Rattle.graph.specs.Value.{workIn}
+use Rattle.splitting.proofs.CodeLoop.{Going, going-start, going-room, going-splits, going-on, going-grows}
+use Rattle.text.proofs.Adding.{added-same}
+use Rattle.views.proofs.Behind.{_then_, begun}
+use Rattle.trace.proofs.SplitTexts.{Told, told-start, told-more, told-crowded, told-end}
+use borrow.Author.Needs.{needs}
+use Rattle.trace.proofs.splits.put_splits.Statement.{statement}
+use Rattle.trace.proofs.splits.put_splits.Tie as tie
+
+abbrev Inv-loop : tie.InvT-loop
+Inv-loop out₀ first n q at₀ h₀ more₀ out at h more =
+    Going n h₀ h × (more ≡ unfinished n (workIn h)) × Told n q h₀ h at₀ out₀ out at
+
+abbrev μ-loop : tie.MeasureT-loop
+μ-loop out₀ first n q at₀ h₀ more₀ out at h more = 128 - h .states
+
+slice-aggregate-put : tie.Need-slice-aggregate-put Inv-loop μ-loop
+slice-aggregate-put c = search needs
+
+put-requires : tie.Need-put-requires Inv-loop μ-loop
+put-requires c κs = search needs
+
+is-unfinished-requires : tie.Need-is-unfinished-requires Inv-loop μ-loop
+is-unfinished-requires c κs = c .before .before .before .before .before .before .pre .1 .fits
+
+loop-holds : tie.Need-loop-holds Inv-loop μ-loop
+loop-holds c =
+    let b = c .before .before .before .before .before .before .before in (
+      going-start (b .args .n) (b .args .g) (b .pre .1),
+      c .is-unfinished .ensures,
+      told-start (b .args .n) (b .args .q) (b .args .g) _ _ _ _ (begun (c .before .before .before .put .ensures)),
+    )
+
+put-split-requires : tie.Need-put-split-requires Inv-loop μ-loop
+put-split-requires c κs =
+    let b = c .before .before .before .before .before .before .before .before .before .before in
+    let l = c .before .before .loop in
+    let a = b .args in
+    let u : unfinished (a .n) (workIn (l .h)) ≡ true = sym (l .inv .1) ∙ c .before .loop-test .taken in (
+      b .pre .0,
+      l .inv .0 .fits,
+      going-room (a .n) (a .g) (l .h) (b .pre .1) (l .inv .0) u,
+      b .pre .1 .some,
+      b .pre .1 .few,
+      going-splits (a .n) (a .g) (l .h) (b .pre .1) (l .inv .0) u,
+    )
+
+split-requires : tie.Need-split-requires Inv-loop μ-loop
+split-requires c κs =
+    let b = c .before .before .before .before .before .before .before .before .before .before .before .before
+    .before in
+    let l = c .before .before .before .before .before .loop in
+    let a = b .args in
+    let u : unfinished (a .n) (workIn (l .h)) ≡ true = sym (l .inv .1) ∙
+    c .before .before .before .before .loop-test .taken in (
+      l .inv .0 .fits,
+      going-room (a .n) (a .g) (l .h) (b .pre .1) (l .inv .0) u,
+      b .pre .1 .some,
+      b .pre .1 .few,
+      going-splits (a .n) (a .g) (l .h) (b .pre .1) (l .inv .0) u,
+    )
+
+same-length : tie.Need-same-length Inv-loop μ-loop
+same-length c =
+    let l = c .before .before .before .before .before .before .before .loop in
+    c .before .before .before .before .put-split .ensures .kept ∙ l .inv .2 .added .kept ∙
+    c .before .before .before .before .before .before .before .before .before .before .before .put .ensures
+    .kept
+
+returns : tie.Need-returns Inv-loop μ-loop
+returns c =
+    let split = c .before .split in
+    let line = c .before .before .before .before .put-split in
+    let l = c .before .before .before .before .before .before .before .loop in
+    let first = c .before .before .before .before .before .before .before .before .before .before .before .put in
+    let b = c .before .before .before .before .before .before .before .before .before .before .before .before
+    .before .before .before in
+    let a = b .args in
+    let u : unfinished (a .n) (workIn (l .h)) ≡ true = sym (l .inv .1) ∙
+    c .before .before .before .before .before .before .loop-test .taken in
+    first .ensures then told-crowded (a .n) (a .q) (a .g) (l .h) (b .pre .1) (l .inv .0) _ _ _ _
+    (l .inv .2) u _ _
+    (line .ensures) (split .result) (split .ensures) (c .if1 .taken)
+
+is-unfinished-requires-2 : tie.Need-is-unfinished-requires-2 Inv-loop μ-loop
+is-unfinished-requires-2 c κs = c .before .before .split .ensures .fits (c .before .if1 .left)
+
+loop-less : tie.Need-loop-less Inv-loop μ-loop
+loop-less c =
+    let split = c .before .before .before .split in
+    let line = c .before .before .before .before .before .before .put-split in
+    let l = c .before .before .before .before .before .before .before .before .before .loop in
+    let first = c .before .before .before .before .before .before .before .before .before .before .before .before
+    .before .put in
+    let b = c .before .before .before .before .before .before .before .before .before .before .before .before
+    .before .before .before .before .before in
+    let a = b .args in
+    let u : unfinished (a .n) (workIn (l .h)) ≡ true = sym (l .inv .1) ∙
+    c .before .before .before .before .before .before .before .before .loop-test .taken in
+    omega (
+      arith,
+      going-room (a .n) (a .g) (l .h) (b .pre .1) (l .inv .0) u,
+      going-grows (a .n) (a .g) (l .h) (b .pre .1) (l .inv .0) u (split .result) (split .ensures)
+          (c .before .before .if1 .left),
+    )
+
+loop-again : tie.Need-loop-again Inv-loop μ-loop
+loop-again c =
+    let split = c .before .before .before .split in
+    let line = c .before .before .before .before .before .before .put-split in
+    let l = c .before .before .before .before .before .before .before .before .before .loop in
+    let first = c .before .before .before .before .before .before .before .before .before .before .before .before
+    .before .put in
+    let b = c .before .before .before .before .before .before .before .before .before .before .before .before
+    .before .before .before .before .before in
+    let a = b .args in
+    let u : unfinished (a .n) (workIn (l .h)) ≡ true = sym (l .inv .1) ∙
+    c .before .before .before .before .before .before .before .before .loop-test .taken in (
+      going-on (a .n) (a .g) (l .h) (b .pre .1) (l .inv .0) u (split .result) (split .ensures)
+          (c .before .before .if1 .left),
+      c .is-unfinished2 .ensures,
+      told-more (a .n) (a .q) (a .g) (l .h) (b .pre .1) (l .inv .0) _ _ _ _ (l .inv .2) u _ _ (line .ensures)
+          (split .result)
+          (split .ensures) (c .before .before .if1 .left),
+    )
+
+same-length-2 : tie.Need-same-length-2 Inv-loop μ-loop
+same-length-2 c = c .before .loop .inv .2 .added .kept ∙
+    c .before .before .before .before .before .put .ensures .kept
+
+returns-2 : tie.Need-returns-2 Inv-loop μ-loop
+returns-2 c =
+    let l = c .before .loop in
+    let b = c .before .before .before .before .before .before .before .before .before in
+    let a = b .args in
+    c .before .before .before .before .before .put .ensures then told-end (a .n) (a .q) (a .g) (l .h) (b .pre .1)
+    (l .inv .0) _ _ _ _ (l .inv .2)
+    (sym (l .inv .1) ∙ c .loop-test .left)
+
+pub put-splits-spec : {M : Type 1} → statement M
+put-splits-spec =
+    tie.close
+    (tie.spec
+    Inv-loop
+    μ-loop
+    slice-aggregate-put
+    put-requires
+    is-unfinished-requires
+    loop-holds
+    put-split-requires
+    split-requires
+    same-length
+    returns
+    is-unfinished-requires-2
+    loop-less
+    loop-again
+    same-length-2
+    returns-2)

@@ -1,0 +1,70 @@
+-- `put_component` meets its contract: its parts are put in a row.
+-- Assumes nothing.
+use mathlib.Core.Path.{ap}
+use mathlib.Core.List.{_++_}
+use Rattle.text.specs.Texts.{decimal}
+use Rattle.text.proofs.Adding.{added-same}
+use Rattle.views.specs.Phrases.{words}
+use Rattle.views.proofs.Behind.{_then_}
+use Rattle.trace.specs.Lines.{componentLine}
+use borrow.Author.Needs.{needs}
+use Rattle.trace.proofs.stages.put_component.Statement.{statement}
+use Rattle.trace.proofs.stages.put_component.Tie as tie
+
+slice-aggregate-put : tie.Need-slice-aggregate-put
+slice-aggregate-put c = search needs
+
+put-requires : tie.Need-put-requires
+put-requires c κs = search needs
+
+put-list-requires : tie.Need-put-list-requires
+put-list-requires c κs = search needs
+
+slice-aggregate-put-number : tie.Need-slice-aggregate-put-number
+slice-aggregate-put-number c = search needs
+
+put-number-requires : tie.Need-put-number-requires
+put-number-requires c κs = search needs
+
+slice-aggregate-put-number-2 : tie.Need-slice-aggregate-put-number-2
+slice-aggregate-put-number-2 c = search needs
+
+put-number-requires-2 : tie.Need-put-number-requires-2
+put-number-requires-2 c κs = search needs
+
+slice-aggregate-put-2 : tie.Need-slice-aggregate-put-2
+slice-aggregate-put-2 c = search needs
+
+put-requires-2 : tie.Need-put-requires-2
+put-requires-2 c κs = search needs
+
+same-length : tie.Need-same-length
+same-length c = search needs
+
+returns : tie.Need-returns
+unfolding componentLine words
+returns c =
+    let x5 = c .before .before in
+    let x4 = x5 .before .before .before .before .before in
+    let x3 = x4 .before .before .before .before .before in
+    let x2 = x3 .before .before .before .before .before in
+    let x1 = x2 .before .before .before .before in
+    x1 .put .ensures then x2 .put-list .ensures then added-same
+    (ap (λ n. words ", start " ++ decimal n) (x1 .before .before .before .before .before .pre .1))
+    (x3 .put-number .ensures) then x4 .put-number2 .ensures then x5 .put2 .ensures
+
+pub put-component-spec : {M : Type 1} → statement M
+put-component-spec =
+    tie.close
+    (tie.spec
+    slice-aggregate-put
+    put-requires
+    put-list-requires
+    slice-aggregate-put-number
+    put-number-requires
+    slice-aggregate-put-number-2
+    put-number-requires-2
+    slice-aggregate-put-2
+    put-requires-2
+    same-length
+    returns)

@@ -1,0 +1,46 @@
+-- `put_weights` meets its contract: its parts are put in a row.
+-- Assumes nothing.
+use Rattle.views.specs.Phrases.{words}
+use Rattle.views.proofs.Behind.{_then_}
+use Rattle.trace.specs.Lines.{weightsLine}
+use borrow.Author.Needs.{needs}
+use Rattle.trace.proofs.stages.put_weights.Statement.{statement}
+use Rattle.trace.proofs.stages.put_weights.Tie as tie
+
+slice-aggregate-put : tie.Need-slice-aggregate-put
+slice-aggregate-put c = search needs
+
+put-requires : tie.Need-put-requires
+put-requires c κs = search needs
+
+put-list-requires : tie.Need-put-list-requires
+put-list-requires c κs = search needs
+
+slice-aggregate-put-2 : tie.Need-slice-aggregate-put-2
+slice-aggregate-put-2 c = search needs
+
+put-requires-2 : tie.Need-put-requires-2
+put-requires-2 c κs = search needs
+
+same-length : tie.Need-same-length
+same-length c = search needs
+
+returns : tie.Need-returns
+unfolding weightsLine words
+returns c =
+    let x3 = c .before .before in
+    let x2 = x3 .before .before .before .before .before in
+    let x1 = x2 .before .before .before .before in
+    x1 .put .ensures then x2 .put-list .ensures then x3 .put2 .ensures
+
+pub put-weights-spec : {M : Type 1} → statement M
+put-weights-spec =
+    tie.close
+    (tie.spec
+    slice-aggregate-put
+    put-requires
+    put-list-requires
+    slice-aggregate-put-2
+    put-requires-2
+    same-length
+    returns)

@@ -1,0 +1,30 @@
+// The last line of a trace: the window, or the refusal.
+ghost use Rattle.text.specs.Texts.{Added};
+ghost use Rattle.record.specs.Checks.{outcomeIn};
+ghost use Rattle.trace.specs.Lines.{windowLine, ending};
+use record::Reading;
+use record::Verdict;
+use text::put;
+use views::phrases::put_number;
+use views::refusals::put_refusal;
+
+// The line of a window.
+fn put_window(out: &mut [u8], at: usize, m: usize, a: usize) -> usize
+    ensures written { λ r. ⌜ Added (windowLine m a) at (now (out .entry)) (now (out .exit)) r ⌝ }
+{
+    let lookahead = put_number(out, at, b"window of memory ", m);
+    let end = put_number(out, lookahead, b" and lookahead ", a);
+    put(out, end, b"\n")
+}
+
+// What compiling came to.
+pub fn put_ending(r: Reading, out: &mut [u8], at: usize) -> usize
+    ensures written { λ e. ⌜ Added (ending (outcomeIn r)) at (now (out .entry)) (now (out .exit)) e ⌝ }
+{
+    let v = r.verdict;
+    let t = r.table;
+    match v {
+        Verdict::Bad(x) => put_refusal(out, at, x),
+        Verdict::Read => put_window(out, at, t.memory, t.lookahead),
+    }
+}
