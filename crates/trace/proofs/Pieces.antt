@@ -12,7 +12,7 @@ use lib.Seq.{length-take-le, getD-take, getD-drop, take-all, take-take}
 use Rattle.laws.specs.Lists.{concat}
 use Rattle.graph.proofs.CodeMaps.{map-map}
 use Rattle.order.specs.EdgeKeys.{arcOf}
-use Rattle.views.specs.Phrases.{told}
+use Rattle.text.specs.Words.{told}
 use Rattle.trace.specs.Lines.{listed, arcText}
 use Rattle.trace.specs.ChoiceParts.{keyText}
 

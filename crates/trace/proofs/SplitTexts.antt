@@ -28,7 +28,7 @@ use Rattle.finish.specs.declared.finish_table.TableRows.{TableRows}
 use Rattle.finish.specs.TableParts.{TableIn}
 use Rattle.text.specs.Texts.{Added}
 use Rattle.text.proofs.Adding.{added-same}
-use Rattle.views.specs.Phrases.{words}
+use Rattle.text.specs.Words.{words}
 use Rattle.views.proofs.Behind.{_then_}
 use Rattle.trace.specs.Lines.{sizeText, graphLine, splitLine, splitLines, tableLine}
 use Rattle.trace.specs.Traced.{splitText}

@@ -14,7 +14,8 @@ use Rattle.graph.specs.Arcs.{Arc, Work}
 use Rattle.graph.specs.Weights.{total}
 use Rattle.graph.specs.Splitting.{chosen, kept, split, goesOn}
 use Rattle.compiler.specs.Listing.{binary}
-use Rattle.views.specs.Phrases.{words, told, counted}
+use Rattle.views.specs.Phrases.{counted}
+use Rattle.text.specs.Words.{words, told}
 use Rattle.views.specs.Reasons.{refusalLine}
 
 -- numbers, a blank in front of each

@@ -5,7 +5,7 @@ ghost use lib.ListN.{take, drop};
 ghost use Rattle.laws.specs.Lists.{concat};
 ghost use Rattle.text.specs.Texts.{Added};
 ghost use Rattle.order.specs.EdgeKeys.{keysIn};
-ghost use Rattle.views.specs.Phrases.{told};
+ghost use Rattle.text.specs.Words.{told};
 ghost use Rattle.trace.specs.Lines.{listed, edgeText};
 ghost use Rattle.trace.specs.ChoiceParts.{keyText};
 use order::keys::Keys;

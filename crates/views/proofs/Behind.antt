@@ -11,7 +11,8 @@ use lib.Seq.{take-all}
 use Rattle.text.specs.Texts.{Added}
 use Rattle.text.proofs.Adding.{added-more}
 use Rattle.compiler.specs.Listing.{digit, binary}
-use Rattle.views.specs.Phrases.{words, plural}
+use Rattle.views.specs.Phrases.{plural}
+use Rattle.text.specs.Words.{words}
 
 infixl 5 _then_
 -- THEOREM: one text behind another

@@ -17,7 +17,7 @@ use Rattle.table.specs.Value.{wordAt, nextAt, codeIn, Ready, ready}
 use Rattle.table.proofs.RowsOf.{length-rows, row-long, edge-at}
 use Rattle.compiler.proofs.Lines.{concat-more}
 use Rattle.compiler.proofs.ListingIs.{edges-few, edge-state, edge-place, edge-next, rows-flat}
-use Rattle.views.specs.Phrases.{words}
+use Rattle.text.specs.Words.{words}
 use Rattle.views.specs.Drawn.{arrow, edgeLine, rowLines, opening, drawn, drawText}
 use Rattle.views.specs.ArrowsTo.{arrowAt, arrowsTo}
 

@@ -9,7 +9,7 @@ use Rattle.table.specs.declared.Table.{Table}
 use Rattle.table.specs.Rows.{edges, at, Code}
 use Rattle.table.specs.Value.{codeIn, ready}
 use Rattle.compiler.specs.Listing.{binary}
-use Rattle.views.specs.Phrases.{words, told}
+use Rattle.text.specs.Words.{words, told}
 
 -- the edge from s to t with the datum d and the word w of q bits: `  0 -> 2 [label="1/011"];`
 unfoldable pub arrow : ℕ → ℕ → ℕ → ℕ → ℕ → List ℕ

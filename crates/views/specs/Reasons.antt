@@ -8,7 +8,7 @@ use Rattle.answer.specs.declared.Refusal.the-variants.{Parameters, States, NoCo
 use Rattle.answer.specs.declared.Refusal.the-variants.{NoWindow, Field, Length, Disobeys, WindowFails}
 use Rattle.answer.specs.declared.Refusal.the-variants.{BadByte, TooFewWords, ShortOutput}
 use Rattle.answer.specs.Refusals.{numberOf}
-use Rattle.views.specs.Phrases.{words, told}
+use Rattle.text.specs.Words.{words, told}
 
 -- the condition of a refusal
 unfoldable pub reason : Refusal → List ℕ

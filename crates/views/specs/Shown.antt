@@ -11,7 +11,8 @@ use Rattle.table.specs.declared.Table.{Table}
 use Rattle.table.specs.Rows.{Code}
 use Rattle.table.specs.Value.{codeIn, ready}
 use Rattle.compiler.specs.Listing.{listing}
-use Rattle.views.specs.Phrases.{words, told, counted}
+use Rattle.views.specs.Phrases.{counted}
+use Rattle.text.specs.Words.{words, told}
 
 -- "2 data bits to 3 channel bits, 3 states"
 unfoldable pub rateLine : ℕ → ℕ → ℕ → List ℕ

@@ -3,7 +3,8 @@ ghost use mathlib.Core.List.{[], _∷_, _++_};
 ghost use Prim.Native.Nat.{_≤_, _<_, _/_, _%_, _^_};
 ghost use Rattle.text.specs.Texts.{decimal, Added};
 ghost use Rattle.compiler.specs.Listing.{digit, binary};
-ghost use Rattle.views.specs.Phrases.{words, plural};
+ghost use Rattle.views.specs.Phrases.{plural};
+ghost use Rattle.text.specs.Words.{words};
 use text::put;
 use text::put_decimal;
 

@@ -21,8 +21,7 @@ returns c =
     let number = c .before .before in
     let name = number .before .before .before .before in
     let a = name .before .before .before .before .args in
-    added-more (now (a .name)) (decimal (a .n)) (now (a .out)) _ _ (a .at) (name .put .result) (number .put-decimal
-        .result) (name .put .ensures) (number .put-decimal .ensures)
+    added-more (name .put .ensures) (number .put-decimal .ensures)
 
 pub put-number-spec : {M : Type 1} → statement M
 put-number-spec =

@@ -1,6 +1,6 @@
 -- `put_edge` meets its contract: its parts are put in a row.
 -- Assumes nothing.
-use Rattle.views.specs.Phrases.{words}
+use Rattle.text.specs.Words.{words}
 use Rattle.views.proofs.Behind.{_then_}
 use Rattle.trace.specs.Lines.{edgeText}
 use borrow.Author.Needs.{needs}

@@ -1,6 +1,6 @@
 -- `put_item` meets its contract.
 -- Assumes nothing.
-use Rattle.views.specs.Phrases.{words}
+use Rattle.text.specs.Words.{words}
 use borrow.Author.Needs.{needs}
 use Rattle.trace.proofs.lists.put_item.Statement.{statement}
 use Rattle.trace.proofs.lists.put_item.Tie as tie

@@ -4,7 +4,7 @@ use mathlib.Core.Path.{_∙_}
 use lib.ListN.{take, drop}
 use Rattle.order.specs.EdgeKeys.{keysIn}
 use Rattle.text.proofs.Adding.{added-same}
-use Rattle.views.specs.Phrases.{words}
+use Rattle.text.specs.Words.{words}
 use Rattle.views.proofs.Behind.{_then_}
 use Rattle.trace.specs.Lines.{partLine}
 use Rattle.trace.proofs.Pieces.{keys-arcs}

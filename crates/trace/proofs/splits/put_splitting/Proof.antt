@@ -4,7 +4,7 @@
 use Rattle.compiler.specs.JobValues.{jobIn}
 use Rattle.compiler.proofs.CompileSteps.{begun-splits, begun-finished}
 use Rattle.text.proofs.Adding.{added-same}
-use Rattle.views.specs.Phrases.{words}
+use Rattle.text.specs.Words.{words}
 use Rattle.views.proofs.Behind.{_then_}
 use Rattle.trace.proofs.SplitTexts.{graph-line, split-crowded, split-done}
 use borrow.Author.Needs.{needs}

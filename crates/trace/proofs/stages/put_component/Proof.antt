@@ -4,7 +4,7 @@ use mathlib.Core.Path.{ap}
 use mathlib.Core.List.{_++_}
 use Rattle.text.specs.Texts.{decimal}
 use Rattle.text.proofs.Adding.{added-same}
-use Rattle.views.specs.Phrases.{words}
+use Rattle.text.specs.Words.{words}
 use Rattle.views.proofs.Behind.{_then_}
 use Rattle.trace.specs.Lines.{componentLine}
 use borrow.Author.Needs.{needs}

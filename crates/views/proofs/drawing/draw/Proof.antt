@@ -5,7 +5,7 @@ use borrow.Author.Tests.{not-true, not-false}
 use lib.Dec.{T}
 use Rattle.table.proofs.ReadyTables.{ready→}
 use Rattle.text.proofs.Adding.{added-same}
-use Rattle.views.specs.Phrases.{words}
+use Rattle.text.specs.Words.{words}
 use Rattle.views.specs.Drawn.{opening}
 use Rattle.views.proofs.Behind.{_then_}
 use Rattle.views.proofs.Diagrams.{drawn-is, nothing-drawn}

@@ -1,7 +1,7 @@
 -- `put_arrow` meets its contract: its parts are put in a row.
 -- Assumes nothing.
 use Rattle.views.proofs.Behind.{_then_}
-use Rattle.views.specs.Phrases.{words}
+use Rattle.text.specs.Words.{words}
 use Rattle.views.specs.Drawn.{arrow}
 use borrow.Author.Needs.{needs}
 use Rattle.views.proofs.drawing.put_arrow.Statement.{statement}

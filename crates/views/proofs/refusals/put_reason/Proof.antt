@@ -2,7 +2,7 @@
 -- Assumes nothing.
 use mathlib.Core.Path.{sym, ap}
 use Rattle.text.proofs.Adding.{added-same}
-use Rattle.views.specs.Phrases.{words}
+use Rattle.text.specs.Words.{words}
 use Rattle.views.specs.Reasons.{reason}
 use borrow.Author.Needs.{needs}
 use Rattle.views.proofs.refusals.put_reason.Statement.{statement}

@@ -3,7 +3,7 @@
 use mathlib.Core.Path.{ap}
 use Rattle.text.specs.Texts.{decimal}
 use Rattle.text.proofs.Adding.{added-same}
-use Rattle.views.specs.Phrases.{words}
+use Rattle.text.specs.Words.{words}
 use Rattle.views.specs.Reasons.{refusalLine}
 use Rattle.views.proofs.Behind.{_then_}
 use borrow.Author.Needs.{needs}
