@@ -119,7 +119,7 @@ module _ (n q : ℕ) (g h : Graph) (p : Splits n g) (c : Going n g h) (at r : �
             let (j, k, l) = next (t .fuel) refl in
             let full : crowded (split n (workIn h)) ≡ true = sym (s .crowds) ∙ z in
             let off = lines-off j q n (split n (workIn h))
-                (ap (λ b. not b && unfinished n (split n (workIn h))) full)
+            (ap (λ b. not b && unfinished n (split n (workIn h))) full)
             in
             let text = t .text ++ splitLine q n (workIn h) in
             added-same (sym (append-nil text) ∙ ap (λ y. text ++ y) (sym off) ∙ l) (t .added then line)

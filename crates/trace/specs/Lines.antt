@@ -1,6 +1,6 @@
 -- The lines of a trace, one a step of compiling.
--- In order: listed; weightsLine, componentLine; sizeText, graphLine; edgeText, arcText, partLine, splitLine, splitLines;
--- tableLine, windowLine; ending.
+-- In order: listed; weightsLine, componentLine; sizeText, graphLine; edgeText, arcText, partLine, splitLine,
+-- splitLines; tableLine, windowLine; ending.
 -- Assumes nothing.
 use mathlib.Core.Bool.{true, false}
 use mathlib.Core.List.{List, [], _++_, map}

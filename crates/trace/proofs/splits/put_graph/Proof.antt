@@ -46,7 +46,7 @@ returns c =
     let x2 = x3 .before .before .before .before .before in
     let x1 = x2 .before .before .before .before .before in
     x1 .put .ensures then (x2 .put-count .ensures then x3 .put2 .ensures then x4 .put-count2 .ensures then
-        x5 .put3 .ensures)
+    x5 .put3 .ensures)
 
 pub put-graph-spec : {M : Type 1} → statement M
 put-graph-spec =

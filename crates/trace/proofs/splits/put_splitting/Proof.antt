@@ -37,11 +37,11 @@ unfolding words
 returns c =
     let all = c .before .split-all in
     let a = c .before .before .before .before .before .before .before .before .before .before .before .before .args
-        in
+    in
     added-same (split-crowded (a .j .q) (a .n) (a .g) (all .result) (all .ensures) (c .if1 .taken))
     (added-same (graph-line "graph of " (a .g))
-        (c .before .before .before .before .before .before .before .before .put-graph .ensures) then
-            c .before .before .before .before .put-splits .ensures)
+    (c .before .before .before .before .before .before .before .before .put-graph .ensures) then
+    c .before .before .before .before .put-splits .ensures)
 
 slice-aggregate-put-graph-2 : tie.Need-slice-aggregate-put-graph-2
 slice-aggregate-put-graph-2 c = search needs
@@ -52,11 +52,11 @@ put-graph-requires-2 c κs = search needs
 finish-table-requires : tie.Need-finish-table-requires
 finish-table-requires c κs =
     let b = c .before .before .before .before .before .before .before .before .before .before .before .before
-        .before .before .before .before .before .before in
+    .before .before .before .before .before .before in
     let a = b .args in
     let all = c .before .before .before .before .before .before .before .split-all in
     begun-finished (jobIn (a .j)) (b .pre .0 .allowed) (a .n) (a .g) (a .start) (b .pre .1) (all .result)
-        (all .ensures)
+    (all .ensures)
     (c .before .before .before .before .before .before .if1 .left)
 
 put-table-requires : tie.Need-put-table-requires
@@ -70,19 +70,19 @@ unfolding words
 returns-2 c =
     let rows = c .before .before .before .before .finish-table in
     let all = c .before .before .before .before .before .before .before .before .before .before .before .before
-        .split-all in
+    .split-all in
     let a = c .before .before .before .before .before .before .before .before .before .before .before .before
-        .before .before .before .before .before .before .before .before .before .before .before .args in
+    .before .before .before .before .before .before .before .before .before .before .before .args in
     let before = added-same (graph-line "graph of " (a .g))
-        (c .before .before .before .before .before .before .before .before .before .before .before .before .before
-            .before .before .before .before .before .before .put-graph .ensures) then
-                c .before .before .before .before .before .before .before .before .before .before .before .before
-                    .before .before .before .put-splits .ensures in
+    (c .before .before .before .before .before .before .before .before .before .before .before .before .before
+    .before .before .before .before .before .before .put-graph .ensures) then
+    c .before .before .before .before .before .before .before .before .before .before .before .before
+    .before .before .before .put-splits .ensures in
     added-same (split-done (a .j .q) (a .n) (a .g) (all .result) (all .ensures)
-        (c .before .before .before .before .before .before .before .before .before .before .before .if1 .left)
-            (rows .result) (rows .ensures))
+    (c .before .before .before .before .before .before .before .before .before .before .before .if1 .left)
+    (rows .result) (rows .ensures))
     (before then added-same (graph-line "finished with " (all .result .graph))
-        (c .before .before .before .before .before .before .before .put-graph2 .ensures)
+    (c .before .before .before .before .before .before .before .put-graph2 .ensures)
     then c .before .before .put-table .ensures)
 
 pub put-splitting-spec : {M : Type 1} → statement M
