@@ -2,7 +2,8 @@
  *
  * Bytes go as a pointer to the first and their number. No pointer is null, even where the number is 0, and `out` lies
  * apart from the bytes that are read. Nothing is kept after a call and nothing is allocated, so calls may run at the
- * same time on different outputs. A call takes less than 450 KB of stack (measured on x86-64; compiling takes most).
+ * same time on different outputs. A call takes less than 200 KB of stack (measured on x86-64 by `bench/run stack`;
+ * compiling takes most).
  *
  * Every call answers one number, the refusal times 2^56 plus a value; take it apart by `sbc_refusal` and `sbc_value`.
  * Refusal 0 is a result. The value of a result is written at each call. The value of a refusal is 0, but with 11 it is
