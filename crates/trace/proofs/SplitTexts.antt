@@ -26,9 +26,8 @@ use Rattle.splitting.specs.SplitParts.{SplitInto, Splits, SplitAllInto}
 use Rattle.splitting.proofs.CodeLoop.{Going, going-grows}
 use Rattle.finish.specs.declared.finish_table.TableRows.{TableRows}
 use Rattle.finish.specs.TableParts.{TableIn}
-use Rattle.text.specs.Texts.{Added}
+use Rattle.text.specs.Texts.{bytes, Added}
 use Rattle.text.proofs.Adding.{added-same}
-use Rattle.text.specs.Words.{words}
 use Rattle.views.proofs.Behind.{_then_}
 use Rattle.trace.specs.Lines.{sizeText, graphLine, splitLine, splitLines, tableLine}
 use Rattle.trace.specs.Traced.{splitText}
@@ -125,9 +124,9 @@ module _ (n q : ℕ) (g h : Graph) (p : Splits n g) (c : Going n g h) (at r : �
             added-same (sym (append-nil text) ∙ ap (λ y. text ++ y) (sym off) ∙ l) (t .added then line)
 
 -- ---- the whole text of splitting
-pub graph-line : (w : String) (g : Graph) → words w ++ sizeText (g .states) (g .edges) ≡ graphLine w (workIn g)
+pub graph-line : (w : String) (g : Graph) → bytes w ++ sizeText (g .states) (g .edges) ≡ graphLine w (workIn g)
 graph-line w g =
-    ap₂ (λ s e. words w ++ sizeText s e) (sym (length-map-range (weightAt g) (g .states)))
+    ap₂ (λ s e. bytes w ++ sizeText s e) (sym (length-map-range (weightAt g) (g .states)))
     (sym (length-map-range (arcAt g) (g .edges)))
 
 module _ (q n : ℕ) (g : Graph) (r : NextGraph) (s : SplitAllInto n g r) where

@@ -15,7 +15,8 @@ use Rattle.graph.specs.Weights.{total}
 use Rattle.graph.specs.Splitting.{chosen, kept, split, goesOn}
 use Rattle.compiler.specs.Listing.{binary}
 use Rattle.views.specs.Phrases.{counted}
-use Rattle.text.specs.Words.{words, told}
+use Rattle.text.specs.Texts.{bytes}
+use Rattle.text.specs.Words.{told}
 use Rattle.views.specs.Reasons.{refusalLine}
 
 -- numbers, a blank in front of each
@@ -24,25 +25,25 @@ listed xs = concat (map (told " ") xs)
 
 -- "weights 2 1"
 unfoldable pub weightsLine : List ℕ → List ℕ
-weightsLine v = words "weights" ++ listed v ++ words "\n"
+weightsLine v = bytes "weights" ++ listed v ++ bytes "\n"
 
 -- "component of states 0 1, start 0, total weight 3"
 unfoldable pub componentLine : List ℕ → ℕ → List ℕ
 componentLine C weight =
-    words "component of states" ++ listed C ++ told ", start " (getD C 0 0) ++ told ", total weight " weight
-    ++ words "\n"
+    bytes "component of states" ++ listed C ++ told ", start " (getD C 0 0) ++ told ", total weight " weight
+    ++ bytes "\n"
 
 -- "2 states and 8 edges"
 unfoldable pub sizeText : ℕ → ℕ → List ℕ
-sizeText states edges = counted states " state" ++ words " and " ++ counted edges " edge" ++ words "\n"
+sizeText states edges = counted states " state" ++ bytes " and " ++ counted edges " edge" ++ bytes "\n"
 
 -- "graph of 2 states and 8 edges" before the splits, "finished with 3 states and 13 edges" after them
 abbrev pub graphLine : String → Work → List ℕ
-graphLine w x = words w ++ sizeText (length (x .weights)) (length (x .arcs))
+graphLine w x = bytes w ++ sizeText (length (x .weights)) (length (x .arcs))
 
 -- an edge by its word and its target: " 011/1"
 unfoldable pub edgeText : ℕ → ℕ → ℕ → List ℕ
-edgeText q w t = words " " ++ binary q w ++ told "/" t
+edgeText q w t = bytes " " ++ binary q w ++ told "/" t
 
 -- the same of an edge of the graph in work
 abbrev pub arcText : ℕ → Arc → List ℕ
@@ -51,9 +52,9 @@ arcText q e = edgeText q (e .word) (e .target)
 -- state s of weight M is split: it keeps these edges and weight w, and a new state takes the others and weight M − w
 unfoldable pub partLine : ℕ → ℕ → ℕ → List Arc → ℕ → ℕ → List ℕ
 partLine q s M keep w new =
-    told "split state " s ++ told " of weight " M ++ words ": it keeps" ++ concat (map (arcText q) keep)
+    told "split state " s ++ told " of weight " M ++ bytes ": it keeps" ++ concat (map (arcText q) keep)
     ++ told " with weight " w ++ told ", new state " new ++ told " takes the other edges with weight " (M - w)
-    ++ words "\n"
+    ++ bytes "\n"
 
 -- the split of the graph in work
 unfoldable pub splitLine : ℕ → ℕ → Work → List ℕ
@@ -69,11 +70,11 @@ splitLines (suc k) q n x = elim (goesOn n x) [ true ↦ splitLine q n x ++ split
 
 -- "table of 3 states"
 unfoldable pub tableLine : ℕ → List ℕ
-tableLine states = words "table of " ++ counted states " state" ++ words "\n"
+tableLine states = bytes "table of " ++ counted states " state" ++ bytes "\n"
 
 -- "window of memory 1 and lookahead 1"
 unfoldable pub windowLine : ℕ → ℕ → List ℕ
-windowLine m a = told "window of memory " m ++ told " and lookahead " a ++ words "\n"
+windowLine m a = told "window of memory " m ++ told " and lookahead " a ++ bytes "\n"
 
 -- the last line: the window, or the refusal
 abbrev pub ending : Outcome Code → List ℕ

@@ -8,11 +8,10 @@ use native.Mathlib.Omega.{arith}
 use borrow.Author.Tests.{eq-eqb, ne-eqb}
 use lib.ListN.{length, take}
 use lib.Seq.{take-all}
-use Rattle.text.specs.Texts.{Added}
+use Rattle.text.specs.Texts.{bytes, Added}
 use Rattle.text.proofs.Adding.{added-more}
 use Rattle.compiler.specs.Listing.{digit, binary}
 use Rattle.views.specs.Phrases.{plural}
-use Rattle.text.specs.Words.{words}
 
 infixl 5 _then_
 -- THEOREM: one text behind another
@@ -35,7 +34,7 @@ unfolding plural
 plural-one n e = rw (eq-eqb n 1 e)
 
 pub plural-more : (n : ℕ) → (n ≡ 1 → ⊥) → 115 ∷ [] ≡ plural n
-unfolding plural words
+unfolding plural
 plural-more n h = rw (ne-eqb n 1 h)
 
 -- ---- words

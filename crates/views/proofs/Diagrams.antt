@@ -17,7 +17,7 @@ use Rattle.table.specs.Value.{wordAt, nextAt, codeIn, Ready, ready}
 use Rattle.table.proofs.RowsOf.{length-rows, row-long, edge-at}
 use Rattle.compiler.proofs.Lines.{concat-more}
 use Rattle.compiler.proofs.ListingIs.{edges-few, edge-state, edge-place, edge-next, rows-flat}
-use Rattle.text.specs.Words.{words}
+use Rattle.text.specs.Texts.{bytes}
 use Rattle.views.specs.Drawn.{arrow, edgeLine, rowLines, opening, drawn, drawText}
 use Rattle.views.specs.ArrowsTo.{arrowAt, arrowsTo}
 
@@ -83,10 +83,10 @@ module _ (t : Table) where
 
   -- THEOREM: the diagram has its opening, all edges in order and the closing brace
   pub drawn-is : (n : ℕ) → n ≡ 2 ^ t .p → ready t ≡ true
-      → opening ++ arrowsTo t (t .states * n) ++ words "}\n" ≡ drawText t
+      → opening ++ arrowsTo t (t .states * n) ++ bytes "}\n" ≡ drawText t
   unfolding drawText drawn
   drawn-is n p e =
-      rw e (ap (λ l. opening ++ l ++ words "}\n") (ap (λ m. arrowsTo t (t .states * m)) p ∙ sym rows-are))
+      rw e (ap (λ l. opening ++ l ++ bytes "}\n") (ap (λ m. arrowsTo t (t .states * m)) p ∙ sym rows-are))
 
   pub nothing-drawn : ready t ≡ false → [] ≡ drawText t
   unfolding drawText

@@ -9,12 +9,13 @@ use Rattle.table.specs.declared.Table.{Table}
 use Rattle.table.specs.Rows.{edges, at, Code}
 use Rattle.table.specs.Value.{codeIn, ready}
 use Rattle.compiler.specs.Listing.{binary}
-use Rattle.text.specs.Words.{words, told}
+use Rattle.text.specs.Texts.{bytes}
+use Rattle.text.specs.Words.{told}
 
 -- the edge from s to t with the datum d and the word w of q bits: `  0 -> 2 [label="1/011"];`
 unfoldable pub arrow : ℕ → ℕ → ℕ → ℕ → ℕ → List ℕ
 arrow q s d w t =
-    told "  " s ++ told " -> " t ++ told " [label=\"" d ++ words "/" ++ binary q w ++ words "\"];\n"
+    told "  " s ++ told " -> " t ++ told " [label=\"" d ++ bytes "/" ++ binary q w ++ bytes "\"];\n"
 
 -- the edge of state s that carries datum d
 abbrev pub edgeLine : Code → ℕ → ℕ → List ℕ
@@ -26,11 +27,11 @@ rowLines c s = concat (map (edgeLine c s) (range (length (edges (c .table) s))))
 
 -- the lines in front of the edges; state 0 starts
 unfoldable pub opening : List ℕ
-opening = words "digraph code {\n  rankdir=LR;\n  node [shape=circle];\n  start [shape=point];\n  start -> 0;\n"
+opening = bytes "digraph code {\n  rankdir=LR;\n  node [shape=circle];\n  start [shape=point];\n  start -> 0;\n"
 
 -- what `draw` prints of a code
 unfoldable pub drawn : Code → List ℕ
-drawn c = opening ++ concat (map (rowLines c) (range (length (c .table)))) ++ words "}\n"
+drawn c = opening ++ concat (map (rowLines c) (range (length (c .table)))) ++ bytes "}\n"
 
 -- what `draw` prints of a table by value; nothing where no record gives it
 unfoldable pub drawText : Table → List ℕ

@@ -8,24 +8,25 @@ use Rattle.answer.specs.declared.Refusal.the-variants.{Parameters, States, NoCo
 use Rattle.answer.specs.declared.Refusal.the-variants.{NoWindow, Field, Length, Disobeys, WindowFails}
 use Rattle.answer.specs.declared.Refusal.the-variants.{BadByte, TooFewWords, ShortOutput}
 use Rattle.answer.specs.Refusals.{numberOf}
-use Rattle.text.specs.Words.{words, told}
+use Rattle.text.specs.Texts.{bytes}
+use Rattle.text.specs.Words.{told}
 
 -- the condition of a refusal
 unfoldable pub reason : Refusal → List ℕ
-reason Parameters = words "p, q or cap out of range"
-reason States = words "K, a next state, or d and k out of range"
-reason NoCode = words "all weights 0"
-reason TooHeavy = words "the component's weights sum to over 128"
-reason TooManyEdges = words "over 2,048 edges"
-reason NoWindow = words "no window up to 15 and 15"
-reason Field = words "a field out of range, an absent state not 0, or fill not 0"
-reason Length = words "the length is not what the fields say, or too short for them"
-reason Disobeys = words "some recording breaks the constraint"
-reason WindowFails = words "the window fails"
+reason Parameters = bytes "p, q or cap out of range"
+reason States = bytes "K, a next state, or d and k out of range"
+reason NoCode = bytes "all weights 0"
+reason TooHeavy = bytes "the component's weights sum to over 128"
+reason TooManyEdges = bytes "over 2,048 edges"
+reason NoWindow = bytes "no window up to 15 and 15"
+reason Field = bytes "a field out of range, an absent state not 0, or fill not 0"
+reason Length = bytes "the length is not what the fields say, or too short for them"
+reason Disobeys = bytes "some recording breaks the constraint"
+reason WindowFails = bytes "the window fails"
 reason (BadByte place) = told "a block or a word too large, at place " place
-reason TooFewWords = words "fewer words than the lookahead"
-reason ShortOutput = words "the output is too short"
+reason TooFewWords = bytes "fewer words than the lookahead"
+reason ShortOutput = bytes "the output is too short"
 
 -- "refused 3: all weights 0"
 unfoldable pub refusalLine : Refusal → List ℕ
-refusalLine r = told "refused " (numberOf r) ++ words ": " ++ reason r ++ words "\n"
+refusalLine r = told "refused " (numberOf r) ++ bytes ": " ++ reason r ++ bytes "\n"

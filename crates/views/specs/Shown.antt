@@ -12,23 +12,24 @@ use Rattle.table.specs.Rows.{Code}
 use Rattle.table.specs.Value.{codeIn, ready}
 use Rattle.compiler.specs.Listing.{listing}
 use Rattle.views.specs.Phrases.{counted}
-use Rattle.text.specs.Words.{words, told}
+use Rattle.text.specs.Texts.{bytes}
+use Rattle.text.specs.Words.{told}
 
 -- "2 data bits to 3 channel bits, 3 states"
 unfoldable pub rateLine : ℕ → ℕ → ℕ → List ℕ
 rateLine p q states =
-    counted p " data bit" ++ words " to " ++ counted q " channel bit" ++ words ", " ++ counted states " state"
-    ++ words "\n"
+    counted p " data bit" ++ bytes " to " ++ counted q " channel bit" ++ bytes ", " ++ counted states " state"
+    ++ bytes "\n"
 
 -- "memory 1, lookahead 1: a bad word at i can spoil blocks i - 1 to i + 1"
 unfoldable pub windowLine : ℕ → ℕ → List ℕ
 windowLine m a =
     told "memory " m ++ told ", lookahead " a ++ told ": a bad word at i can spoil blocks i - " a
-    ++ told " to i + " m ++ words "\n"
+    ++ told " to i + " m ++ bytes "\n"
 
 -- "constraint of 2 states, start 0"
 unfoldable pub constraintLine : ℕ → ℕ → List ℕ
-constraintLine K start = words "constraint of " ++ counted K " state" ++ told ", start " start ++ words "\n"
+constraintLine K start = bytes "constraint of " ++ counted K " state" ++ told ", start " start ++ bytes "\n"
 
 -- what `show` prints of a code
 unfoldable pub shown : Code → List ℕ

@@ -1,10 +1,9 @@
 // Words, numbers and code words put one behind the other. What there is no room for is left out.
 ghost use mathlib.Core.List.{[], _∷_, _++_};
 ghost use Prim.Native.Nat.{_≤_, _<_, _/_, _%_, _^_};
-ghost use Rattle.text.specs.Texts.{decimal, Added};
+ghost use Rattle.text.specs.Texts.{bytes, decimal, Added};
 ghost use Rattle.compiler.specs.Listing.{digit, binary};
 ghost use Rattle.views.specs.Phrases.{plural};
-ghost use Rattle.text.specs.Words.{words};
 use text::put;
 use text::put_decimal;
 

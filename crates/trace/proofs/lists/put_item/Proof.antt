@@ -1,6 +1,6 @@
 -- `put_item` meets its contract.
 -- Assumes nothing.
-use Rattle.text.specs.Words.{words}
+use Rattle.text.specs.Texts.{bytes}
 use borrow.Author.Needs.{needs}
 use Rattle.trace.proofs.lists.put_item.Statement.{statement}
 use Rattle.trace.proofs.lists.put_item.Tie as tie
@@ -15,7 +15,6 @@ same-length : tie.Need-same-length
 same-length c = search needs
 
 returns : tie.Need-returns
-unfolding words
 returns c = c .before .before .put-number .ensures
 
 pub put-item-spec : {M : Type 1} → statement M

@@ -4,7 +4,7 @@ use mathlib.Core.Path.{_∙_}
 use lib.ListN.{take, drop}
 use Rattle.order.specs.EdgeKeys.{keysIn}
 use Rattle.text.proofs.Adding.{added-same}
-use Rattle.text.specs.Words.{words}
+use Rattle.text.specs.Texts.{bytes}
 use Rattle.views.proofs.Behind.{_then_}
 use Rattle.trace.specs.Lines.{partLine}
 use Rattle.trace.proofs.Pieces.{keys-arcs}
@@ -77,7 +77,7 @@ same-length c =
     x2 .put-number2 .ensures .kept ∙ x1 .put-number .ensures .kept
 
 returns : tie.Need-returns
-unfolding partLine words
+unfolding partLine
 returns c =
     let x8 = c .before .before in
     let x7 = x8 .before .before .before .before .before in

@@ -1,6 +1,6 @@
 -- `put_graph` meets its contract: its parts are put in a row.
 -- Assumes nothing.
-use Rattle.text.specs.Words.{words}
+use Rattle.text.specs.Texts.{bytes}
 use Rattle.views.proofs.Behind.{_then_}
 use Rattle.trace.specs.Lines.{sizeText}
 use borrow.Author.Needs.{needs}
@@ -38,7 +38,7 @@ same-length : tie.Need-same-length
 same-length c = search needs
 
 returns : tie.Need-returns
-unfolding sizeText words
+unfolding sizeText
 returns c =
     let x5 = c .before .before in
     let x4 = x5 .before .before .before .before .before in

@@ -4,7 +4,7 @@
 use Rattle.compiler.specs.JobValues.{jobIn}
 use Rattle.compiler.proofs.CompileSteps.{begun-splits, begun-finished}
 use Rattle.text.proofs.Adding.{added-same}
-use Rattle.text.specs.Words.{words}
+use Rattle.text.specs.Texts.{bytes}
 use Rattle.views.proofs.Behind.{_then_}
 use Rattle.trace.proofs.SplitTexts.{graph-line, split-crowded, split-done}
 use borrow.Author.Needs.{needs}
@@ -33,7 +33,6 @@ same-length : tie.Need-same-length
 same-length c = search needs
 
 returns : tie.Need-returns
-unfolding words
 returns c =
     let all = c .before .split-all in
     let a = c .before .before .before .before .before .before .before .before .before .before .before .before .args
@@ -66,7 +65,6 @@ same-length-2 : tie.Need-same-length-2
 same-length-2 c = search needs
 
 returns-2 : tie.Need-returns-2
-unfolding words
 returns-2 c =
     let rows = c .before .before .before .before .finish-table in
     let all = c .before .before .before .before .before .before .before .before .before .before .before .before

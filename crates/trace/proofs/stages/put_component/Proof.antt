@@ -2,9 +2,8 @@
 -- Assumes nothing.
 use mathlib.Core.Path.{ap}
 use mathlib.Core.List.{_++_}
-use Rattle.text.specs.Texts.{decimal}
+use Rattle.text.specs.Texts.{bytes, decimal}
 use Rattle.text.proofs.Adding.{added-same}
-use Rattle.text.specs.Words.{words}
 use Rattle.views.proofs.Behind.{_then_}
 use Rattle.trace.specs.Lines.{componentLine}
 use borrow.Author.Needs.{needs}
@@ -42,7 +41,7 @@ same-length : tie.Need-same-length
 same-length c = search needs
 
 returns : tie.Need-returns
-unfolding componentLine words
+unfolding componentLine
 returns c =
     let x5 = c .before .before in
     let x4 = x5 .before .before .before .before .before in
@@ -50,7 +49,7 @@ returns c =
     let x2 = x3 .before .before .before .before .before in
     let x1 = x2 .before .before .before .before in
     x1 .put .ensures then x2 .put-list .ensures then added-same
-    (ap (λ n. words ", start " ++ decimal n) (x1 .before .before .before .before .before .pre .1))
+    (ap (λ n. bytes ", start " ++ decimal n) (x1 .before .before .before .before .before .pre .1))
     (x3 .put-number .ensures) then x4 .put-number2 .ensures then x5 .put2 .ensures
 
 pub put-component-spec : {M : Type 1} → statement M

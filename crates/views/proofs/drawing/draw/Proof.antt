@@ -5,7 +5,7 @@ use borrow.Author.Tests.{not-true, not-false}
 use lib.Dec.{T}
 use Rattle.table.proofs.ReadyTables.{ready→}
 use Rattle.text.proofs.Adding.{added-same}
-use Rattle.text.specs.Words.{words}
+use Rattle.text.specs.Texts.{bytes}
 use Rattle.views.specs.Drawn.{opening}
 use Rattle.views.proofs.Behind.{_then_}
 use Rattle.views.proofs.Diagrams.{drawn-is, nothing-drawn}
@@ -61,7 +61,7 @@ same-length-2 : tie.Need-same-length-2
 same-length-2 c = search needs
 
 returns-2 : tie.Need-returns-2
-unfolding opening words
+unfolding opening
 returns-2 c =
     let x3 = c .before .before in
     let x2 = x3 .before .before .before .before .before in

@@ -1,7 +1,7 @@
 -- `put_arrow` meets its contract: its parts are put in a row.
 -- Assumes nothing.
 use Rattle.views.proofs.Behind.{_then_}
-use Rattle.text.specs.Words.{words}
+use Rattle.text.specs.Texts.{bytes}
 use Rattle.views.specs.Drawn.{arrow}
 use borrow.Author.Needs.{needs}
 use Rattle.views.proofs.drawing.put_arrow.Statement.{statement}
@@ -44,7 +44,7 @@ same-length : tie.Need-same-length
 same-length c = search needs
 
 returns : tie.Need-returns
-unfolding arrow words
+unfolding arrow
 returns c =
     let x6 = c .before .before in
     let x5 = x6 .before .before .before .before .before in

@@ -1,9 +1,8 @@
 -- `put_refusal` meets its contract: its parts are put in a row.
 -- Assumes nothing.
 use mathlib.Core.Path.{ap}
-use Rattle.text.specs.Texts.{decimal}
+use Rattle.text.specs.Texts.{bytes, decimal}
 use Rattle.text.proofs.Adding.{added-same}
-use Rattle.text.specs.Words.{words}
 use Rattle.views.specs.Reasons.{refusalLine}
 use Rattle.views.proofs.Behind.{_then_}
 use borrow.Author.Needs.{needs}
@@ -41,7 +40,7 @@ same-length : tie.Need-same-length
 same-length c = search needs
 
 returns : tie.Need-returns
-unfolding refusalLine words
+unfolding refusalLine
 returns c =
     let x5 = c .before .before in
     let x4 = x5 .before .before .before .before .before in

@@ -1,7 +1,7 @@
 -- `put_constraint` meets its contract: its parts are put in a row.
 -- Assumes nothing.
 use Rattle.views.proofs.Behind.{_then_}
-use Rattle.text.specs.Words.{words}
+use Rattle.text.specs.Texts.{bytes}
 use Rattle.views.specs.Shown.{constraintLine}
 use borrow.Author.Needs.{needs}
 use Rattle.views.proofs.showing.put_constraint.Statement.{statement}
@@ -35,7 +35,7 @@ same-length : tie.Need-same-length
 same-length c = search needs
 
 returns : tie.Need-returns
-unfolding constraintLine words
+unfolding constraintLine
 returns c =
     let x4 = c .before .before in
     let x3 = x4 .before .before .before .before .before in

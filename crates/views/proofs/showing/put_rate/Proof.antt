@@ -1,7 +1,7 @@
 -- `put_rate` meets its contract: its parts are put in a row.
 -- Assumes nothing.
 use Rattle.views.proofs.Behind.{_then_}
-use Rattle.text.specs.Words.{words}
+use Rattle.text.specs.Texts.{bytes}
 use Rattle.views.specs.Shown.{rateLine}
 use borrow.Author.Needs.{needs}
 use Rattle.views.proofs.showing.put_rate.Statement.{statement}
@@ -47,7 +47,7 @@ same-length : tie.Need-same-length
 same-length c = search needs
 
 returns : tie.Need-returns
-unfolding rateLine words
+unfolding rateLine
 returns c =
     let x6 = c .before .before in
     let x5 = x6 .before .before .before .before .before in

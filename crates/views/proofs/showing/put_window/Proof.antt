@@ -1,7 +1,7 @@
 -- `put_window` meets its contract: its parts are put in a row.
 -- Assumes nothing.
 use Rattle.views.proofs.Behind.{_then_}
-use Rattle.text.specs.Words.{words}
+use Rattle.text.specs.Texts.{bytes}
 use Rattle.views.specs.Shown.{windowLine}
 use borrow.Author.Needs.{needs}
 use Rattle.views.proofs.showing.put_window.Statement.{statement}
@@ -41,7 +41,7 @@ same-length : tie.Need-same-length
 same-length c = search needs
 
 returns : tie.Need-returns
-unfolding windowLine words
+unfolding windowLine
 returns c =
     let x5 = c .before .before in
     let x4 = x5 .before .before .before .before .before in
