@@ -118,8 +118,13 @@ fn compile(numbers: &mut Numbers) -> u64 {
     agree("run-length", &run_length, answer, &out, &reference::calls::compile_run_length(&run_length, out.len()));
     let mut out = vec![0xa5; 30000];
     let listed = library::listing(&run_length, &mut out);
+    let theirs = reference::calls::listing(&run_length, out.len());
     if listed.0 == 0 {
-        agree("listing", &run_length, listed, &out, &reference::calls::listing(&run_length, out.len()));
+        agree("listing", &run_length, listed, &out, &theirs);
+    } else {
+        // The outside implementation answers what the program prints; the call answers the refusal.
+        assert_eq!(theirs.output, format!("refused {}\n", listed.0).into_bytes(), "listing of {run_length:02x?}");
+        assert!(out.iter().all(|&b| b == 0xa5), "listing of {run_length:02x?}: bytes lent");
     }
     ours.0
 }

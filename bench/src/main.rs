@@ -3,7 +3,9 @@ mod chains;
 mod compare;
 mod library;
 mod plain;
+mod records;
 mod speed;
+mod stack;
 mod sweep;
 
 fn main() {
@@ -11,10 +13,15 @@ fn main() {
     match arguments.get(1).map(String::as_str) {
         Some("speed") => speed::all(),
         Some("sweep") => sweep::all(),
+        Some("records") => records::all("records"),
+        Some("stack") => match (arguments.get(2), arguments.get(3).and_then(|s| s.parse().ok())) {
+            (Some(name), Some(kib)) => stack::once(name, kib),
+            _ => stack::all(),
+        },
         Some("compare") => {
             let seconds = arguments.get(2).and_then(|s| s.parse().ok()).unwrap_or(10);
             compare::for_seconds(seconds);
         }
-        _ => eprintln!("usage: bench/run speed | bench/run sweep | bench/run compare SECONDS"),
+        _ => eprintln!("usage: bench/run speed | sweep | stack | records | compare SECONDS"),
     }
 }

@@ -1,8 +1,8 @@
 -- A product modulo 2^64 from the products of its halves.
--- In order: three-terms; product; sum-more.
+-- In order: three-terms; product; sum-more, sum-append.
 -- Assumes nothing.
-use mathlib.Core.Path.{_≡_, sym, ap, ap₂, _∙_}
-use mathlib.Core.List.{List}
+use mathlib.Core.Path.{_≡_, refl, sym, ap, ap₂, _∙_}
+use mathlib.Core.List.{List, [], _∷_, _++_}
 use Prim.Native.Nat.{ℕ, _+_, _*_, _/_, _%_, _^_, _<_}
 use native.Mathlib.Nat.{mod-add-mod, add-mod-mod, div-add-mod'}
 use native.Mathlib.Numerals.{add-one}
@@ -31,3 +31,8 @@ pub sum-more : (x : ℕ) (bytes : List ℕ) (i : ℕ) → i < length bytes
     → sum x (drop i bytes) ≡ sum (step x (getD bytes i 0)) (drop (i + 1) bytes)
 sum-more x bytes i h =
     ap (sum x) (drop-cons bytes i 0 h) ∙ ap (λ k. sum (step x (getD bytes i 0)) (drop k bytes)) (sym (add-one i))
+
+-- the checksum of two lists in a row
+pub sum-append : (x : ℕ) (a b : List ℕ) → sum x (a ++ b) ≡ sum (sum x a) b
+sum-append x [] b = refl
+sum-append x (y ∷ a) b = sum-append (step x y) a b

@@ -1,5 +1,5 @@
--- The datum of the first edge from one set into another, found along a chain from the last edge to the first.
--- In order: readsAt with read-in, read-out, read-only; FirstFrom with first-start, first-jump, first-take; last-place;
+-- The datum of the first edge from one set into another, found along a run from the last edge to the first.
+-- In order: readsAt with read-in, read-out, read-only; FirstFrom with first-start, first-jump, first-take;
 -- first-reading.
 -- Assumes nothing.
 use mathlib.Core.Path.{_≡_, refl, sym, ap, ap₂, _∙_}
@@ -62,10 +62,6 @@ module _ (f : ℕ → Bool) (n : ℕ) where
 
   pub first-take : (e : ℕ) → e < n → f e ≡ true → FirstFrom f n e (e % 16)
   first-take e l p = inr (e, omega arith, l, p, refl, λ j a b. absurd (omega arith))
-
--- the one place from c - 1 on and below c
-pub last-place : (f : ℕ → Bool) (c e : ℕ) → c - 1 ≤ e → e < c → f (c - 1) ≡ false → f e ≡ false
-last-place f c e h l q = let z : e ≡ c - 1 = omega arith in ap f z ∙ q
 
 -- ---- the first of a list that tests make
 module _ (p : ℕ → Bool) where

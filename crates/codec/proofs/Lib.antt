@@ -10,3 +10,5 @@ pub mod StateSteps
 pub mod FirstReading
 pub mod Windowed
 pub mod Loaded
+pub mod EdgeRuns
+pub mod RunTurns

@@ -1,4 +1,4 @@
--- Sets of states in an array, stepped along the chain of a word.
+-- Sets of states in an array, stepped along the run of a word.
 -- In order: member-states, states-same, states-every, states-one; test-place, place-test, a test over the edges of a
 -- state; leadsAt with lead-in to lead-only, along-places; entersAt with enter-in to enter-only, back-places;
 -- left-blank, edge-small.

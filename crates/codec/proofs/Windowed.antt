@@ -1,14 +1,14 @@
 -- The words of a window one by one, and the window of a block as the code cuts it.
--- In order: along-first, along-end; able-first, able-end; past-cut, block-cut; length-decode, decoded-in.
+-- In order: along-first, along-two, along-end; able-first, able-two, able-end; past-start, past-later, block-cut;
+-- length-decode, decoded-in.
 -- Assumes nothing.
-use mathlib.Core.Path.{_≡_, refl, sym, ap, ap₂, _∙_}
-use mathlib.Core.Bool.{Bool, true, false}
+use mathlib.Core.Path.{_≡_, sym, ap, ap₂, _∙_}
+use mathlib.Core.Bool.{Bool}
 use mathlib.Core.List.{List, _∷_, _++_, map}
 use Prim.Native.Nat.{ℕ, _+_, _-_, _^_, _≤_, _<_}
 use native.Mathlib.Numerals.{add-one}
 use native.Mathlib.Omega.{arith}
-use borrow.Author.Tests.{ltb-true, ltb-false}
-use lib.Dec.{ltb}
+use borrow.Author.Tests.{lt-ltb, le-ltb}
 use lib.ListN.{length, getD, take, drop, length-map}
 use lib.Seq.{slice, slice-cons, slice-empty}
 use Rattle.laws.specs.Lists.{if_then_else_, range}
@@ -31,6 +31,15 @@ module _ (t : Rows) (ws : List ℕ) where
       → alongAll t S (slice j to ws) ≡ alongAll t (along t S (getD ws j 0)) (slice (j + 1) to ws)
   along-first S j to h l = ap (alongAll t S) (slice-first j to h l)
 
+  pub along-two : (S : List Bool) (j to : ℕ) → j + 1 < to → to ≤ length ws
+      → alongAll t S (slice j to ws)
+      ≡ alongAll t (along t (along t S (getD ws j 0)) (getD ws (j + 1) 0)) (slice (j + 2) to ws)
+  along-two S j to h l =
+      let k : j + 1 + 1 ≡ j + 2 = omega arith in
+      let R = along t S (getD ws j 0) in
+      along-first S j to (omega arith) l ∙ along-first R (j + 1) to h l
+      ∙ ap (λ x. alongAll t (along t R (getD ws (j + 1) 0)) (slice x to ws)) k
+
   pub along-end : (S : List Bool) (to : ℕ) → alongAll t S (slice to to ws) ≡ S
   along-end S to = ap (alongAll t S) (slice-empty to ws)
 
@@ -38,26 +47,35 @@ module _ (t : Rows) (ws : List ℕ) where
       → able t (slice j to ws) ≡ back t (able t (slice (j + 1) to ws)) (getD ws j 0)
   able-first j to h l = ap (able t) (slice-first j to h l)
 
+  pub able-two : (j to : ℕ) → 1 < j → j ≤ to → to ≤ length ws
+      → able t (slice (j - 2) to ws)
+      ≡ back t (back t (able t (slice j to ws)) (getD ws (j - 1) 0)) (getD ws (j - 2) 0)
+  able-two j to h k l =
+      let u : j - 2 + 1 ≡ j - 1 = omega arith in
+      let v : j - 1 + 1 ≡ j = omega arith in
+      able-first (j - 2) to (omega arith) l
+      ∙ ap (λ A. back t A (getD ws (j - 2) 0)) (ap (λ x. able t (slice x to ws)) u
+      ∙ able-first (j - 1) to (omega arith) l
+      ∙ ap (λ x. back t (able t (slice x to ws)) (getD ws (j - 1) 0)) v)
+
   pub able-end : (to : ℕ) → able t (slice to to ws) ≡ everyState t
   able-end to = ap (able t) (slice-empty to ws)
 
 -- ---- the window of block i
 module _ (t : Rows) (m a : ℕ) (ws : List ℕ) (i : ℕ) where
-  pub past-cut : alongAll t (if ltb i m then oneState t 0 else everyState t) (slice (i - m) i ws)
-      ≡ past (under t m a) ws i
-  past-cut = go (ltb i m) refl
-    where
-      go : (b : Bool) → ltb i m ≡ b
-          → alongAll t (if b then oneState t 0 else everyState t) (slice (i - m) i ws)
-          ≡ (if b then alongAll t (oneState t 0) (take i ws) else alongAll t (everyState t) (take m (drop (i - m) ws)))
-      go true e =
-          let h : i < m = ltb-true i m e in
-          let z : i - m ≡ 0 = omega arith in
-          ap (λ k. alongAll t (oneState t 0) (slice k i ws)) z
-      go false e =
-          let h : m ≤ i = ltb-false i m e in
-          let z : i ≡ i - m + m = omega arith in
-          ap (alongAll t (everyState t)) (ap (λ k. drop (i - m) (take k ws)) z ∙ drop-take (i - m) m ws)
+  pub past-start : i < m → alongAll t (oneState t 0) (slice (i - m) i ws) ≡ past (under t m a) ws i
+  past-start h =
+      let z : i - m ≡ 0 = omega arith in
+      ap (λ k. alongAll t (oneState t 0) (slice k i ws)) z
+      ∙ sym (ap (λ b. if b then alongAll t (oneState t 0) (take i ws)
+      else alongAll t (everyState t) (take m (drop (i - m) ws))) (lt-ltb i m h))
+
+  pub past-later : m ≤ i → alongAll t (everyState t) (slice (i - m) i ws) ≡ past (under t m a) ws i
+  past-later h =
+      let z : i ≡ i - m + m = omega arith in
+      ap (alongAll t (everyState t)) (ap (λ k. drop (i - m) (take k ws)) z ∙ drop-take (i - m) m ws)
+      ∙ sym (ap (λ b. if b then alongAll t (oneState t 0) (take i ws)
+      else alongAll t (everyState t) (take m (drop (i - m) ws))) (le-ltb i m h))
 
   pub block-cut : (v : ℕ) (P A : List Bool) → v ≡ getD (readings t P (getD ws i 0) A) 0 mark
       → P ≡ past (under t m a) ws i → A ≡ able t (slice (i + 1) (i + 1 + a) ws) → v ≡ block (under t m a) ws i

@@ -3,3 +3,4 @@ pub mod Answers
 pub mod Damage
 pub mod With
 pub mod StateSets
+pub mod EdgeRuns

@@ -5,19 +5,20 @@ ghost use Prim.Native.Nat.{_+_, _-_, _≤_, _<_};
 ghost use lib.ListN.{length, drop};
 ghost use Rattle.laws.specs.Lists.{range};
 ghost use Rattle.answer.specs.Outcomes.{answerOf, outputOf};
-ghost use Rattle.table.specs.Edges.{arrays, rowsOf, Linked};
+ghost use Rattle.table.specs.Edges.{arrays, rowsOf};
 ghost use Rattle.codec.specs.Reading.{block};
+ghost use Rattle.codec.specs.EdgeRuns.{Laid};
 ghost use Rattle.codec.specs.StateSets.{under};
 ghost use Rattle.codec.specs.Answers.{decodeUnder};
 ghost use Rattle.codec.specs.With.{decodedWith};
 use crate::blocks::read_block;
 use crate::bytes::first_bad;
+use crate::runs::lay;
 use answer::Answer;
 use answer::Refusal;
 use record::Verdict;
 use record::loading::load;
 use table::Table;
-use table::chains::chain;
 use table::chains::ways;
 use table::ready::is_ready;
 
@@ -27,8 +28,8 @@ fn read_blocks(
     n: usize,
     word: &[u8; 2048],
     next: &[u8; 2048],
-    head: &[u16; 256],
-    link: &[u16; 2048],
+    start: &[u16; 257],
+    order: &[u16; 2048],
     words: &[u8],
     m: usize,
     a: usize,
@@ -36,7 +37,7 @@ fn read_blocks(
     out: &mut [u8],
 )
     requires { ⌜
-        Linked (arrays states n (now word) (now next)) (now head) (now link) × (count + a ≤ length (now words))
+        Laid (arrays states n (now word) (now next)) (now start) (now order) × (count + a ≤ length (now words))
         × (count ≤ length (now out)) ⌝ }
     ensures written { λ r. ⌜
         now (out .exit)
@@ -45,7 +46,7 @@ fn read_blocks(
 {
     let mut i = 0;
     while i < count {
-        out[i] = read_block(states, n, word, next, head, link, words, i, m, a);
+        out[i] = read_block(states, n, word, next, start, order, words, i, m, a);
         i += 1;
     }
 }
@@ -77,16 +78,16 @@ pub fn decode_with(t: Table, words: &[u8], out: &mut [u8]) -> Answer
     let n = ways(t.p);
     let word = t.word;
     let next = t.next;
-    let c = chain(t.states, n, &word, &next);
-    let head = c.head;
-    let link = c.link;
+    let r = lay(t.states, n, &word, &next);
+    let start = r.start;
+    let order = r.order;
     read_blocks(
         t.states,
         n,
         &word,
         &next,
-        &head,
-        &link,
+        &start,
+        &order,
         words,
         t.memory,
         a,

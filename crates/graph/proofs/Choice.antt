@@ -6,18 +6,19 @@ use mathlib.Core.Logic.{_⊎_, inl, inr}
 use mathlib.Core.Bool.{Bool, true, false}
 use mathlib.Core.List.{List, [], _∷_}
 use Prim.Native.Nat.{ℕ, zero, suc, _+_, _*_, _≤_, _<_, zero-le, suc-le-suc}
-use native.Mathlib.Nat.{not-suc-le-zero, le-trans, le-of-eq, zero-add, mul-comm, le-of-mul-le-mul-right}
+use native.Mathlib.Nat.{not-suc-le-zero, le-trans, le-of-eq, mul-comm, le-of-mul-le-mul-right}
 use native.Mathlib.Nat.{lt-of-mul-lt-mul-right, le-max-left, le-max-right, max-eq-left, max-eq-right}
 use native.Mathlib.Omega.{arith}
 use native.Mathlib.Decide.{decLe}
 use lib.Dec.{T, eqb, ltb, eqb→eq, eqb-refl, ltb→lt}
 use borrow.Author.Tests.{ltb-false}
 use lib.ListN.{length, getD}
-use Rattle.laws.specs.Lists.{from, range, any}
+use Rattle.laws.specs.Lists.{range, any}
 use Rattle.laws.proofs.Tests.{and→, →and, or→, any-below→, →any-below}
 use Rattle.laws.specs.Sums.{Each}
 use Rattle.laws.proofs.Sums.{each-map, each-always, each-both, filter-each, each-any, first-passes, tot-le}
 use Rattle.laws.proofs.Sums.{tot-const}
+use Rattle.laws.proofs.Anys.{each-range}
 use Rattle.graph.specs.Invariant.{Inside, Stays, Inv}
 use Rattle.graph.specs.Arcs.{Arc, Work, leaves, out}
 use Rattle.graph.specs.Weights.{weight, total}
@@ -126,22 +127,13 @@ module _ (n S : ℕ) (x : Work) (I : Inv n S x) where
     pub light : T (any (lighter (x .weights) (greatest (x .weights))) (out (x .arcs) s))
     pub many : n < length (out (x .arcs) s)
 
-  each-from : (i k : ℕ) → Each (λ j. j < i + k) (from i k)
-  each-from i zero = tt
-  each-from i (suc k) = (
-    omega arith,
-    each-map (λ j. j < suc i + k) (λ j. j < i + suc k) (λ j h. omega arith) (from (suc i) k)
-        (each-from (suc i) k),
-  )
-
   -- the state that the rule names has more than n edges
   pub chosen-is : T (unfinished n x) → Chosen (chosen (x .weights) (x .arcs))
   chosen-is t =
       let s = chosen v g in
-      let (r, l) = first-passes (splittable v g) 0 (λ s. s < 0 + length v) (range (length v)) (ripe-some t)
-      (each-from 0 (length v)) in
+      let (r, h) = first-passes (splittable v g) 0 (λ s. s < length v) (range (length v)) (ripe-some t)
+      (each-range (length v)) in
       let (a, b) = and→ (eqb (getD v s 0) (greatest v)) (any (lighter v (greatest v)) (out g s)) r in
-      let h : s < length v = rw (zero-add (length v)) at l in
       let e : getD v s 0 ≡ greatest v = eqb→eq (getD v s 0) (greatest v) a in
       let c : greatest v * n ≤ total v (out g s) = rw e at (I .enough s h) in
       let d : n * greatest v < length (out g s) * greatest v =

@@ -6,13 +6,14 @@ use mathlib.Core.Path.{_≡_, refl, sym, ap, ap₂, _∙_}
 use mathlib.Core.Logic.{_⊎_, inl, inr}
 use mathlib.Core.List.{List, [], _∷_}
 use Prim.Native.Nat.{ℕ, zero, suc, _*_, _/_, _≤_, _<_, zero-le, min}
-use native.Mathlib.Nat.{le-of-suc-le-suc, not-suc-le-zero, le-trans, le-of-eq, add-le-add, zero-mul, min-le-left}
+use native.Mathlib.Nat.{le-of-suc-le-suc, not-suc-le-zero, le-trans, le-of-eq, add-le-add, min-le-left}
 use native.Mathlib.Nat.{le-min, zero-min, le-div-iff-mul-le, mul-le-mul}
 use native.Mathlib.Omega.{arith}
 use native.Mathlib.Decide.{decLt}
 use lib.Dec.{T, eqb→eq}
 use lib.ListN.{length, getD, length-map, replicate, length-replicate, List·getD-eq-default, getD-replicate}
 use Rattle.laws.specs.Lists.{range, sum}
+use Rattle.laws.proofs.Lists.{sum-replicate}
 use Rattle.laws.proofs.Tests.{length-from, map-range-at}
 use Rattle.graph.specs.Arcs.{Arc, leaves, out}
 use Rattle.graph.specs.Weights.{lower, lowered, weights, Enough, AtMost, product, total, weight}
@@ -72,10 +73,6 @@ below-rest (x ∷ w) (y ∷ v) l h = go (decLt x y) (below-rest w v (omega arith
 module _ (n : ℕ) (g : List Arc) where
   lowered-below : (v : List ℕ) → AtMost (lowered n g v) v
   lowered-below v i = rw (lowered-at n g v i) (min-le-left (getD v i 0) (product g v i / n))
-
-  sum-replicate : (k c : ℕ) → sum (replicate k c) ≡ k * c
-  sum-replicate zero c = sym (zero-mul c)
-  sum-replicate (suc k) c = rw (sum-replicate k c) (omega arith)
 
   pub weights-length : (cap K : ℕ) → length (weights n cap K g) ≡ K
   unfolding weights

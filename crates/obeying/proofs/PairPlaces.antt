@@ -1,20 +1,20 @@
--- The places of pairs stand for the pairs of the definition `obeys`, so a closed set of places decides it.
--- In order: formed-followable; stateOf, pairOf and their laws, one edge; reached-has; obeys-is.
+-- The places of pairs stand for the pairs of the definition `obeys`, so the test of the reached places decides it.
+-- In order: stateOf, pairOf and their laws, one edge; reached-has; obeys-is.
 -- Assumes nothing.
-use mathlib.Core.Path.{_≡_, sym, ap, ap₂, subst, subst₂, _∙_}
+use mathlib.Core.Path.{_≡_, refl, sym, ap, ap₂, subst, subst₂, _∙_}
 use mathlib.Core.Logic.{inl, inr}
-use mathlib.Core.Bool.{Bool}
+use mathlib.Core.Bool.{Bool, true, false}
 use mathlib.Core.List.{List}
 use Prim.Native.Nat.{ℕ, _+_, _*_, _/_, _%_, _^_, _≤_, _<_}
 use native.Mathlib.Omega.{arith}
 use native.Mathlib.Decide.{ℕ-discrete}
 use borrow.Author.Tests.{eq-eqb, ne-eqb}
-use lib.Dec.{T, eqb}
+use lib.Dec.{T, T-not, not-T, eqb, eqb→eq}
 use lib.ListN.{length, getD}
 use lib.Pow.{pow-mono}
-use Rattle.laws.specs.Lists.{if_then_else_, range}
-use Rattle.laws.specs.Sets.{member, has}
-use Rattle.laws.proofs.Tests.{bool-eq}
+use Rattle.laws.specs.Lists.{if_then_else_}
+use Rattle.laws.specs.Sets.{has}
+use Rattle.laws.proofs.Tests.{bool-eq, all-below→, →all-below}
 use Rattle.constraint.specs.Walking.{none, walk}
 use Rattle.constraint.specs.Value.{constraintOf}
 use Rattle.constraint.specs.PowerTable.{powerCodes}
@@ -23,24 +23,14 @@ use Rattle.constraint.proofs.PowerTable.{codes-at}
 use Rattle.table.specs.declared.Table.{Table}
 use Rattle.table.specs.Rows.{Edge, at}
 use Rattle.table.specs.Value.{wordAt, nextAt, rowsIn, codeIn, Ready}
-use Rattle.table.specs.Formed.{Formed}
 use Rattle.table.specs.Obeys.{reachedPairs, obeys}
 use Rattle.table.specs.Edges.{lent}
 use Rattle.table.proofs.Shape.{inside}
 use Rattle.table.proofs.RowsOf.{length-rows, row-long, edge-at}
 use Rattle.table.proofs.Reached.{reached-lt, reached-start, reached-step}
 use Rattle.table.proofs.AnyClosure.{obeys-by, disobeys-by}
-use Rattle.obeying.specs.Obeying.{stateAfter, pairAfter, Reached, Closure, eachFinds, Followable}
+use Rattle.obeying.specs.Obeying.{stateAfter, pairAfter, Reached, findsAt, Followed, Followable}
 use Rattle.obeying.specs.Obeying.Reached.{origin, carried}
-use Rattle.obeying.proofs.PairTests.{each→, →each}
-
--- a table whose fields are in range can be followed
-pub formed-followable : (t : Table) → Ready t → Formed (codeIn t) → Followable t
-formed-followable t r f = record {
-  ready = r;
-  nexts = f .nexts;
-  begin = rw (length-constraintOf (t .constraint)) at (f .range .start);
-}
 
 -- ---- one edge from the pair of s and k
 abbrev powerIn : Table → List ℕ
@@ -152,22 +142,24 @@ module _ (t : Table) (h : Followable t) where
   reached-has origin = has-start
   reached-has (carried x d y r l e b) = has-next x d y (reached-has r) l e b
 
-  -- ---- a closed set of places decides `obeys`
-  module _ (S : List Bool) (c : Closure (placeAfter t) (2 ^ t .p) (t .start) S) where
-    -- the pairs whose places are in the set
+  -- ---- the test of the reached places decides `obeys`
+  module _ (r : Bool)
+      (c : Followed (placeAfter t) (findsAt (t .word) (powerIn t)) (2 ^ t .p) (t .start) r) where
+    -- the pairs whose places are reached
     Held : ℕ → ℕ → Type 0
-    Held s k = (s < t .states) × (k < t .constraint .states) × T (member S (s * 16 + k))
+    Held s k =
+        (s < t .states) × (k < t .constraint .states) × Reached (placeAfter t) (2 ^ t .p) (t .start) (s * 16 + k)
 
     held-start : Held 0 (t .start)
     unfolding Held
     held-start =
         let z : t .start ≡ 0 * 16 + t .start = omega arith in
-        (h .ready .some, h .begin, subst (λ y. T (member S y)) z (c .begins))
+        (h .ready .some, h .begin, subst (Reached (placeAfter t) (2 ^ t .p) (t .start)) z origin)
 
     held-next : (s k d : ℕ) → Held s k → d < 2 ^ t .p → walkIn t s k d < t .constraint .states
         → Held (nextAt t s d) (walkIn t s k d)
     unfolding Held
-    held-next s k d (hs, hk, u) hd l = (i, l, subst (λ y. T (member S y)) e (c .closed (s * 16 + k) d u hd (rw e b)))
+    held-next s k d (hs, hk, u) hd l = (i, l, carried (s * 16 + k) d (nextAt t s d * 16 + walkIn t s k d) u hd e b)
       where
         m : t .constraint .states ≤ 16
         m = h .ready .limits
@@ -185,16 +177,17 @@ module _ (t : Table) (h : Followable t) where
         b : nextAt t s d * 16 + walkIn t s k d < 2048
         b = let f = h .ready .few in omega (arith, i, m)
 
-    held-finds : T (eachFinds (t .word) (powerIn t) (2 ^ t .p) S) → (s k d : ℕ) → Held s k → d < 2 ^ t .p
-        → (walkIn t s k d ≡ none) → ⊥
+    held-finds : T r → (s k d : ℕ) → Held s k → d < 2 ^ t .p → (walkIn t s k d ≡ none) → ⊥
     unfolding Held
     held-finds g s k d (hs, hk, u) hd e =
         let m = h .ready .limits in
-        let f = h .ready .few in
-        each→ (t .word) (powerIn t) (2 ^ t .p) S g (s * 16 + k) d (omega arith) u hd
-        (state-at t s k d (omega arith) ∙ state-walk s k d hs hk hd ∙ e)
+        let q : stateAfter (t .word) (powerIn t) (s * 16 + k) d ≡ none =
+        state-at t s k d (omega arith) ∙ state-walk s k d hs hk hd ∙ e in
+        T-not (eqb (stateAfter (t .word) (powerIn t) (s * 16 + k) d) none)
+        (all-below→ (findsAt (t .word) (powerIn t) (s * 16 + k)) (2 ^ t .p) (c .passed g (s * 16 + k) u) d hd)
+        (rw (eq-eqb (stateAfter (t .word) (powerIn t) (s * 16 + k) d) none q) tt)
 
-    obeys-if : T (eachFinds (t .word) (powerIn t) (2 ^ t .p) S) → T (obeys (codeIn t))
+    obeys-if : T r → T (obeys (codeIn t))
     unfolding Held
     obeys-if g =
         obeys-by (codeIn t) Held held-start
@@ -210,28 +203,31 @@ module _ (t : Table) (h : Followable t) where
         Fails : ℕ → Edge → Type 0
         Fails k e = (walk (constraintOf (t .constraint)) (t .q) (e .word) k ≡ none) → ⊥
 
-    obeys-only : T (obeys (codeIn t)) → T (eachFinds (t .word) (powerIn t) (2 ^ t .p) S)
-    obeys-only g =
-        →each (t .word) (powerIn t) (2 ^ t .p) S (λ x d l u hd e. refuted x d hd e (reached-has (c .only x u)))
-      where
-        refuted : (x d : ℕ) → d < 2 ^ t .p → stateAfter (t .word) (powerIn t) x d ≡ none
-            → T (has (reachedPairs (codeIn t)) (x / 16) (x % 16)) → ⊥
-        refuted x d hd e v =
-            let hs : x / 16 < t .states = rw (length-rows (lent t)) at (reached-lt (codeIn t) (x / 16) (x % 16) v .0) in
-            let hk : x % 16 < t .constraint .states = rw count at (reached-lt (codeIn t) (x / 16) (x % 16) v .1) in
-            disobeys-by (codeIn t) (x / 16) (x % 16) d v (rw (row-long (lent t) (x / 16) hs) hd)
-            (ap (λ e. walk (constraintOf (t .constraint)) (t .q) (e .word) (x % 16)) (edge-at (lent t) (x / 16) d hs hd)
-            ∙ sym (state-walk (x / 16) (x % 16) d hs hk hd) ∙ e) g
+    refuted : (x d : ℕ) → d < 2 ^ t .p → stateAfter (t .word) (powerIn t) x d ≡ none
+        → T (has (reachedPairs (codeIn t)) (x / 16) (x % 16)) → T (obeys (codeIn t)) → ⊥
+    refuted x d hd e v g =
+        let hs : x / 16 < t .states = rw (length-rows (lent t)) at (reached-lt (codeIn t) (x / 16) (x % 16) v .0) in
+        let hk : x % 16 < t .constraint .states = rw count at (reached-lt (codeIn t) (x / 16) (x % 16) v .1) in
+        disobeys-by (codeIn t) (x / 16) (x % 16) d v (rw (row-long (lent t) (x / 16) hs) hd)
+        (ap (λ e. walk (constraintOf (t .constraint)) (t .q) (e .word) (x % 16)) (edge-at (lent t) (x / 16) d hs hd)
+        ∙ sym (state-walk (x / 16) (x % 16) d hs hk hd) ∙ e) g
 
-    decides : eachFinds (t .word) (powerIn t) (2 ^ t .p) S ≡ obeys (codeIn t)
-    decides = bool-eq _ _ obeys-if obeys-only
+    obeys-only : (b : Bool) → r ≡ b → T (obeys (codeIn t)) → T b
+    obeys-only true e g = tt
+    obeys-only false e g =
+        let (x, u, q) = c .failed e in
+        subst T q (→all-below (findsAt (t .word) (powerIn t) x) (2 ^ t .p)
+        (λ d hd. not-T (eqb (stateAfter (t .word) (powerIn t) x d) none)
+        (λ v. refuted x d hd (eqb→eq (stateAfter (t .word) (powerIn t) x d) none v) (reached-has u) g)))
 
--- THEOREM: the test of a closed set of places is the test `obeys`
-pub obeys-is : (t : Table) → Followable t → (n : ℕ) (power : List ℕ) (S : List Bool) → n ≡ 2 ^ t .p
+    decides : r ≡ obeys (codeIn t)
+    decides = bool-eq _ _ obeys-if (obeys-only r refl)
+
+-- THEOREM: the test of the reached places is the test `obeys`
+pub obeys-is : (t : Table) → Followable t → (n : ℕ) (power : List ℕ) (r : Bool) → n ≡ 2 ^ t .p
     → power ≡ powerCodes (constraintOf (t .constraint)) (t .q)
-    → Closure (pairAfter (t .word) (t .next) power) n (t .start) S
-    → eachFinds (t .word) power n S ≡ obeys (codeIn t)
-obeys-is t h n power S e g c =
-    subst₂ (λ n power. Closure (pairAfter (t .word) (t .next) power) n (t .start) S
-    → eachFinds (t .word) power n S ≡ obeys (codeIn t))
-    (sym e) (sym g) (decides t h S) c
+    → Followed (pairAfter (t .word) (t .next) power) (findsAt (t .word) power) n (t .start) r
+    → r ≡ obeys (codeIn t)
+obeys-is t h n power r e g c =
+    decides t h r
+    (subst₂ (λ n power. Followed (pairAfter (t .word) (t .next) power) (findsAt (t .word) power) n (t .start) r) e g c)

@@ -1,9 +1,9 @@
 -- Laws of a set of places and the list of its members, to which the places that edges lead to are added until all
 -- members have been followed.
 -- In order: member-lt, member-put; absent-put, absent-blank; queue-blank, queue-room, queue-put, queue-same;
--- grown-none, grown-more; Reaching, reach-start, reach-more, reach-done.
+-- grown-none, grown-more; Reaching, reach-start, reach-more, reach-done, reach-fail, reach-test.
 -- Assumes nothing.
-use mathlib.Core.Path.{_≡_, refl, sym, subst, _∙_}
+use mathlib.Core.Path.{_≡_, refl, sym, ap, subst, _∙_}
 use mathlib.Core.Logic.{_⊎_, inl, inr}
 use mathlib.Core.Bool.{Bool, true, false}
 use mathlib.Core.List.{List, [], _∷_}
@@ -15,8 +15,9 @@ use borrow.Author.Count.{below-more}
 use lib.Dec.{T}
 use lib.ListN.{length, getD, set, length-set, replicate, length-replicate, List·getD-eq-default}
 use lib.Seq.{getD-set-same, getD-set-other}
+use Rattle.laws.specs.Lists.{range, all}
 use Rattle.laws.specs.Sets.{member}
-use Rattle.obeying.specs.Obeying.{Reached, Closure, absent, Queue, Grown}
+use Rattle.obeying.specs.Obeying.{Reached, absent, Queue, Grown, Followed}
 use Rattle.obeying.specs.Obeying.Reached.{origin, carried}
 
 -- ---- members
@@ -205,10 +206,32 @@ module _ (f : ℕ → ℕ → ℕ) (n start : ℕ) where
         Done : ℕ → Type 0
         Done j = Follows (getD L' j 0)
 
-    pub reach-done : m ≤ i → Closure f n start S
-    reach-done h = record {
-      begins = r .begins;
-      closed = λ x d u a l. let (j, b, e) = r .queue .every x u in
-          subst (λ x. f x d < 2048 → T (member S (f x d))) e (r .closed j (omega arith) d a) l;
-      only = r .only;
+    reach-all : m ≤ i → {x : ℕ} → Reached f n start x → T (member S x)
+    reach-all h origin = r .begins
+    reach-all h (carried x d y u l e b) =
+        let (j, a, q) = r .queue .every x (reach-all h u) in
+        subst (λ z. T (member S z)) (ap (λ z. f z d) q ∙ e)
+        (r .closed j (omega arith) d l (subst (λ z. z < 2048) (sym (ap (λ z. f z d) q ∙ e)) b))
+
+    -- all members have been followed, and each has passed
+    pub reach-done : (g : ℕ → ℕ → Bool) → m ≤ i → ((j : ℕ) → j < i → T (all (g (getD L j 0)) (range n)))
+        → Followed f g n start true
+    reach-done g h k = record {
+      passed = λ u x v. let (j, a, q) = r .queue .every x (reach-all h v) in
+          subst (λ z. T (all (g z) (range n))) q (k j (omega arith));
+      failed = λ e. absurd (subst T e tt);
     }
+
+    -- one that is still to be followed fails
+    pub reach-fail : (g : ℕ → ℕ → Bool) → i < m → all (g (getD L i 0)) (range n) ≡ false → Followed f g n start false
+    reach-fail g h e = record {
+      passed = λ u. absurd u;
+      failed = λ q. (getD L i 0, r .only (getD L i 0) (r .queue .listed i h), e);
+    }
+
+    pub reach-test : (g : ℕ → ℕ → Bool) (S' : List Bool) (L' : List ℕ) (m' : ℕ) → i < m
+        → Grown (f (getD L i 0)) n S L m S' L' m' → ((j : ℕ) → j < i → T (all (g (getD L j 0)) (range n)))
+        → all (g (getD L i 0)) (range n) ≡ true → (j : ℕ) → j < i + 1 → T (all (g (getD L' j 0)) (range n))
+    reach-test g S' L' m' h w k e = below-more (λ j. T (all (g (getD L' j 0)) (range n))) i
+        (λ j a. subst (λ z. T (all (g z) (range n))) (sym (w .kept j (let l = r .within in omega arith))) (k j a))
+        (subst (λ z. T (all (g z) (range n))) (sym (w .kept i h)) (subst T (sym e) tt))

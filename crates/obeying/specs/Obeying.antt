@@ -1,11 +1,11 @@
 -- How the code tests that recordings obey the constraint. The pair of table state s and constraint state k has the
 -- place s * 16 + k, below 2,048; the arrays are the table's words and next states and the power table in bytes.
--- In order: stateAfter, pairAfter, one edge; Reached, Closure, the places that recordings reach; absent, Queue, Grown,
--- the list of places still to be followed; findsAt, pairFinds, eachFinds, the test; Followable, what the test needs.
+-- In order: stateAfter, pairAfter, one edge; Reached, the places that recordings reach; absent, Queue, Grown, the list
+-- of places still to be followed; findsAt, Followed, the test; Followable, what the test needs.
 -- Assumes nothing.
 use mathlib.Core.Path.{_≡_}
 use mathlib.Core.Logic.{_⊎_}
-use mathlib.Core.Bool.{Bool, not, _||_}
+use mathlib.Core.Bool.{Bool, false, not}
 use mathlib.Core.List.{List}
 use Prim.Native.Nat.{ℕ, _+_, _*_, _/_, _%_, _≤_, _<_}
 use lib.Dec.{T, eqb}
@@ -34,12 +34,6 @@ pub data Reached (f : ℕ → ℕ → ℕ) (n start : ℕ) : ℕ → Type 0 wher
   origin : Reached f n start start
   carried : (x d y : ℕ) → Reached f n start x → d < n → f x d ≡ y → y < 2048 → Reached f n start y
 
--- S holds the places that are reached, and no others
-pub record Closure (f : ℕ → ℕ → ℕ) (n start : ℕ) (S : List Bool) : Type 0 where
-  pub begins : T (member S start)
-  pub closed : (x d : ℕ) → T (member S x) → d < n → f x d < 2048 → T (member S (f x d))
-  pub only : (x : ℕ) → T (member S x) → Reached f n start x
-
 -- how many places are not in the set
 abbrev pub absent : List Bool → ℕ
 absent S = tot (one not) S
@@ -66,13 +60,10 @@ pub record Grown (g : ℕ → ℕ) (i : ℕ) (S : List Bool) (L : List ℕ) (m :
 abbrev pub findsAt : List ℕ → List ℕ → ℕ → ℕ → Bool
 findsAt word power x d = not (eqb (stateAfter word power x d) none)
 
--- if the pair at x is in S, the words of its n edges all find their way
-abbrev pub pairFinds : List ℕ → List ℕ → ℕ → List Bool → ℕ → Bool
-pairFinds word power n S x = not (member S x) || all (findsAt word power x) (range n)
-
--- the words of all pairs of S find their way
-unfoldable pub eachFinds : List ℕ → List ℕ → ℕ → List Bool → Bool
-eachFinds word power n S = all (pairFinds word power n S) (range 2048)
+-- r says whether all places that are reached pass the n tests g x 0, g x 1 and so on
+pub record Followed (f : ℕ → ℕ → ℕ) (g : ℕ → ℕ → Bool) (n start : ℕ) (r : Bool) : Type 0 where
+  pub passed : T r → (x : ℕ) → Reached f n start x → T (all (g x) (range n))
+  pub failed : r ≡ false → (x : ℕ) × Reached f n start x × (all (g x) (range n) ≡ false)
 
 -- a table whose constraint can be followed from its start: no caller can fail it, since it holds of every table whose
 -- fields are in range

@@ -5,8 +5,8 @@ ghost use Prim.Native.Nat.{_≤_, _<_};
 ghost use Rattle.laws.specs.Lists.{range, all};
 ghost use Rattle.table.specs.Value.{codeIn};
 ghost use Rattle.table.specs.Obeys.{obeys};
-ghost use Rattle.obeying.specs.Obeying.{stateAfter, pairAfter, Closure, Queue, Grown};
-ghost use Rattle.obeying.specs.Obeying.{findsAt, pairFinds, eachFinds, Followable};
+ghost use Rattle.obeying.specs.Obeying.{stateAfter, pairAfter, Queue, Grown};
+ghost use Rattle.obeying.specs.Obeying.{findsAt, Followed, Followable};
 use constraint::power;
 use table::Table;
 use table::chains;
@@ -32,7 +32,7 @@ fn pair_after(word: &[u8; 2048], next: &[u8; 2048], power: &[u8; 4096], x: usize
 }
 
 // The place y put into the set and at the end of the list, unless it is there; the length of the list.
-fn put(y: usize, m: usize, set: &mut [bool; 2048], list: &mut [usize; 2048]) -> usize
+fn put(y: usize, m: usize, set: &mut [bool; 2048], list: &mut [u16; 2048]) -> usize
     requires { ⌜ Queue (now set) (now list) m ⌝ }
     ensures written { λ r. ⌜ Grown (λ d. y) 1 (now (set .entry)) (now (list .entry)) m (now (set .exit))
         (now (list .exit)) r ⌝ }
@@ -44,7 +44,7 @@ fn put(y: usize, m: usize, set: &mut [bool; 2048], list: &mut [usize; 2048]) -> 
         return m;
     }
     set[y] = true;
-    list[m] = y;
+    list[m] = y as u16;
     m + 1
 }
 
@@ -57,7 +57,7 @@ fn put_targets(
     x: usize,
     m: usize,
     set: &mut [bool; 2048],
-    list: &mut [usize; 2048],
+    list: &mut [u16; 2048],
 ) -> usize
     requires { ⌜ (x < 2048) × (n ≤ 16) × Queue (now set) (now list) m ⌝ }
     ensures written { λ r. ⌜ Grown (pairAfter (now (word .entry)) (now (next .entry)) (now (power .entry)) x) n
@@ -88,57 +88,28 @@ fn finds_all(word: &[u8; 2048], power: &[u8; 4096], n: usize, x: usize) -> bool
     true
 }
 
-// So do those of the pair at x if it is in the set.
-fn pair_finds(word: &[u8; 2048], power: &[u8; 4096], n: usize, set: &[bool; 2048], x: usize) -> bool
-    requires { ⌜ (x < 2048) × (n ≤ 16) ⌝ }
-    ensures answer { λ r. ⌜ r ≡ pairFinds (now (word .entry)) (now (power .entry)) n (now (set .entry)) x ⌝ }
-{
-    if set[x] {
-        finds_all(word, power, n, x)
-    } else {
-        true
-    }
-}
-
-// The words of all pairs of the set find their way.
-fn each_finds(word: &[u8; 2048], power: &[u8; 4096], n: usize, set: &[bool; 2048]) -> bool
-    requires { ⌜ n ≤ 16 ⌝ }
-    ensures answer { λ r. ⌜ r ≡ eachFinds (now (word .entry)) (now (power .entry)) n (now (set .entry)) ⌝ }
-{
-    let mut x = 0;
-    while x < 2048 {
-        if !pair_finds(word, power, n, set, x) {
-            return false;
-        }
-        x += 1;
-    }
-    true
-}
-
-// The places that recordings reach, where start is the place of the pair in which they start.
-fn reach(
-    word: &[u8; 2048],
-    next: &[u8; 2048],
-    power: &[u8; 4096],
-    n: usize,
-    start: usize,
-) -> [bool; 2048]
+// The words of all places that recordings reach find their way, where start is the place of the pair in which they
+// start.
+fn follow(word: &[u8; 2048], next: &[u8; 2048], power: &[u8; 4096], n: usize, start: usize) -> bool
     requires { ⌜ (start < 2048) × (n ≤ 16) ⌝ }
-    ensures answer { λ r. ⌜ Closure (pairAfter (now (word .entry)) (now (next .entry)) (now (power .entry))) n start
-        r ⌝ }
+    ensures answer { λ r. ⌜ Followed (pairAfter (now (word .entry)) (now (next .entry)) (now (power .entry)))
+        (findsAt (now (word .entry)) (now (power .entry))) n start r ⌝ }
 {
     let mut set = [false; 2048];
-    let mut list = [0usize; 2048];
+    let mut list = [0u16; 2048];
     set[start] = true;
-    list[0] = start;
+    list[0] = start as u16;
     let mut count = 1;
     let mut i = 0;
     while i < count {
-        let x = list[i];
+        let x = list[i] as usize;
+        if !finds_all(word, power, n, x) {
+            return false;
+        }
         count = put_targets(word, next, power, n, x, count, &mut set, &mut list);
         i += 1;
     }
-    set
+    true
 }
 
 // Every recording under the table, followed from the constraint start, always finds a next state.
@@ -150,6 +121,5 @@ pub fn obeys(t: Table) -> bool
     let word = t.word;
     let next = t.next;
     let power = power::power_codes(t.constraint, t.q);
-    let set = reach(&word, &next, &power, n, t.start);
-    each_finds(&word, &power, n, &set)
+    follow(&word, &next, &power, n, t.start)
 }

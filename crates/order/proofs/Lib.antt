@@ -4,3 +4,4 @@ pub mod CodeCarry
 pub mod CodeFirst
 pub mod CodeFront
 pub mod CodeOrder
+pub mod CodeKept

@@ -17,13 +17,14 @@ use Rattle.laws.proofs.Elems.{each-at}
 use Rattle.laws.proofs.Tests.{map-range-at}
 use Rattle.graph.specs.declared.Graph.{Graph}
 use Rattle.order.specs.declared.keys.Keys.{Keys}
-use Rattle.splitting.specs.declared.find_run.Run.{Run}
+use Rattle.choice.specs.declared.find_run.Run.{Run}
 use Rattle.graph.specs.Arcs.{Arc, arc, leaves, out}
 use Rattle.graph.specs.Weights.{weight, total}
 use Rattle.graph.specs.Splitting.{sort, greatest, lighter, other, candidates, firstRun, kept, moved, doubled}
 use Rattle.graph.specs.Value.{arcsIn, weightAt, weightsIn, Fits}
 use Rattle.order.specs.EdgeKeys.{arcOf, keysIn, keyWeight}
-use Rattle.splitting.specs.SplitParts.{FirstRun, keptArcs, Moved, entering, Doubled, Weighed, PartedInto}
+use Rattle.choice.specs.ChoiceParts.{FirstRun}
+use Rattle.splitting.specs.SplitParts.{keptArcs, Moved, entering, Doubled, Weighed, PartedInto}
 use Rattle.graph.proofs.Choice.{total-le}
 use Rattle.graph.proofs.Candidates.{each-sort, any-sort}
 use Rattle.graph.proofs.CodeLists.{length-map-range}

@@ -1,9 +1,5 @@
-pub mod CodeChoose
-pub mod CodeRun
-pub mod CodeCandidates
 pub mod CodeMove
 pub mod CodePart
-pub mod CodeKept
 pub mod CodeState
 pub mod CodeSplit
 pub mod CodeLoop

@@ -1,5 +1,3 @@
 // "Splitting, while some state has fewer than n edges out."
-mod choose;
-mod find_run;
 mod part_state;
 pub mod split_graph;

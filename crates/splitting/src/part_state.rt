@@ -1,8 +1,8 @@
 // "s keeps the run's edges and weight w; a new last state takes all other edges of s and weight M − w. Then every
 // edge into s becomes two, to s and to the new state."
-use crate::choose::candidate_keys;
-use crate::find_run::Run;
-use crate::find_run::first_run;
+use choice::choose::candidate_keys;
+use choice::find_run::Run;
+use choice::find_run::first_run;
 use graph::Graph;
 use order::keys::Keys;
 use order::keys::among_keys;

@@ -1,8 +1,8 @@
 // "Splitting, while some state has fewer than n edges out."
-use crate::choose::choose;
-use crate::choose::greatest_weight;
 use crate::part_state::enter_count;
 use crate::part_state::part_state;
+use choice::choose::choose;
+use choice::choose::greatest_weight;
 use graph::Graph;
 use graph::NextGraph;
 ghost use mathlib.Core.Path.{_≡_};

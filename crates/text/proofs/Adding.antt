@@ -42,9 +42,9 @@ put-added text B C at from n f e w = record {
   written =
       ap (take (from + n)) w ∙ take-paste B from text n here some
       ∙ ap₂ _++_ (ap (λ m. take m B) f ∙ take-least at B)
-          (ap (λ m. take m text) (e ∙ min-comm (length text) (length B - from)) ∙ take-least (length B - from) text)
+      (ap (λ m. take m text) (e ∙ min-comm (length text) (length B - from)) ∙ take-least (length B - from) text)
       ∙ sym (take-append (length B) (take at B) text
-          ∙ ap₂ (λ l m. l ++ take (length B - m) text) (take-all (length B) (take at B) short) (long ∙ sym f));
+      ∙ ap₂ (λ l m. l ++ take (length B - m) text) (take-all (length B) (take at B) short) (long ∙ sym f));
   counts = (fits, sym (length-take-le (from + n) C fits));
   kept = same;
 }
@@ -73,8 +73,8 @@ put-added text B C at from n f e w = record {
 pub added-same : {s t B C : List ℕ} {at r : ℕ} → s ≡ t → Added s at B C r → Added t at B C r
 added-same {B = B} {C = C} {at = at} {r = r} e p = subst (λ u. Added u at B C r) e p
 
-pub added-more : (s t B C D : List ℕ) (at m r : ℕ) → Added s at B C m → Added t m C D r → Added (s ++ t) at B D r
-added-more s t B C D at m r p q = record {
+pub added-more : {s t B C D : List ℕ} {at m r : ℕ} → Added s at B C m → Added t m C D r → Added (s ++ t) at B D r
+added-more {s} {t} {B} {at = at} p q = record {
   written =
       q .written ∙ ap₂ (λ k l. take k (l ++ t)) (p .kept) (p .written) ∙ cut-append (length B) (take at B ++ s) t
       ∙ ap (take (length B)) (append-assoc (take at B) s t);

@@ -27,12 +27,18 @@ module _ (b : ℕ) (two : 1 < b) where
   pow-one = pow-suc b 0 ∙ ap (λ m. m * b) (pow-zero b) ∙ one-mul b
 
   one-digit : (n : ℕ) → n < b → Sized b n 1
-  one-digit n h = record { some = omega arith; holds = let e = pow-one in omega arith; least = λ l. absurd (omega arith) }
+  one-digit n h = record {
+    some = omega arith;
+    holds = let e = pow-one in omega arith;
+    least = λ l. absurd (omega arith);
+  }
 
   more-digits : (n s : ℕ) → b ≤ n → Sized b (n / b) s → Sized b n (suc s)
   more-digits n s h z = record {
     some = omega arith;
-    holds = subst (λ m. n < m) (sym (pow-suc b s)) (div-lt-iff-lt-mul {k = b} {x = n} {y = b ^ s} (omega arith) .0 (z .holds));
+    holds =
+        subst (λ m. n < m) (sym (pow-suc b s))
+        (div-lt-iff-lt-mul {k = b} {x = n} {y = b ^ s} (omega arith) .0 (z .holds));
     least = λ l. subst (λ m. b ^ m ≤ n) (let e : s ≡ suc s - 1 = omega arith in e) (go (decLt 1 s));
   }
     where
@@ -40,7 +46,7 @@ module _ (b : ℕ) (two : 1 < b) where
       go (yes l) =
           let e : suc (s - 1) ≡ s = omega arith in
           subst (λ m. b ^ m ≤ n) e (subst (λ m. m ≤ n) (sym (pow-suc b (s - 1)))
-              (le-div-iff-mul-le {k = b} {x = b ^ (s - 1)} {y = n} (omega arith) .0 (z .least l)))
+          (le-div-iff-mul-le {k = b} {x = b ^ (s - 1)} {y = n} (omega arith) .0 (z .least l)))
       go (no l) = let e : 1 ≡ s = let o = z .some in omega arith in
           subst (λ m. b ^ m ≤ n) e (let p = pow-one in omega arith)
 
@@ -53,7 +59,9 @@ module _ (b : ℕ) (two : 1 < b) where
   size-sized (suc k) n h = go (size-sized k (n / b)) (ltb n b) refl
     where
       less : n / b < b ^ suc k
-      less = div-lt-iff-lt-mul {k = b} {x = n} {y = b ^ suc k} (omega arith) .1 (subst (λ m. n < m) (pow-suc b (suc k)) h)
+      less =
+          div-lt-iff-lt-mul {k = b} {x = n} {y = b ^ suc k} (omega arith) .1
+          (subst (λ m. n < m) (pow-suc b (suc k)) h)
 
       go : (n / b < b ^ suc k → Sized b (n / b) (size b (suc k) (n / b))) → (t : Bool) → ltb n b ≡ t
           → Sized b n (if t then 1 else suc (size b (suc k) (n / b)))
@@ -67,7 +75,7 @@ module _ (b : ℕ) (two : 1 < b) where
       go (yes l) = l
       go (no l) =
           absurd (let g : b ^ y ≤ b ^ x = pow-le-pow-right {n = b} (omega arith) {i = y} {j = x} (omega arith) in
-              omega arith)
+          omega arith)
 
   pub fewest-size : (least n r s : ℕ) → 1 ≤ least → Fewest b least n r → Sized b n s → r ≡ max least s
   fewest-size least n r s one (above, holds, no-fewer) z = go (decLe least s)
@@ -77,7 +85,10 @@ module _ (b : ℕ) (two : 1 < b) where
         where
           case : Dec (s ≤ r) → s ≤ r
           case (yes l) = l
-          case (no l) = let g = z .least (omega arith) in let k = pow-less (s - 1) r (omega arith) in absurd (omega arith)
+          case (no l) =
+              let g = z .least (omega arith) in
+              let k = pow-less (s - 1) r (omega arith) in
+              absurd (omega arith)
 
       none-over : least < r → r ≤ s
       none-over l = let g = no-fewer l in let h = z .holds in let k = pow-less (r - 1) s (omega arith) in omega arith
@@ -100,13 +111,13 @@ unfolding decimal
 decimal-is n r h f =
     let z = size-sized 10 (omega arith) 19 n (omega arith) in
     ap (λ k. digits 10 k n) (fewest-size 10 (omega arith) 1 n r (size 10 20 n) (omega arith) f z ∙ max-eq-right
-        (z .some))
+    (z .some))
 
 pub hex-is : (w n r : ℕ) → n < 2 ^ 64 → Fewest 16 (min (max w 1) 16) n r → digits 16 r n ≡ hex w n
 unfolding hex
 hex-is w n r h f =
     ap (λ k. digits 16 k n) (fewest-size 16 (omega arith) (min (max w 1) 16) n r (size 16 16 n) (width (max w 1)
-        (le-max-right w 1)) f (size-sized 16 (omega arith) 15 n (omega arith)))
+    (le-max-right w 1)) f (size-sized 16 (omega arith) 15 n (omega arith)))
   where
     width : (m : ℕ) → 1 ≤ m → 1 ≤ min m 16
     width m h = go (decLe m 16)

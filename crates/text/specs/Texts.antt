@@ -1,14 +1,22 @@
 -- Text in lent bytes, and numbers as text.
--- In order: size, how many digits a number has; decimal, hex; Added, a text put behind another.
+-- In order: bytes, of a quoted text; size, how many digits a number has; decimal, hex; Added, a text put behind
+-- another.
 -- Assumes nothing.
 use mathlib.Core.Path.{_≡_}
-use mathlib.Core.List.{List, _++_}
+use mathlib.Core.List.{List, [], _∷_, _++_}
+use Prim.Native.Char.{code}
+use Prim.Native.String.{String, [] as []ˢ, _∷_ as _∷ˢ_}
 use Prim.Native.Nat.{ℕ, zero, suc, _/_, min, max}
 use lib.Dec.{ltb}
 use lib.ListN.{length, take}
 use Rattle.laws.specs.Lists.{if_then_else_}
 use Rattle.io.specs.Counts.{Counts}
 use Rattle.io.specs.Digits.{digits}
+
+-- the bytes of a quoted text of ASCII
+abbrev pub bytes : String → List ℕ
+bytes []ˢ = []
+bytes (c ∷ˢ s) = code c ∷ bytes s
 
 -- how many digits n has in base b, at most k
 abbrev pub size : ℕ → ℕ → ℕ → ℕ

@@ -69,9 +69,8 @@ pub fn put_number(out: &mut [u8], at: usize, name: &[u8], n: u64) -> usize
 
 // A name, a number in decimal and a newline behind the first `at` bytes; the answer is the place behind them.
 pub fn put_line(out: &mut [u8], at: usize, name: &[u8], n: u64) -> usize
-    ensures written {
-        λ r. ⌜ Added (now (name .entry) ++ decimal n ++ 10 ∷ []) at (now (out .entry)) (now (out .exit)) r ⌝
-    }
+    ensures written { λ r. ⌜
+        Added (now (name .entry) ++ decimal n ++ 10 ∷ []) at (now (out .entry)) (now (out .exit)) r ⌝ }
 {
     let number = put(out, at, name);
     let end = put_decimal(out, number, n);

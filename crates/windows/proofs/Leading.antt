@@ -7,17 +7,17 @@ use Prim.Native.Nat.{ℕ, _+_, _-_, _≤_, _<_}
 use native.Mathlib.Omega.{arith}
 use native.Mathlib.Decide.{decLt}
 use lib.Dec.{T}
-use Rattle.laws.specs.Lists.{range, all}
-use Rattle.laws.proofs.Tests.{and→, →and, all-below→, →all-below}
-use Rattle.laws.proofs.Settle.{iterate-fixed}
+use Rattle.laws.specs.Lists.{iterate}
 use Rattle.table.specs.Rows.{Rows, Size}
-use Rattle.table.specs.Works.{into, reversed, allPairs, clear, ahead, past, started, works}
+use Rattle.table.specs.Works.{into, reversed, works}
+use Rattle.table.specs.Paths.{Closed}
 use Rattle.table.specs.Window.{NoLater}
-use Rattle.table.specs.Search.{noSize, window}
+use Rattle.table.specs.Search.{noSize, window, hits, pasts, empty}
+use Rattle.table.proofs.Search.{works-by-hits}
 use Rattle.table.proofs.WindowLeast.{window-least}
 use Rattle.table.proofs.WindowOnly.{window-only, window-none}
 use Rattle.windows.specs.Steps.{size, Leading, Room}
-use Rattle.windows.proofs.Steps.{iterate-add, step-more}
+use Rattle.windows.proofs.PastSets.{pasts-rest}
 
 later-trans : (x y z : Size) → NoLater x y → NoLater y z → NoLater x z
 later-trans x y z (inl h) (inl k) = inl (omega arith)
@@ -26,7 +26,7 @@ later-trans x y z (inr h) (inl k) = inl (omega (arith, h .0))
 later-trans x y z (inr h) (inr k) = inr (h .0 ∙ k .0, omega (arith, h .1, k .1))
 
 module _ (t : Rows) where
-  pub lead-start : Leading t 0 (size 16 16)
+  pub lead-start : Leading t 0 noSize
   lead-start = record { better = λ w h l k. absurd (omega arith); known = inl refl }
 
   -- the numbers of the best so far
@@ -124,27 +124,18 @@ module _ (t : Rows) (m : ℕ) (z : Size) (h : Leading t m z) (l : m ≤ 16) wher
       over w a b k (no d) (inl x) = absurd (omega arith)
       over w a b k (no d) (inr x) = inl (omega arith)
 
--- ---- more memory that leads to the same pairs does not help
-past-rest : (t : Rows) (m : ℕ) → past t (m + 1) ≡ past t m → (k : ℕ) → past t (m + k) ≡ past t m
-past-rest t m e k =
-    iterate-add (into (reversed t)) m k (allPairs t)
-    ∙ iterate-fixed (into (reversed t)) k (past t m) (sym (step-more t m (allPairs t)) ∙ e)
-
-memory-rest : (t : Rows) (m j a : ℕ) → past t (m + 1) ≡ past t m → m ≤ j → T (works t (size j a))
+-- ---- memory with which the same pairs must agree does not help
+memory-rest : (t : Rows) → Closed t → (m j a : ℕ) → pasts t (m + 1) ≡ pasts t m → m ≤ j → T (works t (size j a))
     → T (works t (size m a))
-unfolding works
-memory-rest t m j a e l k =
-    let (k₁, k₂) = and→ (clear t (ahead t a) (past t j)) (all (λ i. clear t (ahead t a) (started t i)) (range j)) k in
+memory-rest t c m j a e l k =
     let d : m + (j - m) ≡ j = omega arith in
-    let q : past t j ≡ past t m = ap (past t) (sym d) ∙ past-rest t m e (j - m) in
-    →and (clear t (ahead t a) (past t m)) (all (λ i. clear t (ahead t a) (started t i)) (range m))
-    (subst (λ P. T (clear t (ahead t a) P)) q k₁)
-    (→all-below (λ i. clear t (ahead t a) (started t i)) m
-    (λ i h. all-below→ (λ i. clear t (ahead t a) (started t i)) j k₂ i (omega arith)))
+    let q : pasts t j ≡ pasts t m = ap (pasts t) (sym d) ∙ pasts-rest t c m e (j - m) in
+    works-by-hits t c m a .1
+    (subst (λ P. T (empty t (iterate (into (reversed t)) a (hits t P)))) q (works-by-hits t c j a .0 k))
 
-pub lead-rest : (t : Rows) (m : ℕ) (z : Size) → Leading t (m + 1) z → m < 16 → past t (m + 1) ≡ past t m
-    → window t ≡ z
-lead-rest t m z h l e =
+pub lead-rest : (t : Rows) → Closed t → (m : ℕ) (z : Size) → Leading t (m + 1) z → m < 16
+    → pasts t (m + 1) ≡ pasts t m → window t ≡ z
+lead-rest t c m z h l e =
     lead-all t z (known-up t (m + 1) z (omega arith) (h .known)) (λ w a b k. over w a b k (decLt (w .memory) (m + 1)))
   where
     over : (w : Size) → w .memory < 16 → w .lookahead < 16 → T (works t w) → Dec (w .memory < m + 1) → NoLater z w
@@ -152,7 +143,7 @@ lead-rest t m z h l e =
     over w a b k (no d) =
         later-trans z (size m (w .lookahead)) w
         (h .better (size m (w .lookahead)) (omega arith) b
-        (memory-rest t m (w .memory) (w .lookahead) e (omega arith) k)) (inl (omega arith))
+        (memory-rest t c m (w .memory) (w .lookahead) e (omega arith) k)) (inl (omega arith))
 
 -- memory 16 is the mark for none
 pub none-found : (t : Rows) (m a : ℕ) → window t ≡ size m a → m ≡ 16 → noSize ≡ window t

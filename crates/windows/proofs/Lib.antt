@@ -3,6 +3,7 @@ pub mod PairSets
 pub mod TwoEdges
 pub mod SetLaws
 pub mod Steps
+pub mod PastSets
 pub mod Lookahead
 pub mod Leading
 pub mod Turns

@@ -1,41 +1,43 @@
--- Laws of the sets of pairs that the code makes, joins and tests.
--- In order: all-of, none-of, start-of; union-pairs; empty-of; same-pairs.
+-- Laws of the sets of pairs that the code makes, copies and tests.
+-- In order: all-grid, all-of; start-put; set-more, copied; empty-of; same-pairs.
 -- Assumes nothing.
-use mathlib.Core.Path.{_≡_, refl, sym, ap, ap₂, subst, _∙_}
+use mathlib.Core.Path.{_≡_, refl, sym, ap, ap₂, _∙_}
 use mathlib.Core.Bool.{Bool, true, false, not, _&&_, _||_}
 use mathlib.Core.List.{List, [], _∷_, map}
 use Prim.Native.Nat.{ℕ, suc, _+_, _*_, _/_, _%_, _≤_, _<_}
 use native.Mathlib.Omega.{arith}
+use native.Mathlib.Decide.{ℕ-discrete}
 use lib.Dec.{T, T-not, not-T, eqb, eqb→eq, eqb-refl, ltb, ltb→lt, lt→ltb}
 use borrow.Author.Tests.{not-true}
-use lib.ListN.{length, set, replicate, getD-replicate}
+use lib.ListN.{length, set, length-set, replicate, getD-replicate}
+use lib.Seq.{getD-set-same, getD-set-other}
 use Rattle.laws.specs.Lists.{if_then_else_, from, range}
 use Rattle.laws.specs.Sets.{member, has, grid}
 use Rattle.laws.proofs.Tests.{and→, →and, bool-eq, all-below→, →all-below}
 use Rattle.table.specs.Rows.{Rows}
-use Rattle.table.specs.Works.{allPairs, startPair}
-use Rattle.table.specs.Search.{union, starts, empty}
-use Rattle.table.specs.Marks.{some, blank, Marked}
-use Rattle.table.proofs.Marks.{found, some-at, none-at, put-member, length-blank, blank-none}
-use Rattle.windows.specs.PairSets.{pairsIn, holdsAt, addsAt, differsAt}
+use Rattle.table.specs.Works.{into, reversed, allPairs, startPair}
+use Rattle.table.specs.Search.{empty}
+use Rattle.table.specs.Marks.{some}
+use Rattle.table.proofs.Marks.{found, some-at, none-at, put-member}
+use Rattle.table.proofs.EqualGrids.{has-grid}
+use Rattle.windows.specs.PairSets.{pairsIn, Long, holdsAt, differsAt}
+use Rattle.windows.specs.Steps.{withWord}
 use Rattle.windows.proofs.PairSets.{has-pairs, pairs-grid}
 
--- ---- all, none, the start's
+-- ---- all, and the start's
 map-const : {A B : Type 0} (c : B) (l : List A) (i : ℕ) → map (λ x. c) l ≡ map (λ x. c) (from i (length l))
 map-const c [] i = refl
 map-const c (x ∷ l) i = ap (λ r. c ∷ r) (map-const c l (suc i))
 
 module _ (t : Rows) where
-  all-grid : allPairs t ≡ grid (length t) (length t) (λ x y. true)
+  pub all-grid : allPairs t ≡ grid (length t) (length t) (λ x y. true)
   all-grid = ap (λ r. map (λ es. r) t) (map-const true t 0) ∙ map-const (map (λ y. true) (range (length t))) t 0
 
-  pub all-of : (k : ℕ) → length t * 128 ≤ k → length t ≤ 128 → pairsIn (length t) (replicate k true) ≡ allPairs t
-  all-of k h l =
-      pairs-grid (length t) (replicate k true) (λ x y. true)
-      (λ x y hx hy. getD-replicate k (x * 128 + y) true false (omega arith)) ∙ sym all-grid
-
-  pub none-of : (k : ℕ) → pairsIn (length t) (blank k) ≡ starts t 0
-  none-of k = pairs-grid (length t) (blank k) (λ x y. false) (λ x y hx hy. blank-none k (x * 128 + y))
+  pub all-of : (n k : ℕ) → length t ≡ n → n ≤ 128 → n * 128 ≤ k → pairsIn n (replicate k true) ≡ allPairs t
+  all-of n k e l h =
+      pairs-grid n (replicate k true) (λ x y. true)
+      (λ x y hx hy. getD-replicate k (x * 128 + y) true false (omega arith))
+      ∙ ap (λ m. grid m m (λ x y. true)) (sym e) ∙ sym all-grid
 
   start-place : (x y : ℕ) → eqb 0 (x * 128 + y) ≡ (eqb x 0 && eqb y 0)
   start-place x y = bool-eq (eqb 0 (x * 128 + y)) (eqb x 0 && eqb y 0)
@@ -47,28 +49,37 @@ module _ (t : Rows) where
       let e : x * 128 + y ≡ 0 = omega (arith, eqb→eq x 0 p, eqb→eq y 0 q) in
       rw e (eqb-refl 0))
 
-  pub start-of : (k : ℕ) → 0 < k → pairsIn (length t) (set (blank k) 0 true) ≡ startPair t
-  start-of k h =
-      pairs-grid (length t) (set (blank k) 0 true) (λ x y. eqb x 0 && eqb y 0)
-      (λ x y hx hy. put-member (blank k) 0 (x * 128 + y) (rw (length-blank k) h)
-      ∙ ap₂ (λ a b. a || b) (blank-none k (x * 128 + y)) (start-place x y))
+  -- the start's pair put into a set that is one word on from A
+  pub start-put : (n : ℕ) (A R : List Bool) → length t ≡ n → n ≤ 128 → Long R
+      → pairsIn n R ≡ into (reversed t) (pairsIn n A)
+      → (pairsIn n (set R 0 true) ≡ withWord t (pairsIn n A)) × Long (set R 0 true)
+  start-put n A R e h l q =
+      let some : 0 < length R = rw l (omega arith) in (
+        pairs-grid n (set R 0 true) (λ x y. has (into (reversed t) (pairsIn n A)) x y || has (startPair t) x y)
+            (λ x y hx hy. put-member R 0 (x * 128 + y) some
+            ∙ ap₂ (λ a b. a || b) (sym (has-pairs n R x y hx hy) ∙ ap (λ P. has P x y) q)
+            (start-place x y ∙ sym (start-at x y (rw e hx) (rw e hy))))
+            ∙ ap (λ k. grid k k (λ x y. has (into (reversed t) (pairsIn n A)) x y || has (startPair t) x y)) (sym e),
+        length-set R 0 true ∙ l,
+      )
+    where
+      start-at : (x y : ℕ) → x < length t → y < length t → has (startPair t) x y ≡ (eqb x 0 && eqb y 0)
+      start-at x y hx hy = has-grid (length t) (length t) (λ s u. eqb s 0 && eqb u 0) x y hx hy
 
--- ---- the union
-adds : (Q : List Bool) (n x : ℕ) → x < n → some (addsAt Q x) n ≡ member Q x
-adds Q n x h = bool-eq (some (addsAt Q x) n) (member Q x)
-    (λ v. let (z, l, w) = found (addsAt Q x) n v in
-    let (m, e) = and→ (member Q z) (eqb z x) w in
-    subst (λ k. T (member Q k)) (eqb→eq z x e) m)
-    (λ v. some-at (addsAt Q x) n x h (→and (member Q x) (eqb x x) v (eqb-refl x)))
+-- ---- places set from the first on
+pub set-more : (f : ℕ → Bool) (R : List Bool) (z : ℕ) (b : Bool) → b ≡ f z → z < length R
+    → ((j : ℕ) → j < z → member R j ≡ f j) → (j : ℕ) → j < z + 1 → member (set R z b) j ≡ f j
+set-more f R z b e h k j l = go (ℕ-discrete j z)
+  where
+    go : Dec (j ≡ z) → member (set R z b) j ≡ f j
+    go (yes q) = rw q (getD-set-same R z b false h ∙ e)
+    go (no q) = getD-set-other R z j b false q ∙ k j (omega arith)
 
-pub union-pairs : (t : Rows) (n : ℕ) (A B R : List Bool) → length t ≡ n → n ≤ 128 → Marked A (addsAt B) (n * 128) R
-    → pairsIn n R ≡ union t (pairsIn n A) (pairsIn n B)
-union-pairs t n A B R e h m =
-    pairs-grid n R (λ x y. has (pairsIn n A) x y || has (pairsIn n B) x y)
-    (λ x y hx hy. m .holds (x * 128 + y)
-    ∙ ap₂ (λ a b. a || b) (sym (has-pairs n A x y hx hy))
-    (adds B (n * 128) (x * 128 + y) (omega arith) ∙ sym (has-pairs n B x y hx hy)))
-    ∙ ap (λ k. grid k k (λ x y. has (pairsIn n A) x y || has (pairsIn n B) x y)) (sym e)
+pub copied : (n : ℕ) (A R : List Bool) → n ≤ 128 → ((j : ℕ) → j < n * 128 → member R j ≡ member A j)
+    → pairsIn n R ≡ pairsIn n A
+copied n A R h k =
+    pairs-grid n R (λ x y. member A (x * 128 + y)) (λ x y hx hy. k (x * 128 + y) (omega arith))
+    ∙ sym (pairs-grid n A (λ x y. member A (x * 128 + y)) (λ x y hx hy. refl))
 
 -- ---- no pair
 module _ (t : Rows) (n : ℕ) (P : List Bool) (e : length t ≡ n) (h : n ≤ 128) where
@@ -107,11 +118,5 @@ alike false false e = refl
 
 pub same-pairs : (n : ℕ) (A B : List Bool) → n ≤ 128 → not (some (differsAt A B) (n * 128)) ≡ true
     → pairsIn n A ≡ pairsIn n B
-same-pairs n A B h e =
-    pairs-grid n A (λ x y. member B (x * 128 + y)) (λ x y hx hy. at x y hx hy)
-    ∙ sym (pairs-grid n B (λ x y. member B (x * 128 + y)) (λ x y hx hy. refl))
-  where
-    at : (x y : ℕ) → x < n → y < n → member A (x * 128 + y) ≡ member B (x * 128 + y)
-    at x y hx hy =
-        alike (member A (x * 128 + y)) (member B (x * 128 + y))
-        (none-at (differsAt A B) (n * 128) (x * 128 + y) (not-true _ e) (omega arith))
+same-pairs n A B h e = copied n B A h
+    (λ j l. alike (member A j) (member B j) (none-at (differsAt A B) (n * 128) j (not-true _ e) l))

@@ -1,7 +1,7 @@
--- Laws of the sets of pairs that the search for a window keeps.
--- In order: iterate-add; step-more, reached-more, reached-hits; Stepped, stepped-start to stepped-rest.
+-- Steps until a set of pairs is empty.
+-- In order: iterate-add, step-more; Stepped, stepped-start to stepped-rest.
 -- Assumes nothing.
-use mathlib.Core.Path.{_≡_, sym, ap, ap₂, _∙_}
+use mathlib.Core.Path.{_≡_, sym, ap, _∙_}
 use mathlib.Core.Bool.{Bool, true, false}
 use mathlib.Core.List.{List}
 use Prim.Native.Nat.{ℕ, zero, suc, _+_, _-_, _≤_, _<_}
@@ -14,38 +14,21 @@ use Rattle.laws.specs.Lists.{iterate}
 use Rattle.laws.specs.Sets.{Pairs}
 use Rattle.laws.proofs.Settle.{iterate-suc, iterate-fixed}
 use Rattle.table.specs.Rows.{Rows}
-use Rattle.table.specs.Works.{into, reversed, allPairs, startPair}
-use Rattle.table.specs.Search.{hits, union, starts, pasts, empty}
-use Rattle.windows.specs.declared.Pasts.{Pasts}
+use Rattle.table.specs.Works.{into, reversed}
+use Rattle.table.specs.Search.{empty}
 use Rattle.windows.specs.PairSets.{pairsIn}
-use Rattle.windows.specs.Steps.{Reached, Emptied}
+use Rattle.windows.specs.Steps.{Emptied}
 
-pub iterate-add : {A : Type 0} (f : A → A) (k i : ℕ) (x : A) → iterate f (k + i) x ≡ iterate f i (iterate f k x)
+iterate-add : {A : Type 0} (f : A → A) (k i : ℕ) (x : A) → iterate f (k + i) x ≡ iterate f i (iterate f k x)
 iterate-add f zero i x = ap (λ n. iterate f n x) (zero-add i)
 iterate-add f (suc k) i x = ap (λ n. iterate f n x) (suc-add k i) ∙ iterate-add f k i (f x)
 
 module _ (t : Rows) where
   -- one step more, in the code's way to count
-  pub step-more : (i : ℕ) (H : Pairs)
+  step-more : (i : ℕ) (H : Pairs)
       → iterate (into (reversed t)) (i + 1) H ≡ into (reversed t) (iterate (into (reversed t)) i H)
   step-more i H =
       ap (λ k. iterate (into (reversed t)) k H) (add-one i) ∙ iterate-suc (into (reversed t)) i H
-
-  module _ (n : ℕ) where
-    pub reached-more : (i : ℕ) (g r : Pasts) → pairsIn n (r .all) ≡ into (reversed t) (pairsIn n (g .all))
-        → pairsIn n (r .first) ≡ into (reversed t) (pairsIn n (g .first))
-        → pairsIn n (r .earlier) ≡ union t (pairsIn n (g .earlier)) (pairsIn n (g .first))
-        → Reached t n i g → Reached t n (i + 1) r
-    reached-more i g r a f e h = record {
-      all = a ∙ ap (into (reversed t)) (h .all) ∙ sym (step-more i (allPairs t));
-      first = f ∙ ap (into (reversed t)) (h .first) ∙ sym (step-more i (startPair t));
-      earlier = e ∙ ap₂ (union t) (h .earlier) (h .first) ∙ ap (starts t) (sym (add-one i));
-    }
-
-    pub reached-hits : (i : ℕ) (g : Pasts) (P R : List Bool)
-        → pairsIn n P ≡ union t (pairsIn n (g .all)) (pairsIn n (g .earlier)) → pairsIn n R ≡ hits t (pairsIn n P)
-        → Reached t n i g → pairsIn n R ≡ hits t (pasts t i)
-    reached-hits i g P R p r h = r ∙ ap (hits t) (p ∙ ap₂ (union t) (h .all) (h .earlier))
 
 -- ---- steps until a set is empty: the set after k of them, none of those before it empty
 pub record Stepped (t : Rows) (n : ℕ) (H : Pairs) (most : ℕ) (cur : List Bool) (k : ℕ) : Type 0 where

@@ -207,16 +207,16 @@ module _ (t : Arrays) (g : Fits t) (P : List Bool) (x y : ℕ) (hx : x < t .stat
 
 -- ---- what the code's array holds
 module _ (t : Arrays) (g : Fits t) (P R : List Bool) (apart : Bool)
-    (h : (z : ℕ) → member R z ≡ some (joinsAny t P apart z) (places t)) where
+    (h : (z : ℕ) → z < t .states * 128 → member R z ≡ some (joinsAny t P apart z) (places t)) where
   by-two : (Q : Pairs) → ((x y : ℕ) → x < t .states → y < t .states → Two t P apart x y → T (has Q x y))
       → ((x y : ℕ) → x < t .states → y < t .states → T (has Q x y) → Two t P apart x y)
       → pairsIn (t .states) R ≡ grid (t .states) (t .states) (has Q)
-  by-two Q f k = pairs-grid (t .states) R (has Q) (λ x y hx hy. h (x * 128 + y)
+  by-two Q f k = pairs-grid (t .states) R (has Q) (λ x y hx hy. h (x * 128 + y) (omega (arith, g .few))
       ∙ bool-eq (some (joinsAny t P apart (x * 128 + y)) (places t)) (has Q x y)
       (λ v. f x y hx hy (two→ t g P apart x y hy v)) (λ v. →two t g P apart x y hy (k x y hx hy v)))
 
 pub step-pairs : (t : Arrays) → Fits t → (P R : List Bool)
-    → ((z : ℕ) → member R z ≡ some (joinsAny t P false z) (places t))
+    → ((z : ℕ) → z < t .states * 128 → member R z ≡ some (joinsAny t P false z) (places t))
     → pairsIn (t .states) R ≡ into (reversed (rowsOf t)) (pairsIn (t .states) P)
 step-pairs t g P R h =
     let Q = into (reversed (rowsOf t)) (pairsIn (t .states) P) in
@@ -224,7 +224,7 @@ step-pairs t g P R h =
     ∙ sym (into-grid (rowsOf t) (pairsIn (t .states) P) ∙ ap (λ n. grid n n (has Q)) (length-rows t))
 
 pub hits-pairs : (t : Arrays) → Fits t → (P R : List Bool)
-    → ((z : ℕ) → member R z ≡ some (joinsAny t P true z) (places t))
+    → ((z : ℕ) → z < t .states * 128 → member R z ≡ some (joinsAny t P true z) (places t))
     → pairsIn (t .states) R ≡ hits (rowsOf t) (pairsIn (t .states) P)
 hits-pairs t g P R h =
     let Q = hits (rowsOf t) (pairsIn (t .states) P) in

@@ -1,11 +1,12 @@
 -- Sets of pairs of states in an array, the pair of x and y at x * 128 + y, and the tests by which the code marks them.
--- In order: pairsIn; counts, joins, leftOut, joinsAny, two edges with one word; holdsAt, addsAt, differsAt.
+-- In order: pairsIn; Long; counts, joins, leftOut, joinsAny, two edges with one word; holdsAt, differsAt.
 -- Assumes nothing.
+use mathlib.Core.Path.{_≡_}
 use mathlib.Core.Bool.{Bool, false, not, _&&_}
 use mathlib.Core.List.{List}
 use Prim.Native.Nat.{ℕ, _+_, _*_, _/_, _%_}
 use lib.Dec.{eqb, ltb}
-use lib.ListN.{getD}
+use lib.ListN.{length, getD}
 use Rattle.laws.specs.Lists.{if_then_else_}
 use Rattle.laws.specs.Sets.{member, Pairs, grid}
 use Rattle.table.specs.Marks.{some}
@@ -14,6 +15,10 @@ use Rattle.table.specs.Edges.{Arrays, places, isEdge, wordOf, nextOf, bears}
 -- the pairs of n states that the array A holds
 unfoldable pub pairsIn : ℕ → List Bool → Pairs
 pairsIn n A = grid n n (λ x y. getD A (x * 128 + y) false)
+
+-- the array has a place for each pair
+abbrev pub Long : List Bool → Type 0
+Long A = length A ≡ 16384
 
 -- the pair of x and the state of edge j is in P, and j does not carry the datum k
 abbrev pub counts : List Bool → ℕ → ℕ → ℕ → Bool
@@ -35,10 +40,6 @@ joinsAny t P apart z i = isEdge t i && some (joins t P (leftOut apart i) i z) (p
 -- the place z holds a pair of P of n states
 abbrev pub holdsAt : ℕ → List Bool → ℕ → Bool
 holdsAt n P z = ltb (z % 128) n && member P z
-
--- turn z adds the place x
-abbrev pub addsAt : List Bool → ℕ → ℕ → Bool
-addsAt Q x z = member Q z && eqb z x
 
 -- one of A and B holds the place z, and the other does not
 abbrev pub differsAt : List Bool → List Bool → ℕ → Bool

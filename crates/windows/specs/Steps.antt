@@ -1,6 +1,6 @@
 -- What the search for a window keeps while it steps sets of pairs.
--- In order: size; Reached, the sets that i common words lead to; Emptied, the number of steps until a set is empty;
--- Leading, the best window so far; foundSize; Room.
+-- In order: size; withWord, one word of memory more; Emptied, the number of steps until a set is empty; Leading, the
+-- best window so far; foundSize; Room.
 -- Assumes nothing.
 use mathlib.Core.Path.{_≡_}
 use mathlib.Core.Bool.{true, false}
@@ -10,24 +10,20 @@ use lib.Dec.{T}
 use Rattle.laws.specs.Lists.{iterate}
 use Rattle.laws.specs.Sets.{Pairs}
 use Rattle.table.specs.Rows.{Rows, Size}
-use Rattle.table.specs.Works.{into, reversed, past, started, works}
+use Rattle.table.specs.Works.{into, reversed, startPair, works}
 use Rattle.table.specs.Window.{NoLater}
-use Rattle.table.specs.Search.{noSize, starts, empty}
-use Rattle.windows.specs.declared.Pasts.{Pasts}
+use Rattle.table.specs.Search.{noSize, union, empty}
 use Rattle.windows.specs.declared.least.Found.{Found}
 use Rattle.windows.specs.declared.least.Found.the-variants.{None, Window}
-use Rattle.windows.specs.PairSets.{pairsIn}
 
 -- memory m and lookahead a
 abbrev pub size : ℕ → ℕ → Size
 size m a = record { memory = m; lookahead = a }
 
--- the pairs that i common words lead to from any two states and from the start, and those that fewer lead to from the
--- start
-pub record Reached (t : Rows) (n i : ℕ) (g : Pasts) : Type 0 where
-  pub all : pairsIn n (g .all) ≡ past t i
-  pub first : pairsIn n (g .first) ≡ started t i
-  pub earlier : pairsIn n (g .earlier) ≡ starts t i
+-- the pairs that one common word leads to from P, and that of the start with itself: from the pairs whose next edges
+-- must agree under one memory, those under the next
+abbrev pub withWord : Rows → Pairs → Pairs
+withWord t P = union t (into (reversed t) P) (startPair t)
 
 -- after r steps forward, and not before, no pair of H is left; where r is over `most`, one is left after `most` steps
 pub record Emptied (t : Rows) (H : Pairs) (most r : ℕ) : Type 0 where

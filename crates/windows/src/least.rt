@@ -1,19 +1,15 @@
 // The search for the least window: for each memory, sets of pairs of states are stepped until they are empty.
 ghost use mathlib.Core.Path.{_≡_};
-ghost use mathlib.Core.Bool.{true};
 ghost use mathlib.Core.Logic.{_⊎_};
-ghost use Prim.Native.Nat.{ℕ, _+_, _≤_, _<_};
+ghost use Prim.Native.Nat.{_+_, _≤_, _<_};
 ghost use Rattle.table.specs.Value.{Ready, rowsIn};
-ghost use Rattle.table.specs.Search.{window};
+ghost use Rattle.table.specs.Search.{noSize, window, pasts};
 ghost use Rattle.table.specs.Edges.{arrays, rowsOf, Linked};
-ghost use Rattle.windows.specs.PairSets.{pairsIn};
-ghost use Rattle.windows.specs.Steps.{size, Reached, Leading, Room, foundSize};
-use crate::Pasts;
-use crate::begin;
+ghost use Rattle.windows.specs.PairSets.{pairsIn, Long};
+ghost use Rattle.windows.specs.Steps.{size, withWord, Leading, Room, foundSize};
 use crate::emptied;
-use crate::hits_of;
 use crate::more;
-use crate::pair_sets::same_pairs;
+use crate::pairs::clashes;
 use table::Table;
 use table::chains::chain;
 use table::chains::ways;
@@ -28,6 +24,16 @@ struct Best {
 pub enum Found {
     None,
     Window(usize, usize),
+}
+
+// No window.
+fn no_window() -> Best
+    ensures answer { λ r. ⌜ size (r .memory) (r .lookahead) ≡ noSize ⌝ }
+{
+    Best {
+        memory: 16,
+        lookahead: 16,
+    }
 }
 
 // The most lookahead with which memory m can be better than the best so far.
@@ -50,22 +56,26 @@ fn better(
     next: &[u8; 2048],
     head: &[u16; 256],
     link: &[u16; 2048],
-    g: Pasts,
+    past: &[bool; 16384],
     best: Best,
     m: usize,
+    set: &mut [bool; 16384],
+    spare: &mut [bool; 16384],
 ) -> Best
     requires { ⌜
         Linked (arrays states n (now word) (now next)) (now head) (now link) × (m ≤ 15)
         × (m ≤ best .memory + best .lookahead)
-        × Reached (rowsOf (arrays states n (now word) (now next))) states m g
-        × Leading (rowsOf (arrays states n (now word) (now next))) m (size (best .memory) (best .lookahead)) ⌝ }
+        × (pairsIn states (now past) ≡ pasts (rowsOf (arrays states n (now word) (now next))) m)
+        × Leading (rowsOf (arrays states n (now word) (now next))) m (size (best .memory) (best .lookahead))
+        × Long (now set) × Long (now spare) ⌝ }
     ensures answer { λ r. ⌜
         Leading (rowsOf (arrays states n (now (word .entry)) (now (next .entry)))) (m + 1)
         (size (r .memory) (r .lookahead)) ⌝ }
+    ensures kept { λ r. ⌜ Long (now (set .exit)) × Long (now (spare .exit)) ⌝ }
 {
-    let h = hits_of(states, n, word, next, head, link, g);
+    clashes(states, n, word, next, head, link, past, set);
     let most = room(best, m);
-    let a = emptied(states, n, word, next, head, link, h, most);
+    let a = emptied(states, n, word, next, head, link, most, set, spare);
     if a <= most {
         return Best {
             memory: m,
@@ -88,42 +98,41 @@ fn stop_of(best: Best) -> usize
     16
 }
 
-// The sets after one word more, if they are wanted.
-fn more_if(
+// Steps the pairs to memory m if it is below `last`, one more than the last memory that can be better; where they stay
+// the same no larger memory is better. One more than the last memory to be tried.
+fn stop_at(
     states: usize,
     n: usize,
     word: &[u8; 2048],
     next: &[u8; 2048],
     head: &[u16; 256],
     link: &[u16; 2048],
-    g: Pasts,
-    wanted: bool,
-) -> Pasts
-    requires { ⌜ Linked (arrays states n (now word) (now next)) (now head) (now link) ⌝ }
+    m: usize,
+    last: usize,
+    past: &mut [bool; 16384],
+    spare: &mut [bool; 16384],
+) -> usize
+    requires { ⌜
+        Linked (arrays states n (now word) (now next)) (now head) (now link) × Long (now past) × Long (now spare) ⌝ }
     ensures answer { λ r. ⌜
-        ((i : ℕ) → wanted ≡ true
-        → Reached (rowsOf (arrays states n (now (word .entry)) (now (next .entry)))) states i g
-        → Reached (rowsOf (arrays states n (now (word .entry)) (now (next .entry)))) states (i + 1) r) ⌝ }
+        ((r ≡ last) ⊎ ((r ≡ 0) × (m < last)
+        × (pairsIn states (now (past .exit)) ≡ pairsIn states (now (past .entry))))) ⌝ }
+    ensures written { λ r. ⌜
+        (m < last → pairsIn states (now (past .exit))
+        ≡ withWord (rowsOf (arrays states n (now (word .entry)) (now (next .entry))))
+        (pairsIn states (now (past .entry)))) ⌝ }
+    ensures kept { λ r. ⌜ Long (now (past .exit)) × Long (now (spare .exit)) ⌝ }
 {
-    if wanted {
-        return more(states, n, word, next, head, link, g);
+    if last <= m {
+        return last;
     }
-    g
-}
-
-// 0 where two sets hold the same pairs, otherwise `stop`.
-fn stop_at(states: usize, a: &[bool; 16384], b: &[bool; 16384], stop: usize) -> usize
-    requires { ⌜ states ≤ 128 ⌝ }
-    ensures answer { λ r. ⌜
-        ((r ≡ stop) ⊎ ((r ≡ 0) × (pairsIn states (now (a .entry)) ≡ pairsIn states (now (b .entry))))) ⌝ }
-{
-    if same_pairs(states, a, b) {
+    if more(states, n, word, next, head, link, past, spare) {
         return 0;
     }
-    stop
+    last
 }
 
-// The least window, or 16 and 16. Where one word more leads any two states to the same pairs, no larger memory helps.
+// The least window, or 16 and 16.
 fn least(
     states: usize,
     n: usize,
@@ -136,21 +145,40 @@ fn least(
     ensures answer { λ r. ⌜
         window (rowsOf (arrays states n (now (word .entry)) (now (next .entry)))) ≡ size (r .memory) (r .lookahead) ⌝ }
 {
-    let mut g = begin();
-    let mut best = Best {
-        memory: 16,
-        lookahead: 16,
-    };
+    let mut past = [true; 16384];
+    let mut set = [false; 16384];
+    let mut spare = [false; 16384];
+    let mut best = no_window();
     let mut stop: usize = 16;
     let mut m = 0;
     while m < stop {
-        let b = better(states, n, word, next, head, link, g, best, m);
+        let b = better(
+            states,
+            n,
+            word,
+            next,
+            head,
+            link,
+            &past,
+            best,
+            m,
+            &mut set,
+            &mut spare,
+        );
         best = b;
         m += 1;
-        let last = stop_of(b);
-        let r = more_if(states, n, word, next, head, link, g, m < last);
-        stop = stop_at(states, &r.all, &g.all, last);
-        g = r;
+        stop = stop_at(
+            states,
+            n,
+            word,
+            next,
+            head,
+            link,
+            m,
+            stop_of(b),
+            &mut past,
+            &mut spare,
+        );
     }
     best
 }

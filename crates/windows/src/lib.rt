@@ -1,20 +1,16 @@
-// The window test, by sets of pairs of states; no path is ever listed.
+// The window test, by sets of pairs of states in two arrays; no path is ever listed.
 ghost use mathlib.Core.Path.{_≡_};
-ghost use Prim.Native.Nat.{ℕ, _+_, _≤_, _<_};
-ghost use lib.ListN.{length};
-ghost use Rattle.table.specs.Rows.{Rows};
+ghost use mathlib.Core.Bool.{true};
+ghost use Prim.Native.Nat.{_≤_};
 ghost use Rattle.table.specs.Value.{Ready, rowsIn};
-ghost use Rattle.table.specs.Works.{works};
-ghost use Rattle.table.specs.Search.{hits, pasts};
+ghost use Rattle.table.specs.Works.{works, allPairs};
+ghost use Rattle.table.specs.Search.{pasts};
 ghost use Rattle.table.specs.Edges.{arrays, rowsOf, Linked};
-ghost use Rattle.windows.specs.PairSets.{pairsIn};
-ghost use Rattle.windows.specs.Steps.{size, Reached, Emptied};
-use crate::pair_sets::all_pairs;
+ghost use Rattle.windows.specs.PairSets.{pairsIn, Long};
+ghost use Rattle.windows.specs.Steps.{size, withWord, Emptied};
+use crate::pair_sets::copy;
 use crate::pair_sets::is_empty;
-use crate::pair_sets::no_pairs;
 use crate::pair_sets::same_pairs;
-use crate::pair_sets::start_pair;
-use crate::pair_sets::union_of;
 use crate::pairs::clashes;
 use crate::pairs::forward;
 use table::Table;
@@ -25,26 +21,7 @@ pub mod least;
 mod pair_sets;
 mod pairs;
 
-// The pairs that a number of common words lead to from any two states and from the start, and those that fewer lead to
-// from the start.
-struct Pasts {
-    all: [bool; 16384],
-    first: [bool; 16384],
-    earlier: [bool; 16384],
-}
-
-// The sets before any word.
-fn begin() -> Pasts
-    ensures answer { λ r. ⌜ ((t : Rows) → length t ≤ 128 → Reached t (length t) 0 r) ⌝ }
-{
-    Pasts {
-        all: all_pairs(),
-        first: start_pair(),
-        earlier: no_pairs(),
-    }
-}
-
-// The sets after one word more.
+// Steps the pairs whose next edges must agree by one word of memory more; whether they stay the same.
 fn more(
     states: usize,
     n: usize,
@@ -52,24 +29,28 @@ fn more(
     next: &[u8; 2048],
     head: &[u16; 256],
     link: &[u16; 2048],
-    g: Pasts,
-) -> Pasts
-    requires { ⌜ Linked (arrays states n (now word) (now next)) (now head) (now link) ⌝ }
-    ensures answer { λ r. ⌜
-        ((i : ℕ) → Reached (rowsOf (arrays states n (now (word .entry)) (now (next .entry)))) states i g
-        → Reached (rowsOf (arrays states n (now (word .entry)) (now (next .entry)))) states (i + 1) r) ⌝ }
+    past: &mut [bool; 16384],
+    spare: &mut [bool; 16384],
+) -> bool
+    requires { ⌜
+        Linked (arrays states n (now word) (now next)) (now head) (now link) × Long (now past) × Long (now spare) ⌝ }
+    ensures answer { λ r. ⌜ (r ≡ true → pairsIn states (now (past .exit)) ≡ pairsIn states (now (past .entry))) ⌝ }
+    ensures written { λ r. ⌜
+        pairsIn states (now (past .exit))
+        ≡ withWord (rowsOf (arrays states n (now (word .entry)) (now (next .entry))))
+        (pairsIn states (now (past .entry))) ⌝ }
+    ensures kept { λ r. ⌜ Long (now (past .exit)) × Long (now (spare .exit)) ⌝ }
 {
-    let all = forward(states, n, word, next, head, link, &g.all);
-    let earlier = union_of(states, g.earlier, &g.first);
-    let first = forward(states, n, word, next, head, link, &g.first);
-    Pasts {
-        all: all,
-        first: first,
-        earlier: earlier,
+    forward(states, n, word, next, head, link, past, spare);
+    spare[0] = true;
+    if same_pairs(states, spare, past) {
+        return true;
     }
+    copy(states, spare, past);
+    false
 }
 
-// The sets after m words.
+// Steps all pairs to those whose next edges must agree under memory m.
 fn after(
     states: usize,
     n: usize,
@@ -78,40 +59,24 @@ fn after(
     head: &[u16; 256],
     link: &[u16; 2048],
     m: usize,
-) -> Pasts
-    requires { ⌜ Linked (arrays states n (now word) (now next)) (now head) (now link) ⌝ }
-    ensures answer { λ r. ⌜
-        Reached (rowsOf (arrays states n (now (word .entry)) (now (next .entry)))) states m r ⌝ }
+    past: &mut [bool; 16384],
+    spare: &mut [bool; 16384],
+)
+    requires { ⌜
+        Linked (arrays states n (now word) (now next)) (now head) (now link) × Long (now past) × Long (now spare)
+        × (pairsIn states (now past) ≡ allPairs (rowsOf (arrays states n (now word) (now next)))) ⌝ }
+    ensures written { λ r. ⌜
+        pairsIn states (now (past .exit))
+        ≡ pasts (rowsOf (arrays states n (now (word .entry)) (now (next .entry)))) m ⌝ }
+    ensures kept { λ r. ⌜ Long (now (past .exit)) × Long (now (spare .exit)) ⌝ }
 {
-    let mut g = begin();
     let mut i = 0;
     while i < m {
-        let r = more(states, n, word, next, head, link, g);
-        g = r;
+        if more(states, n, word, next, head, link, past, spare) {
+            return;
+        }
         i += 1;
     }
-    g
-}
-
-// The pairs that a clash leads to from all pairs whose next edges must agree.
-fn hits_of(
-    states: usize,
-    n: usize,
-    word: &[u8; 2048],
-    next: &[u8; 2048],
-    head: &[u16; 256],
-    link: &[u16; 2048],
-    g: Pasts,
-) -> [bool; 16384]
-    requires { ⌜ Linked (arrays states n (now word) (now next)) (now head) (now link) ⌝ }
-    ensures answer { λ r. ⌜
-        ((i : ℕ) → Reached (rowsOf (arrays states n (now (word .entry)) (now (next .entry)))) states i g
-        → pairsIn states r
-        ≡ hits (rowsOf (arrays states n (now (word .entry)) (now (next .entry))))
-        (pasts (rowsOf (arrays states n (now (word .entry)) (now (next .entry)))) i)) ⌝ }
-{
-    let p = union_of(states, g.all, &g.earlier);
-    clashes(states, n, word, next, head, link, &p)
 }
 
 // The number of words after which no pair of the set is left, or one more than `most`. A set that a word leads to
@@ -123,27 +88,31 @@ fn emptied(
     next: &[u8; 2048],
     head: &[u16; 256],
     link: &[u16; 2048],
-    set: [bool; 16384],
     most: usize,
+    set: &mut [bool; 16384],
+    spare: &mut [bool; 16384],
 ) -> usize
-    requires { ⌜ Linked (arrays states n (now word) (now next)) (now head) (now link) × (most ≤ 15) ⌝ }
+    requires { ⌜
+        Linked (arrays states n (now word) (now next)) (now head) (now link) × (most ≤ 15) × Long (now set)
+        × Long (now spare) ⌝ }
     ensures answer { λ r. ⌜
-        Emptied (rowsOf (arrays states n (now (word .entry)) (now (next .entry)))) (pairsIn states set) most r ⌝ }
+        Emptied (rowsOf (arrays states n (now (word .entry)) (now (next .entry)))) (pairsIn states (now (set .entry)))
+        most r ⌝ }
+    ensures kept { λ r. ⌜ Long (now (set .exit)) × Long (now (spare .exit)) ⌝ }
 {
-    let mut cur = set;
     let mut k = 0;
     while k < most {
-        if is_empty(states, &cur) {
+        if is_empty(states, set) {
             return k;
         }
-        let r = forward(states, n, word, next, head, link, &cur);
-        if same_pairs(states, &r, &cur) {
+        forward(states, n, word, next, head, link, set, spare);
+        if same_pairs(states, spare, set) {
             return most + 1;
         }
-        cur = r;
+        copy(states, spare, set);
         k += 1;
     }
-    if is_empty(states, &cur) {
+    if is_empty(states, set) {
         return k;
     }
     k + 1
@@ -164,9 +133,32 @@ fn works_by(
     ensures answer { λ r. ⌜
         r ≡ works (rowsOf (arrays states n (now (word .entry)) (now (next .entry)))) (size memory lookahead) ⌝ }
 {
-    let g = after(states, n, word, next, head, link, memory);
-    let h = hits_of(states, n, word, next, head, link, g);
-    emptied(states, n, word, next, head, link, h, lookahead) <= lookahead
+    let mut past = [true; 16384];
+    let mut hits = [false; 16384];
+    after(
+        states,
+        n,
+        word,
+        next,
+        head,
+        link,
+        memory,
+        &mut past,
+        &mut hits,
+    );
+    clashes(states, n, word, next, head, link, &past, &mut hits);
+    emptied(
+        states,
+        n,
+        word,
+        next,
+        head,
+        link,
+        lookahead,
+        &mut hits,
+        &mut past,
+    )
+        <= lookahead
 }
 
 // The window with this memory and lookahead does what a window must.

@@ -1,54 +1,40 @@
-// Sets of pairs of states, the pair of x and y at x * 128 + y: all, none, the start's, unions, and the test for none.
+// Sets of pairs of states, the pair of x and y at x * 128 + y, in arrays that are lent: cleared, copied and compared.
+// Only the places of the first `states` rows count.
 ghost use mathlib.Core.Path.{_≡_};
-ghost use mathlib.Core.Bool.{not};
-ghost use Prim.Native.Nat.{_+_, _*_, _≤_, _<_};
+ghost use mathlib.Core.Bool.{false, not};
+ghost use Prim.Native.Nat.{ℕ, _*_, _≤_, _<_};
 ghost use lib.ListN.{length};
 ghost use Rattle.laws.specs.Lists.{if_then_else_};
+ghost use Rattle.laws.specs.Sets.{member};
 ghost use Rattle.table.specs.Marks.{some};
 ghost use Rattle.table.specs.Rows.{Rows};
-ghost use Rattle.table.specs.Works.{allPairs, startPair};
-ghost use Rattle.table.specs.Search.{union, starts, empty};
-ghost use Rattle.windows.specs.PairSets.{pairsIn, holdsAt, differsAt};
+ghost use Rattle.table.specs.Search.{empty};
+ghost use Rattle.windows.specs.PairSets.{pairsIn, Long, holdsAt, differsAt};
 
-// All pairs.
-pub fn all_pairs() -> [bool; 16384]
-    ensures answer { λ r. ⌜ ((t : Rows) → length t ≤ 128 → pairsIn (length t) r ≡ allPairs t) ⌝ }
+// Takes every pair out of the set.
+pub fn clear(states: usize, out: &mut [bool; 16384])
+    requires { ⌜ (states ≤ 128) × Long (now out) ⌝ }
+    ensures written { λ r. ⌜
+        Long (now (out .exit)) × ((z : ℕ) → z < states * 128 → member (now (out .exit)) z ≡ false) ⌝ }
 {
-    [true; 16384]
-}
-
-// No pair.
-pub fn no_pairs() -> [bool; 16384]
-    ensures answer { λ r. ⌜ ((t : Rows) → length t ≤ 128 → pairsIn (length t) r ≡ starts t 0) ⌝ }
-{
-    [false; 16384]
-}
-
-// The pair of the start with itself.
-pub fn start_pair() -> [bool; 16384]
-    ensures answer { λ r. ⌜ ((t : Rows) → length t ≤ 128 → pairsIn (length t) r ≡ startPair t) ⌝ }
-{
-    let mut out = [false; 16384];
-    out[0] = true;
-    out
-}
-
-// The pairs of a and those of b.
-pub fn union_of(states: usize, a: [bool; 16384], b: &[bool; 16384]) -> [bool; 16384]
-    requires { ⌜ states ≤ 128 ⌝ }
-    ensures answer { λ r. ⌜
-        ((t : Rows) → length t ≡ states
-        → pairsIn states r ≡ union t (pairsIn states a) (pairsIn states (now (b .entry)))) ⌝ }
-{
-    let mut out = a;
     let mut z = 0;
     while z < states * 128 {
-        if b[z] {
-            out[z] = true;
-        }
+        out[z] = false;
         z += 1;
     }
-    out
+}
+
+// Makes the set `out` hold the pairs of `set`.
+pub fn copy(states: usize, set: &[bool; 16384], out: &mut [bool; 16384])
+    requires { ⌜ (states ≤ 128) × Long (now out) ⌝ }
+    ensures written { λ r. ⌜
+        Long (now (out .exit)) × (pairsIn states (now (out .exit)) ≡ pairsIn states (now (set .entry))) ⌝ }
+{
+    let mut z = 0;
+    while z < states * 128 {
+        out[z] = set[z];
+        z += 1;
+    }
 }
 
 // The place z holds a pair of states.

@@ -2,13 +2,13 @@
 ghost use mathlib.Core.Path.{_≡_};
 ghost use mathlib.Core.Bool.{true, false};
 ghost use Prim.Native.Nat.{ℕ, _+_, _*_, _<_};
-ghost use lib.ListN.{length};
 ghost use Rattle.laws.specs.Sets.{member};
 ghost use Rattle.table.specs.Works.{into, reversed};
 ghost use Rattle.table.specs.Search.{hits};
 ghost use Rattle.table.specs.Marks.{some, Marked};
 ghost use Rattle.table.specs.Edges.{arrays, rowsOf, isEdge, Linked};
-ghost use Rattle.windows.specs.PairSets.{pairsIn, counts, joins, leftOut, joinsAny};
+ghost use Rattle.windows.specs.PairSets.{pairsIn, Long, counts, joins, leftOut, joinsAny};
+use crate::pair_sets::clear;
 use table::chains::wide;
 
 // The pair of x and the state of edge j is in the set, and j does not carry the datum k.
@@ -37,7 +37,7 @@ fn mark_edge(
 )
     requires { ⌜
         Linked (arrays states n (now word) (now next)) (now head) (now link) × (i < states * 16)
-        × (isEdge (arrays states n (now word) (now next)) i ≡ true) × (length (now out) ≡ 16384) ⌝ }
+        × (isEdge (arrays states n (now word) (now next)) i ≡ true) × Long (now out) ⌝ }
     ensures written { λ r. ⌜
         Marked (now (out .entry))
         (joins (arrays states n (now (word .entry)) (now (next .entry))) (now (pairs .entry)) k i) (states * 16)
@@ -66,7 +66,7 @@ fn left_out(apart: bool, i: usize) -> usize
     16
 }
 
-// Where two edges with one word, and with different data if `apart`, lead from the pairs.
+// Puts into `out` where two edges with one word, and with different data if `apart`, lead from the pairs.
 fn joined(
     states: usize,
     n: usize,
@@ -76,14 +76,15 @@ fn joined(
     link: &[u16; 2048],
     pairs: &[bool; 16384],
     apart: bool,
-) -> [bool; 16384]
-    requires { ⌜ Linked (arrays states n (now word) (now next)) (now head) (now link) ⌝ }
-    ensures answer { λ r. ⌜
-        ((z : ℕ) → member r z ≡ some
+    out: &mut [bool; 16384],
+)
+    requires { ⌜ Linked (arrays states n (now word) (now next)) (now head) (now link) × Long (now out) ⌝ }
+    ensures written { λ r. ⌜
+        Long (now (out .exit)) × ((z : ℕ) → z < states * 128 → member (now (out .exit)) z ≡ some
         (joinsAny (arrays states n (now (word .entry)) (now (next .entry))) (now (pairs .entry)) apart z)
         (states * 16)) ⌝ }
 {
-    let mut out = [false; 16384];
+    clear(states, out);
     let mut i = 0;
     while i < states * 16 {
         if i % 16 < n {
@@ -97,15 +98,14 @@ fn joined(
                 pairs,
                 left_out(apart, i),
                 i,
-                &mut out,
+                out,
             );
         }
         i += 1;
     }
-    out
 }
 
-// The pairs that one common word leads to from the pairs.
+// Puts into `out` the pairs that one common word leads to from the pairs.
 pub fn forward(
     states: usize,
     n: usize,
@@ -114,17 +114,19 @@ pub fn forward(
     head: &[u16; 256],
     link: &[u16; 2048],
     pairs: &[bool; 16384],
-) -> [bool; 16384]
-    requires { ⌜ Linked (arrays states n (now word) (now next)) (now head) (now link) ⌝ }
-    ensures answer { λ r. ⌜
-        pairsIn states r
+    out: &mut [bool; 16384],
+)
+    requires { ⌜ Linked (arrays states n (now word) (now next)) (now head) (now link) × Long (now out) ⌝ }
+    ensures written { λ r. ⌜
+        Long (now (out .exit))
+        × (pairsIn states (now (out .exit))
         ≡ into (reversed (rowsOf (arrays states n (now (word .entry)) (now (next .entry)))))
-        (pairsIn states (now (pairs .entry))) ⌝ }
+        (pairsIn states (now (pairs .entry)))) ⌝ }
 {
-    joined(states, n, word, next, head, link, pairs, false)
+    joined(states, n, word, next, head, link, pairs, false, out);
 }
 
-// The pairs that a clash leads to from the pairs.
+// Puts into `out` the pairs that a clash leads to from the pairs.
 pub fn clashes(
     states: usize,
     n: usize,
@@ -133,12 +135,14 @@ pub fn clashes(
     head: &[u16; 256],
     link: &[u16; 2048],
     pairs: &[bool; 16384],
-) -> [bool; 16384]
-    requires { ⌜ Linked (arrays states n (now word) (now next)) (now head) (now link) ⌝ }
-    ensures answer { λ r. ⌜
-        pairsIn states r
+    out: &mut [bool; 16384],
+)
+    requires { ⌜ Linked (arrays states n (now word) (now next)) (now head) (now link) × Long (now out) ⌝ }
+    ensures written { λ r. ⌜
+        Long (now (out .exit))
+        × (pairsIn states (now (out .exit))
         ≡ hits (rowsOf (arrays states n (now (word .entry)) (now (next .entry))))
-        (pairsIn states (now (pairs .entry))) ⌝ }
+        (pairsIn states (now (pairs .entry)))) ⌝ }
 {
-    joined(states, n, word, next, head, link, pairs, true)
+    joined(states, n, word, next, head, link, pairs, true, out);
 }

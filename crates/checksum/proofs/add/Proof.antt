@@ -36,10 +36,11 @@ loop-less c = search needs
 loop-again : tie.Need-loop-again Inv-loop μ-loop
 loop-again c =
     let l = c .before .before .before .loop in
-    let bytes = now (c .before .before .before .before .before .args .bytes) in
-    (omega arith,
-    ap (λ r. sum r (drop (l .i + 1) bytes)) (c .with-byte .ensures) ∙ sym (sum-more (l .r) bytes (l .i) (omega arith))
-    ∙ l .inv .1)
+    let bytes = now (c .before .before .before .before .before .args .bytes) in (
+      omega arith,
+      ap (λ r. sum r (drop (l .i + 1) bytes)) (c .with-byte .ensures) ∙ sym (sum-more (l .r) bytes (l .i) (omega arith))
+          ∙ l .inv .1,
+    )
 
 returns : tie.Need-returns Inv-loop μ-loop
 returns c =

@@ -25,6 +25,9 @@ returns-2 c =
 element-write-set : tie.Need-element-write-set
 element-write-set c = search needs
 
+cast-list : tie.Need-cast-list
+cast-list c = search needs
+
 mul-list : tie.Need-mul-list
 mul-list c = search needs
 
@@ -51,6 +54,7 @@ put-spec =
     element-copy-out-if2
     returns-2
     element-write-set
+    cast-list
     mul-list
     element-write-list
     add-result

@@ -29,8 +29,8 @@ returns c =
     let start = put .before .before .before .before .before .before in
     let a = start .args in
     added-same
-    (k .ensures .1 .1 ∙ hex-is (a .width) (a .n) (k .result) (start .fits .n .fits) (k .ensures .1 .0)) (put .put .ensures)
-
+    (k .ensures .1 .1 ∙ hex-is (a .width) (a .n) (k .result) (start .fits .n .fits) (k .ensures .1 .0))
+    (put .put .ensures)
 
 pub put-hex-spec : {M : Type 1} → statement M
 put-hex-spec =

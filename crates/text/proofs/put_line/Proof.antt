@@ -1,8 +1,5 @@
 -- `put_line` meets its contract: name, number and newline are put in a row.
 -- Assumes nothing.
-use mathlib.Core.List.{[], _∷_, _++_}
-use denote.Ref.{now}
-use Rattle.text.specs.Texts.{decimal}
 use Rattle.text.proofs.Adding.{added-more}
 use borrow.Author.Needs.{needs}
 use Rattle.text.proofs.put_line.Statement.{statement}
@@ -28,13 +25,7 @@ returns c =
     let last = c .before .before in
     let number = last .before .before .before .before .before in
     let name = number .before .before .before .before in
-    let a = name .before .before .before .before .args in
-    let N = now (a .name) in
-    added-more (N ++ decimal (a .n)) (10 ∷ []) (now (a .out)) _ _ (a .at) (number .put-decimal .result) (last .put2
-        .result)
-    (added-more N (decimal (a .n)) (now (a .out)) _ _ (a .at) (name .put .result) (number .put-decimal .result)
-        (name .put .ensures) (number .put-decimal .ensures)) (last .put2 .ensures)
-
+    added-more (added-more (name .put .ensures) (number .put-decimal .ensures)) (last .put2 .ensures)
 
 pub put-line-spec : {M : Type 1} → statement M
 put-line-spec =

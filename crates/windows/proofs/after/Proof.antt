@@ -1,39 +1,63 @@
--- After i turns the sets are those of i words.
-use Prim.Native.Nat.{_-_, _≤_}
-use mathlib.Core.Path.{_≡_, subst}
+-- After i turns the pairs are those of memory i; once they stay the same they are those of every larger memory.
+use Prim.Native.Nat.{_+_, _-_, _≤_}
+use mathlib.Core.Path.{_≡_, sym, ap, _∙_}
 use native.Mathlib.Omega.{arith}
 use denote.Ref.{now}
-use lib.ListN.{length}
-use Rattle.table.specs.Edges.{arrays, rowsOf}
-use Rattle.table.proofs.RowsOf.{length-rows}
-use Rattle.windows.specs.Steps.{Reached}
+use Rattle.table.specs.Paths.{Closed}
+use Rattle.table.specs.Search.{pasts}
+use Rattle.table.specs.Edges.{Arrays, arrays, rowsOf}
+use Rattle.table.proofs.RowsOf.{closed-rows}
+use Rattle.windows.specs.PairSets.{pairsIn, Long}
+use Rattle.windows.specs.Steps.{withWord}
+use Rattle.windows.proofs.PastSets.{pasts-none, pasts-more, pasts-rest}
 use borrow.Author.Needs.{needs}
 use Rattle.windows.proofs.after.Statement.{statement}
 use Rattle.windows.proofs.after.Tie as tie
 
 abbrev Inv-loop : tie.InvT-loop
-Inv-loop states n word next head link m g₀ i₀ g i =
-    (i ≤ m) × Reached (rowsOf (arrays states n word next)) states i g
+Inv-loop states n word next head link m past₀ spare₀ i₀ past spare i =
+    (i ≤ m) × (pairsIn states past ≡ pasts (rowsOf (arrays states n word next)) i) × Long past × Long spare
 
 abbrev μ-loop : tie.MeasureT-loop
-μ-loop states n word next head link m g₀ i₀ g i = m - i
+μ-loop states n word next head link m past₀ spare₀ i₀ past spare i = m - i
 
-begin-requires : tie.Need-begin-requires Inv-loop μ-loop
-begin-requires c κs = search needs
+abbrev table : tie.Start Inv-loop μ-loop → Arrays
+table s = arrays (s .args .states) (s .args .n) (now (s .args .word)) (now (s .args .next))
+
+closed : (s : tie.Start Inv-loop μ-loop) → Closed (rowsOf (table s))
+closed s = closed-rows (table s) (s .pre .0 .fits)
 
 loop-holds : tie.Need-loop-holds Inv-loop μ-loop
-loop-holds c =
-    let s = c .before in
-    let a = s .args in
-    let t = arrays (a .states) (a .n) (now (a .word)) (now (a .next)) in
-    let e : length (rowsOf t) ≡ a .states = length-rows t in (
-      omega arith,
-      subst (λ k. Reached (rowsOf t) k 0 (c .begin .result)) e
-          (c .begin .ensures (rowsOf t) (rw e (s .pre .fits .few))),
-    )
+loop-holds c = (omega arith, c .pre .3 ∙ sym (pasts-none (rowsOf (table c))), c .pre .1, c .pre .2)
 
 more-requires : tie.Need-more-requires Inv-loop μ-loop
-more-requires c κs = search needs
+more-requires c κs =
+    let l = c .before .before .before .loop in
+    (c .before .before .before .before .pre .0, l .inv .2, l .inv .3)
+
+-- the pairs after the turn
+stepped : (c : tie.After-more Inv-loop μ-loop)
+    → let l = c .before .before .before .before .loop in
+    let s = c .before .before .before .before .before in
+    withWord (rowsOf (table s)) (pairsIn (s .args .states) (l .past)) ≡ pasts (rowsOf (table s)) (l .i + 1)
+stepped c =
+    let l = c .before .before .before .before .loop in
+    let s = c .before .before .before .before .before in
+    ap (withWord (rowsOf (table s))) (l .inv .1) ∙ sym (pasts-more (rowsOf (table s)) (closed s) (l .i))
+
+returns : tie.Need-returns Inv-loop μ-loop
+returns c =
+    let e = c .before .more .ensures in
+    let l = c .before .before .before .before .before .loop in
+    let s = c .before .before .before .before .before .before in
+    let t = rowsOf (table s) in
+    let q : l .i + (s .args .m - l .i) ≡ s .args .m = omega arith in
+    let same = e .0 (c .if1 .taken) in (
+      same ∙ l .inv .1
+          ∙ sym (pasts-rest t (closed s) (l .i) (sym (e .1 .0 ∙ stepped (c .before)) ∙ same ∙ l .inv .1)
+          (s .args .m - l .i)) ∙ ap (pasts t) q,
+      e .1 .1,
+    )
 
 add-i : tie.Need-add-i Inv-loop μ-loop
 add-i c = search needs
@@ -43,14 +67,15 @@ loop-less c = search needs
 
 loop-again : tie.Need-loop-again Inv-loop μ-loop
 loop-again c =
-    let l = c .before .before .loop in
-    (omega arith, c .more .ensures (l .i) (l .inv .1))
+    let e = c .before .more .ensures in
+    (omega arith, e .1 .0 ∙ stepped (c .before), e .1 .1 .0, e .1 .1 .1)
 
-returns : tie.Need-returns Inv-loop μ-loop
-returns c =
+returns-2 : tie.Need-returns-2 Inv-loop μ-loop
+returns-2 c =
     let l = c .before .loop in
-    let e : l .i ≡ c .before .before .before .args .m = omega arith in
-    rw (← e) (l .inv .1)
+    let s = c .before .before in
+    let e : l .i ≡ s .args .m = omega arith in
+    (l .inv .1 ∙ ap (pasts (rowsOf (table s))) e, (l .inv .2, l .inv .3))
 
 pub after-spec : {M : Type 1} → statement M
 after-spec =
@@ -58,10 +83,10 @@ after-spec =
     (tie.spec
     Inv-loop
     μ-loop
-    begin-requires
     loop-holds
     more-requires
+    returns
     add-i
     loop-less
     loop-again
-    returns)
+    returns-2)

@@ -1,29 +1,60 @@
--- Each set is stepped, and the start's added to the earlier ones.
+-- One step forward, with the start's pair; where nothing changes, nothing is copied.
+use mathlib.Core.Path.{refl, sym, subst, _∙_}
 use denote.Ref.{now}
-use Rattle.table.specs.Edges.{arrays, rowsOf}
+use lib.Dec.{T}
+use Rattle.table.specs.Edges.{Arrays, arrays, rowsOf}
 use Rattle.table.proofs.RowsOf.{length-rows}
-use Rattle.windows.proofs.Steps.{reached-more}
+use Rattle.windows.proofs.SetLaws.{start-put, same-pairs}
 use borrow.Author.Needs.{needs}
 use Rattle.windows.proofs.more.Statement.{statement}
 use Rattle.windows.proofs.more.Tie as tie
 
+abbrev table : tie.Start → Arrays
+table s = arrays (s .args .states) (s .args .n) (now (s .args .word)) (now (s .args .next))
+
 forward-requires : tie.Need-forward-requires
 forward-requires c κs = search needs
 
-union-of-requires : tie.Need-union-of-requires
-union-of-requires c κs = search needs
+element-write-spare : tie.Need-element-write-spare
+element-write-spare c = search needs
 
-forward-requires-2 : tie.Need-forward-requires-2
-forward-requires-2 c κs = search needs
+same-pairs-requires : tie.Need-same-pairs-requires
+same-pairs-requires c κs = search needs
 
 returns : tie.Need-returns
-returns c = λ i h.
-    let s = c .before .before .before .before .before .before .before .before .before .before in
-    let a = s .args in
-    let t = arrays (a .states) (a .n) (now (a .word)) (now (a .next)) in
-    let u = c .before .before .before in
-    reached-more (rowsOf t) (a .states) i (a .t7) _ (u .before .before .before .before .forward .ensures)
-    (c .forward2 .ensures) (u .union-of .ensures (rowsOf t) (length-rows t)) h
+returns c =
+    let f = c .before .before .before .before in
+    let s = f .before .before .before in
+    let few = s .pre .0 .fits .few in
+    let put = start-put (rowsOf (table s)) (s .args .states) (now (s .args .past)) _ (length-rows (table s)) few
+    (f .forward .ensures .0) (f .forward .ensures .1) in (
+      (λ k. refl),
+      (
+        sym (same-pairs (s .args .states) _ _ few (sym (c .before .same-pairs .ensures) ∙ c .if1 .taken)) ∙ put .0,
+        (s .pre .1, put .1),
+      ),
+    )
+
+copy-requires : tie.Need-copy-requires
+copy-requires c κs = search needs
+
+returns-2 : tie.Need-returns-2
+returns-2 c =
+    let f = c .before .before .before .before .before .before .before in
+    let s = f .before .before .before in
+    let put = start-put (rowsOf (table s)) (s .args .states) (now (s .args .past)) _ (length-rows (table s))
+    (s .pre .0 .fits .few) (f .forward .ensures .0) (f .forward .ensures .1) in (
+      (λ k. absurd (subst T (sym k) tt)),
+      (c .copy .ensures .1 ∙ put .0, (c .copy .ensures .0, put .1)),
+    )
 
 pub more-spec : {M : Type 1} → statement M
-more-spec = tie.close (tie.spec forward-requires union-of-requires forward-requires-2 returns)
+more-spec =
+    tie.close
+    (tie.spec
+    forward-requires
+    element-write-spare
+    same-pairs-requires
+    returns
+    copy-requires
+    returns-2)

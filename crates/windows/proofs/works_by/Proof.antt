@@ -1,33 +1,55 @@
 -- The pairs of a clash are gone after as many words as the lookahead exactly when the window works.
-use mathlib.Core.Path.{subst}
+use mathlib.Core.Path.{ap, subst, _∙_}
+use mathlib.Core.Bool.{true, false}
+use native.Mathlib.Omega.{arith}
 use denote.Ref.{now}
-use Rattle.table.specs.Edges.{arrays, rowsOf}
+use lib.ListN.{length-replicate}
+use Rattle.table.specs.Search.{hits}
+use Rattle.table.specs.Edges.{Arrays, arrays, rowsOf}
 use Rattle.table.proofs.RowsOf.{length-rows, closed-rows}
 use Rattle.windows.specs.Steps.{Emptied}
+use Rattle.windows.proofs.SetLaws.{all-of}
 use Rattle.windows.proofs.Lookahead.{works-emptied}
 use borrow.Author.Needs.{needs}
 use Rattle.windows.proofs.works_by.Statement.{statement}
 use Rattle.windows.proofs.works_by.Tie as tie
 
-after-requires : tie.Need-after-requires
-after-requires c κs = search needs
+abbrev table : tie.Start → Arrays
+table s = arrays (s .args .states) (s .args .n) (now (s .args .word)) (now (s .args .next))
 
-hits-of-requires : tie.Need-hits-of-requires
-hits-of-requires c κs = search needs
+after-requires : tie.Need-after-requires
+after-requires c κs =
+    let s = c .before .before in
+    let few = s .pre .0 .fits .few in (
+      s .pre .0,
+      length-replicate 16384 true,
+      length-replicate 16384 false,
+      all-of (rowsOf (table s)) (s .args .states) 16384 (length-rows (table s)) few (omega arith),
+    )
+
+clashes-requires : tie.Need-clashes-requires
+clashes-requires c κs =
+    let a = c .before .before in
+    (a .before .before .before .pre .0, a .after .ensures .1 .1)
 
 emptied-requires : tie.Need-emptied-requires
-emptied-requires c κs = search needs
+emptied-requires c κs =
+    let k = c .before .before in
+    let a = k .before .before .before in
+    let s = a .before .before .before in
+    (s .pre .0, s .pre .1, k .clashes .ensures .0, a .after .ensures .1 .0)
 
 returns : tie.Need-returns
 returns c =
-    let s = c .before .before .before in
-    let a = s .args in
-    let t = arrays (a .states) (a .n) (now (a .word)) (now (a .next)) in
+    let k = c .before .before .before in
+    let a = k .before .before .before in
+    let s = a .before .before .before in
+    let t = table s in
     let g = s .pre .0 .fits in
-    let e = c .before .hits-of .ensures (a .memory) (c .before .before .after .ensures) in
-    works-emptied (rowsOf t) (closed-rows t g) (rw (length-rows t) (g .some)) (a .memory) (a .lookahead)
+    works-emptied (rowsOf t) (closed-rows t g) (rw (length-rows t) (g .some)) (s .args .memory) (s .args .lookahead)
     (c .emptied .result)
-    (subst (λ H. Emptied (rowsOf t) H (a .lookahead) (c .emptied .result)) e (c .emptied .ensures))
+    (subst (λ H. Emptied (rowsOf t) H (s .args .lookahead) (c .emptied .result))
+    (k .clashes .ensures .1 ∙ ap (hits (rowsOf t)) (a .after .ensures .0)) (c .emptied .ensures .0))
 
 pub works-by-spec : {M : Type 1} → statement M
-works-by-spec = tie.close (tie.spec after-requires hits-of-requires emptied-requires returns)
+works-by-spec = tie.close (tie.spec after-requires clashes-requires emptied-requires returns)

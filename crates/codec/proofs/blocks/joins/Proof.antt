@@ -6,7 +6,6 @@ use denote.Ref.{now}
 use lib.ListN.{getD}
 use Rattle.laws.specs.Sets.{member}
 use borrow.Author.Needs.{needs}
-use borrow.Author.Needs.{needs}
 use Rattle.codec.proofs.blocks.joins.Statement.{statement}
 use Rattle.codec.proofs.blocks.joins.Tie as tie
 

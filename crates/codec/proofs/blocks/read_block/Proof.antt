@@ -1,24 +1,13 @@
 -- The past set, the states that can read the words ahead, and the datum between them.
-use mathlib.Core.Path.{ap₂, _∙_}
 use denote.Ref.{now}
-use lib.Seq.{slice}
 use Rattle.table.specs.Edges.{arrays, rowsOf}
-use Rattle.table.proofs.RowsOf.{length-rows}
-use Rattle.codec.specs.Reading.{alongAll}
-use Rattle.codec.proofs.Windowed.{past-cut, block-cut}
-use borrow.Author.Needs.{needs}
+use Rattle.codec.proofs.Windowed.{block-cut}
 use borrow.Author.Needs.{needs}
 use Rattle.codec.proofs.blocks.read_block.Statement.{statement}
 use Rattle.codec.proofs.blocks.read_block.Tie as tie
 
-first-set-requires : tie.Need-first-set-requires
-first-set-requires c κs = search needs
-
-less-requires : tie.Need-less-requires
-less-requires c κs = search needs
-
-step-all-requires : tie.Need-step-all-requires
-step-all-requires c κs = search needs
+past-set-requires : tie.Need-past-set-requires
+past-set-requires c κs = search needs
 
 add-readers : tie.Need-add-readers
 add-readers c = search needs
@@ -40,25 +29,17 @@ datum-by-requires c κs = search needs
 
 returns : tie.Need-returns
 returns c =
-    let p = c .before .before .before .before .before in
-    let a = p .before .before .before .before .args in
-    let ws = now (a .words) in
-    let u = arrays (a .states) (a .n) (now (a .word)) (now (a .next)) in
-    let t = rowsOf u in
-    block-cut t (a .m) (a .a) ws (a .i) (c .datum-by .result) _ _ (c .datum-by .ensures)
-    (p .step-all .ensures
-    ∙ ap₂ (λ S k. alongAll t S (slice k (a .i) ws)) (p .before .before .first-set .ensures t (length-rows u))
-    (p .before .less .ensures)
-    ∙ past-cut t (a .m) (a .a) ws (a .i))
-    (c .before .before .before .before .readers .ensures)
+    let r = c .before .before .before .before in
+    let p = r .before .before in
+    let a = p .before .before .before .args in
+    block-cut (rowsOf (arrays (a .states) (a .n) (now (a .word)) (now (a .next)))) (a .m) (a .a) (now (a .words)) (a .i)
+    (c .datum-by .result) _ _ (c .datum-by .ensures) (p .past-set .ensures) (r .readers .ensures)
 
 pub read-block-spec : {M : Type 1} → statement M
 read-block-spec =
     tie.close
     (tie.spec
-    first-set-requires
-    less-requires
-    step-all-requires
+    past-set-requires
     add-readers
     add-readers-2
     add-readers-3

@@ -6,7 +6,6 @@ use Rattle.codec.specs.With.{decodedWith}
 use Rattle.codec.proofs.Tabled.{declined}
 use Rattle.codec.proofs.Loaded.{handed, decode-bad, decode-read}
 use borrow.Author.Needs.{needs}
-use borrow.Author.Needs.{needs}
 use Rattle.codec.proofs.decoding.decode.Statement.{statement}
 use Rattle.codec.proofs.decoding.decode.Tie as tie
 

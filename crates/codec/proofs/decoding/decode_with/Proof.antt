@@ -1,4 +1,4 @@
--- The checks in their order, then the blocks by the chains of the table's edges.
+-- The checks in their order, then the blocks by the runs of the table's edges.
 use mathlib.Core.Path.{_≡_, sym, subst, _∙_}
 use mathlib.Core.Bool.{true}
 use Prim.Native.Nat.{_-_}
@@ -16,7 +16,6 @@ use Rattle.codec.specs.Reading.{decode}
 use Rattle.codec.specs.With.{decodedWith}
 use Rattle.codec.proofs.Tabled.{declined, finished, decode-7, decode-12, decode-13, decode-11, decode-done}
 use Rattle.codec.proofs.Windowed.{length-decode, decoded-in}
-use borrow.Author.Needs.{needs}
 use borrow.Author.Needs.{needs}
 use Rattle.codec.proofs.decoding.decode_with.Statement.{statement}
 use Rattle.codec.proofs.decoding.decode_with.Tie as tie
@@ -81,15 +80,15 @@ returns-4 c =
 ways-requires : tie.Need-ways-requires
 ways-requires c κs = ready-table (c .before .before .before .before .before) .narrow
 
-chain-requires : tie.Need-chain-requires
-chain-requires c κs = fits (c .before .before .before .before)
+lay-requires : tie.Need-lay-requires
+lay-requires c κs = fits (c .before .before .before .before)
 
 read-blocks-requires : tie.Need-read-blocks-requires
 read-blocks-requires c κs =
     let h = c .before .before .before .before .before .before .before in
     let w = h .before .before .before .before .before in
     let i = w .before .before .before .before in
-    (record { fits = fits w; chained = h .chain .ensures }, omega (arith, i .before .if2 .left), i .if3 .left)
+    (h .lay .ensures, omega (arith, i .before .if2 .left), i .if3 .left)
 
 same-length : tie.Need-same-length
 same-length c = search needs
@@ -125,7 +124,7 @@ decode-with-spec =
     first-bad-requires
     returns-4
     ways-requires
-    chain-requires
+    lay-requires
     read-blocks-requires
     same-length
     returns-5)

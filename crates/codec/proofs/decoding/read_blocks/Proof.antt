@@ -15,12 +15,12 @@ use Rattle.codec.proofs.decoding.read_blocks.Statement.{statement}
 use Rattle.codec.proofs.decoding.read_blocks.Tie as tie
 
 abbrev Inv-loop : tie.InvT-loop
-Inv-loop states n word next head link words m a count out₀ i₀ out i =
+Inv-loop states n word next start order words m a count out₀ i₀ out i =
     (i ≤ count) × (count ≤ length out₀) × (length out ≡ length out₀)
     × (out ≡ map (block (under (rowsOf (arrays states n word next)) m a) words) (range i) ++ drop i out₀)
 
 abbrev μ-loop : tie.MeasureT-loop
-μ-loop states n word next head link words m a count out₀ i₀ out i = count - i
+μ-loop states n word next start order words m a count out₀ i₀ out i = count - i
 
 abbrev blockAt : tie.Start Inv-loop μ-loop → ℕ → ℕ
 blockAt s =

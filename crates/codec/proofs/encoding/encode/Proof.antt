@@ -6,7 +6,6 @@ use Rattle.codec.specs.With.{encodedWith}
 use Rattle.codec.proofs.Tabled.{declined}
 use Rattle.codec.proofs.Loaded.{handed, encode-bad, encode-read}
 use borrow.Author.Needs.{needs}
-use borrow.Author.Needs.{needs}
 use Rattle.codec.proofs.encoding.encode.Statement.{statement}
 use Rattle.codec.proofs.encoding.encode.Tie as tie
 

@@ -21,7 +21,6 @@ use Rattle.codec.proofs.Answers.{below-firstBad}
 use Rattle.codec.proofs.Writing.{recorded-in}
 use Rattle.codec.proofs.Tabled.{declined, finished, bad-le, encode-7, encode-13, encode-11, encode-done}
 use borrow.Author.Needs.{needs}
-use borrow.Author.Needs.{needs}
 use Rattle.codec.proofs.encoding.encode_with.Statement.{statement}
 use Rattle.codec.proofs.encoding.encode_with.Tie as tie
 

@@ -18,7 +18,7 @@ use Rattle.splitting.proofs.CodeMove.{
   new-kept,
   new-moved,
 }
-use Rattle.splitting.proofs.CodeKept.{among-kept}
+use Rattle.order.proofs.CodeKept.{among-kept}
 use borrow.Author.Needs.{needs}
 use borrow.Author.Tests.{not-true, not-false}
 use Rattle.splitting.proofs.part_state.move_edges.Statement.{statement}

@@ -1,5 +1,5 @@
 -- For memory m the least lookahead is found by steps; it is taken if the pairs of a clash are gone in time.
-use mathlib.Core.Path.{subst}
+use mathlib.Core.Path.{ap, subst, _∙_}
 use native.Mathlib.Omega.{arith}
 use Prim.Native.Nat.{_<_}
 use denote.Ref.{now}
@@ -28,47 +28,59 @@ closed s = closed-rows (table s) (s .pre .0 .fits)
 some : (s : tie.Start) → 0 < length (rowsOf (table s))
 some s = rw (length-rows (table s)) (s .pre .0 .fits .some)
 
+abbrev start : tie.After-emptied → tie.Start
+start c = c .before .before .before .before .before .before
+
 -- the steps taken are those of the pairs of a clash for memory m
 gone : (c : tie.After-emptied)
-    → let s = c .before .before .before in
-    Emptied (rowsOf (table s)) (hits (rowsOf (table s)) (pasts (rowsOf (table s)) (s .args .m)))
-    (c .before .room .result) (c .emptied .result)
+    → Emptied (rowsOf (table (start c))) (hits (rowsOf (table (start c))) (pasts (rowsOf (table (start c)))
+    (start c .args .m))) (c .before .before .before .room .result) (c .emptied .result)
 gone c =
-    let s = c .before .before .before in
-    subst (λ H. Emptied (rowsOf (table s)) H (c .before .room .result) (c .emptied .result))
-    (c .before .before .hits-of .ensures (s .args .m) (s .pre .3)) (c .emptied .ensures)
+    let r = c .before .before .before in
+    let t = rowsOf (table (start c)) in
+    subst (λ H. Emptied t H (r .room .result) (c .emptied .result))
+    (r .before .clashes .ensures .1 ∙ ap (hits t) (start c .pre .3)) (c .emptied .ensures .0)
 
-hits-of-requires : tie.Need-hits-of-requires
-hits-of-requires c κs = search needs
+clashes-requires : tie.Need-clashes-requires
+clashes-requires c κs = (c .before .pre .0, c .before .pre .5)
 
 room-requires : tie.Need-room-requires
 room-requires c κs =
-    let s = c .before in
+    let s = c .before .before in
     let b = lead-small (rowsOf (table s)) (s .args .m) (best s) (omega (arith, s .pre .1)) (s .pre .4) in
     (s .pre .1, b .0, b .1, s .pre .2)
 
 emptied-requires : tie.Need-emptied-requires
-emptied-requires c κs = search needs
+emptied-requires c κs =
+    let r = c .before .before in
+    let s = r .before .before .before in
+    (s .pre .0, r .room .ensures .small, r .before .clashes .ensures .0, s .pre .6)
 
 returns : tie.Need-returns
 returns c =
     let e = c .before in
-    let s = e .before .before .before in
+    let r = e .before .before .before in
+    let s = start e in
     let t = rowsOf (table s) in
-    let m = s .args .m in
-    lead-take t m (best s) (s .pre .1) (s .pre .4) (e .before .room .result) (e .before .room .ensures)
-    (e .emptied .result) (c .if1 .taken) (works-there t (closed s) (some s) m _ _ (gone e) (c .if1 .taken))
-    (fails-sooner t (closed s) (some s) m _ _ (gone e))
+    let m = s .args .m in (
+      lead-take t m (best s) (s .pre .1) (s .pre .4) (r .room .result) (r .room .ensures) (e .emptied .result)
+          (c .if1 .taken) (works-there t (closed s) (some s) m _ _ (gone e) (c .if1 .taken))
+          (fails-sooner t (closed s) (some s) m _ _ (gone e)),
+      e .emptied .ensures .1,
+    )
 
 returns-2 : tie.Need-returns-2
 returns-2 c =
     let e = c .before in
-    let s = e .before .before .before in
+    let r = e .before .before .before in
+    let s = start e in
     let t = rowsOf (table s) in
-    let m = s .args .m in
-    lead-skip t m (best s) (s .pre .1) (s .pre .4) (e .before .room .result) (e .before .room .ensures)
-    (λ k l. fails-sooner t (closed s) (some s) m _ _ (gone e) k (omega (arith, c .if1 .left)))
+    let m = s .args .m in (
+      lead-skip t m (best s) (s .pre .1) (s .pre .4) (r .room .result) (r .room .ensures)
+          (λ k l. fails-sooner t (closed s) (some s) m _ _ (gone e) k (omega (arith, c .if1 .left))),
+      e .emptied .ensures .1,
+    )
 
 pub better-spec : {M : Type 1} → statement M
 better-spec =
-    tie.close (tie.spec hits-of-requires room-requires emptied-requires returns returns-2)
+    tie.close (tie.spec clashes-requires room-requires emptied-requires returns returns-2)

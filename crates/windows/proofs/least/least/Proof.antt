@@ -1,15 +1,18 @@
--- While the search goes on, the best window with memory below m and the sets of m words are known; at its end, the
+-- While the search goes on, the best window with memory below m and the pairs of memory m are known; at its end, the
 -- best is the least.
-use mathlib.Core.Path.{_≡_, subst}
+use mathlib.Core.Path.{_≡_, sym, subst, _∙_}
+use mathlib.Core.Bool.{true, false}
 use Prim.Native.Nat.{_+_, _-_, _≤_, _<_}
 use native.Mathlib.Omega.{arith}
-use borrow.Author.Tests.{lt-ltb}
 use denote.Ref.{now}
-use lib.ListN.{length}
-use Rattle.table.specs.Search.{window}
+use lib.ListN.{length-replicate}
+use Rattle.table.specs.Search.{window, pasts}
 use Rattle.table.specs.Edges.{Arrays, arrays, rowsOf}
-use Rattle.table.proofs.RowsOf.{length-rows}
-use Rattle.windows.specs.Steps.{size, Reached, Leading}
+use Rattle.table.proofs.RowsOf.{length-rows, closed-rows}
+use Rattle.windows.specs.PairSets.{pairsIn, Long}
+use Rattle.windows.specs.Steps.{size, Leading}
+use Rattle.windows.proofs.SetLaws.{all-of}
+use Rattle.windows.proofs.PastSets.{pasts-none}
 use Rattle.windows.proofs.Leading.{lead-start, lead-small}
 use Rattle.windows.proofs.Turns.{turn}
 use borrow.Author.Needs.{needs}
@@ -17,74 +20,87 @@ use Rattle.windows.proofs.least.least.Statement.{statement}
 use Rattle.windows.proofs.least.least.Tie as tie
 
 abbrev Inv-loop : tie.InvT-loop
-Inv-loop states n word next head link g₀ best₀ stop₀ m₀ g best stop m =
+Inv-loop states n word next head link past₀ set₀ spare₀ best₀ stop₀ m₀ past set spare best stop m =
     (m ≤ 16) × (stop ≤ 16)
-    × (m < stop → (m ≤ best .memory + best .lookahead) × Reached (rowsOf (arrays states n word next)) states m g
+    × (m < stop → (m ≤ best .memory + best .lookahead)
+    × (pairsIn states past ≡ pasts (rowsOf (arrays states n word next)) m)
     × Leading (rowsOf (arrays states n word next)) m (size (best .memory) (best .lookahead)))
     × (stop ≤ m → window (rowsOf (arrays states n word next)) ≡ size (best .memory) (best .lookahead))
+    × Long past × Long set × Long spare
 
 abbrev μ-loop : tie.MeasureT-loop
-μ-loop states n word next head link g₀ best₀ stop₀ m₀ g best stop m = 16 - m
+μ-loop states n word next head link past₀ set₀ spare₀ best₀ stop₀ m₀ past set spare best stop m = 16 - m
 
 abbrev table : tie.Start Inv-loop μ-loop → Arrays
 table s = arrays (s .args .states) (s .args .n) (now (s .args .word)) (now (s .args .next))
 
-begin-requires : tie.Need-begin-requires Inv-loop μ-loop
-begin-requires c κs = search needs
+no-window-requires : tie.Need-no-window-requires Inv-loop μ-loop
+no-window-requires c κs = search needs
 
 loop-holds : tie.Need-loop-holds Inv-loop μ-loop
 loop-holds c =
     let s = c .before in
     let t = table s in
-    let e : length (rowsOf t) ≡ s .args .states = length-rows t in (
+    let few = s .pre .fits .few in (
       omega arith,
       omega arith,
       (λ l. (
         omega arith,
-        subst (λ k. Reached (rowsOf t) k 0 (c .begin .result)) e
-            (c .begin .ensures (rowsOf t) (rw e (s .pre .fits .few))),
-        lead-start (rowsOf t),
+        all-of (rowsOf t) (s .args .states) 16384 (length-rows t) few (omega arith) ∙ sym (pasts-none (rowsOf t)),
+        subst (Leading (rowsOf t) 0) (sym (c .no-window .ensures)) (lead-start (rowsOf t)),
       )),
       (λ l. absurd (omega arith)),
+      length-replicate 16384 true,
+      length-replicate 16384 false,
+      length-replicate 16384 false,
     )
 
 better-requires : tie.Need-better-requires Inv-loop μ-loop
 better-requires c κs =
-    let k = c .before .loop .inv .2 (c .loop-test .taken) in
-    (c .before .before .before .pre, omega arith, k .0, k .1, k .2)
+    let i = c .before .before .before in
+    let v = i .before .loop .inv in
+    let k = v .2 (i .loop-test .taken) in
+    (i .before .before .before .pre, omega arith, k .0, k .1, k .2, v .5, v .6)
 
 add-m : tie.Need-add-m Inv-loop μ-loop
 add-m c = search needs
 
 stop-of-requires : tie.Need-stop-of-requires Inv-loop μ-loop
 stop-of-requires c κs =
-    let s = c .before .before .before .before in
-    lead-small (rowsOf (table s)) (c .before .before .loop .m + 1) _ (omega arith) (c .better .ensures)
-
-more-if-requires : tie.Need-more-if-requires Inv-loop μ-loop
-more-if-requires c κs = search needs
+    let a = c .before .before .before .before .before in
+    lead-small (rowsOf (table (a .before .before))) (a .loop .m + 1) _ (omega arith) (c .better .ensures .0)
 
 stop-at-requires : tie.Need-stop-at-requires Inv-loop μ-loop
 stop-at-requires c κs =
-    c .before .before .before .before .before .before .before .before .before .before .pre .fits .few
+    let b = c .before .before .before in
+    let a = b .before .before .before .before .before in
+    (a .before .before .pre, a .loop .inv .4, b .better .ensures .1 .1)
 
 loop-less : tie.Need-loop-less Inv-loop μ-loop
 loop-less c = search needs
 
 loop-again : tie.Need-loop-again Inv-loop μ-loop
 loop-again c =
-    let f = c .before .before .before .before .before in
-    let b = f .before .before in
-    let l = b .before .before .loop in
-    let s = b .before .before .before .before in
-    let a = s .args in
-    let k = l .inv .2 (b .before .loop-test .taken) in
-    let e = f .before .stop-of .ensures in
+    let o = c .before .before .before in
+    let b = o .before in
+    let i = b .before .before .before .before in
+    let l = i .before .loop in
+    let s = i .before .before .before in
+    let t = table s in
+    let k = l .inv .2 (i .loop-test .taken) in
+    let e = o .stop-of .ensures in
     let z = size (b .better .result .memory) (b .better .result .lookahead) in
-    let go = turn (rowsOf (table s)) (a .states) (l .m) z (f .before .stop-of .result) (c .stop-at .result) (l .g)
-    (f .more-if .result) (omega arith) (b .better .ensures) (k .1) (e .0) (e .1) (e .2)
-    (λ h. f .more-if .ensures (l .m) (lt-ltb _ _ h) (k .1)) (c .stop-at .ensures) in
-    (omega arith, go .0, go .1, go .2)
+    let go = turn (rowsOf t) (closed-rows t (s .pre .fits)) (l .m) z (o .stop-of .result) (c .stop-at .result)
+    (pairsIn (s .args .states) (l .past)) _ (omega arith) (b .better .ensures .0) (k .1) (e .0) (e .1) (e .2)
+    (c .stop-at .ensures .1 .0) (c .stop-at .ensures .0) in (
+      omega arith,
+      go .0,
+      go .1,
+      go .2,
+      c .stop-at .ensures .1 .1 .0,
+      b .better .ensures .1 .0,
+      c .stop-at .ensures .1 .1 .1,
+    )
 
 returns : tie.Need-returns Inv-loop μ-loop
 returns c = c .before .loop .inv .3 (c .loop-test .left)
@@ -95,12 +111,11 @@ least-spec =
     (tie.spec
     Inv-loop
     μ-loop
-    begin-requires
+    no-window-requires
     loop-holds
     better-requires
     add-m
     stop-of-requires
-    more-if-requires
     stop-at-requires
     loop-less
     loop-again

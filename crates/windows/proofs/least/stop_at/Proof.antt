@@ -1,26 +1,27 @@
--- The two answers of the comparison.
-use mathlib.Core.Path.{refl, sym, _∙_}
+-- Memory past the last is not stepped to; where the pairs stay the same the search stops.
+use mathlib.Core.Path.{refl}
 use mathlib.Core.Logic.{inl, inr}
-use denote.Ref.{now}
-use Rattle.windows.proofs.SetLaws.{same-pairs}
+use native.Mathlib.Omega.{arith}
 use borrow.Author.Needs.{needs}
 use Rattle.windows.proofs.least.stop_at.Statement.{statement}
 use Rattle.windows.proofs.least.stop_at.Tie as tie
 
-same-pairs-requires : tie.Need-same-pairs-requires
-same-pairs-requires c κs = search needs
-
 returns : tie.Need-returns
-returns c =
-    let s = c .before .before in
-    inr (
-      refl,
-      same-pairs (s .args .states) (now (s .args .a)) (now (s .args .b)) (s .pre)
-          (sym (c .before .same-pairs .ensures) ∙ c .if1 .taken),
-    )
+returns c = (inl refl, ((λ l. absurd (omega (arith, c .if1 .taken))), (c .before .pre .1, c .before .pre .2)))
+
+more-requires : tie.Need-more-requires
+more-requires c κs = search needs
 
 returns-2 : tie.Need-returns-2
-returns-2 c = inl refl
+returns-2 c =
+    let m = c .before in
+    let e = m .more .ensures in
+    (inr (refl, m .before .before .before .if1 .left, e .0 (c .if2 .taken)), ((λ l. e .1 .0), e .1 .1))
+
+returns-3 : tie.Need-returns-3
+returns-3 c =
+    let e = c .before .more .ensures in
+    (inl refl, ((λ l. e .1 .0), e .1 .1))
 
 pub stop-at-spec : {M : Type 1} → statement M
-stop-at-spec = tie.close (tie.spec same-pairs-requires returns returns-2)
+stop-at-spec = tie.close (tie.spec returns more-requires returns-2 returns-3)

@@ -11,9 +11,12 @@ joined-requires c κs = search needs
 
 returns : tie.Need-returns
 returns c =
-    let a = c .before .args in
-    step-pairs (arrays (a .states) (a .n) (now (a .word)) (now (a .next))) (c .before .pre .fits) (now (a .pairs))
-    (c .joined .result) (c .joined .ensures)
+    let s = c .before .before in
+    let a = s .args in (
+      c .joined .ensures .0,
+      step-pairs (arrays (a .states) (a .n) (now (a .word)) (now (a .next))) (s .pre .0 .fits) (now (a .pairs)) _
+          (c .joined .ensures .1),
+    )
 
 pub forward-spec : {M : Type 1} → statement M
 forward-spec = tie.close (tie.spec joined-requires returns)

@@ -1,14 +1,16 @@
--- Each turn marks where one edge and those with its word lead.
-use mathlib.Core.Path.{_≡_, ap, _∙_}
+-- Each turn marks where one edge and those with its word lead; before the first no pair is marked.
+use mathlib.Core.Path.{_≡_, ap, ap₂, _∙_}
+use mathlib.Core.Bool.{false, _||_}
 use mathlib.Core.Logic.{⊎-elim}
-use Prim.Native.Nat.{_-_, _*_, _≤_}
+use Prim.Native.Nat.{ℕ, _-_, _*_, _≤_, _<_}
 use native.Mathlib.Omega.{arith}
 use borrow.Author.Tests.{lt-ltb}
 use denote.Ref.{now}
-use Rattle.table.specs.Marks.{some, blank, Marked}
+use Rattle.laws.specs.Sets.{member}
+use Rattle.table.specs.Marks.{some, Marked}
 use Rattle.table.specs.Edges.{arrays}
-use Rattle.table.proofs.Marks.{length-blank, mark-blank, marked-member, mark-skip, mark-row}
-use Rattle.windows.specs.PairSets.{joins, joinsAny}
+use Rattle.table.proofs.Marks.{mark-none, mark-skip, mark-row}
+use Rattle.windows.specs.PairSets.{Long, joins, joinsAny}
 use Rattle.windows.proofs.Joins.{turn-taken, turn-left}
 use borrow.Author.Needs.{needs}
 use Rattle.windows.proofs.pairs.joined.Statement.{statement}
@@ -16,14 +18,18 @@ use Rattle.windows.proofs.pairs.joined.Tie as tie
 
 abbrev Inv-loop : tie.InvT-loop
 Inv-loop states n word next head link pairs apart out₀ i₀ out i =
-    (states ≤ 128) × (i ≤ states * 16)
-    × Marked (blank 16384) (joinsAny (arrays states n word next) pairs apart) i out
+    (states ≤ 128) × (i ≤ states * 16) × Long out₀ × ((z : ℕ) → z < states * 128 → member out₀ z ≡ false)
+    × Marked out₀ (joinsAny (arrays states n word next) pairs apart) i out
 
 abbrev μ-loop : tie.MeasureT-loop
 μ-loop states n word next head link pairs apart out₀ i₀ out i = states * 16 - i
 
+clear-requires : tie.Need-clear-requires Inv-loop μ-loop
+clear-requires c κs = (c .before .pre .0 .fits .few, c .before .pre .1)
+
 loop-holds : tie.Need-loop-holds Inv-loop μ-loop
-loop-holds c = (c .pre .fits .few, omega arith, mark-blank 16384 _)
+loop-holds c =
+    (c .before .before .pre .0 .fits .few, omega arith, c .clear .ensures .0, c .clear .ensures .1, mark-none _ _)
 
 mul-loop : tie.Need-mul-loop Inv-loop μ-loop
 mul-loop c = search needs
@@ -33,9 +39,9 @@ left-out-requires c κs = search needs
 
 mark-edge-requires : tie.Need-mark-edge-requires Inv-loop μ-loop
 mark-edge-requires c κs =
-    let s = c .before .before .before .before .before in
     let l = c .before .before .before .before .loop in
-    (s .pre, omega arith, lt-ltb _ _ (c .before .before .if1 .taken), l .inv .2 .long ∙ length-blank 16384)
+    let s = c .before .before .before .before .before .before .before in
+    (s .pre .0, omega arith, lt-ltb _ _ (c .before .before .if1 .taken), l .inv .4 .long ∙ l .inv .2)
 
 add-i : tie.Need-add-i Inv-loop μ-loop
 add-i c = search needs
@@ -45,7 +51,7 @@ loop-less c = search needs
 
 loop-again : tie.Need-loop-again Inv-loop μ-loop
 loop-again c =
-    let a = c .before .before .before .args in
+    let a = c .before .before .before .before .before .args in
     let l = c .before .before .loop in
     let t = arrays (a .states) (a .n) (now (a .word)) (now (a .next)) in
     let P = now (a .pairs) in
@@ -54,14 +60,18 @@ loop-again c =
     (λ u. (
       l .inv .0,
       omega arith,
-      rw (u .4) (mark-row _ f (l .i) (l .out) (l .inv .2) (a .states * 16)
+      l .inv .2,
+      l .inv .3,
+      rw (u .4) (mark-row _ f (l .i) (l .out) (l .inv .4) (a .states * 16)
           (joins t P (u .1 .result) (l .i)) _
           (λ z. turn-taken t P (a .apart) z (l .i) (u .1 .result) (u .0 .taken) (u .1 .ensures)) (u .3 .ensures)),
     ))
     (λ u. (
       l .inv .0,
       omega arith,
-      rw (u .1) (mark-skip _ f (l .i) (l .out) (l .inv .2)
+      l .inv .2,
+      l .inv .3,
+      rw (u .1) (mark-skip _ f (l .i) (l .out) (l .inv .4)
           (λ z. turn-left t P (a .apart) z (l .i) (u .0 .left))),
     ))
     (c .if1 .came)
@@ -69,10 +79,12 @@ loop-again c =
 returns : tie.Need-returns Inv-loop μ-loop
 returns c =
     let l = c .before .loop in
-    let a = c .before .before .args in
+    let a = c .before .before .before .before .args in
     let f = joinsAny (arrays (a .states) (a .n) (now (a .word)) (now (a .next))) (now (a .pairs)) (a .apart) in
-    let e : l .i ≡ a .states * 16 = omega arith in
-    λ z. marked-member 16384 f (l .i) (l .out) (l .inv .2) z ∙ ap (some (f z)) e
+    let e : l .i ≡ a .states * 16 = omega arith in (
+      l .inv .4 .long ∙ l .inv .2,
+      λ z h. l .inv .4 .holds z ∙ ap₂ (λ b k. b || some (f z) k) (l .inv .3 z h) e,
+    )
 
 pub joined-spec : {M : Type 1} → statement M
 joined-spec =
@@ -80,6 +92,7 @@ joined-spec =
     (tie.spec
     Inv-loop
     μ-loop
+    clear-requires
     loop-holds
     mul-loop
     left-out-requires

@@ -1,0 +1,61 @@
+//! The stack that each call needs: the smallest thread in which it returns, tried in processes of their own.
+use crate::library;
+use std::process::{Command, Stdio};
+
+const CALLS: [&str; 7] = ["check", "encode", "decode", "compile", "compile_run_length", "listing", "set"];
+
+/// The record, and the job that gives it, of the largest run-length code.
+const JOB: [u8; 5] = [2, 7, 4, 8, 16];
+
+/// One call on the largest run-length code.
+fn call(name: &str) -> (u64, u64) {
+    let record = reference::calls::compile_run_length(&JOB, 65535).output;
+    let mut out = vec![0; 65536];
+    match name {
+        "check" => library::check(&record),
+        "encode" => library::encode(&record, &[1; 100], &mut out),
+        "decode" => library::decode(&record, &[0; 100], &mut out),
+        "compile" => library::compile(&general(JOB), &mut out),
+        "compile_run_length" => library::compile_run_length(&JOB, &mut out),
+        "listing" => library::listing(&JOB, &mut out),
+        _ => library::set(&reference::sets::pack(&[record])),
+    }
+}
+
+/// A run-length job as a general one.
+fn general([d, k, p, q, cap]: [u8; 5]) -> Vec<u8> {
+    let next = |i: u8| [if i < k { i + 1 } else { 255 }, if i >= d { 0 } else { 255 }];
+    [p, q, cap, k + 1].into_iter().chain((0..=k).flat_map(next)).collect()
+}
+
+/// Makes one call in a thread of so many KiB, and ends badly if that is too few.
+pub fn once(name: &str, kib: usize) {
+    let name = name.to_owned();
+    let run = move || assert_eq!(call(&name).0, 0, "{name}");
+    let thread = std::thread::Builder::new().stack_size(kib * 1024).spawn(run).expect("a thread");
+    thread.join().expect("the call returns");
+}
+
+fn returns(name: &str, kib: usize) -> bool {
+    let mut command = Command::new(std::env::current_exe().expect("this program"));
+    command.args(["stack", name, &kib.to_string()]).stderr(Stdio::null());
+    command.status().expect("started").success()
+}
+
+/// Prints, for each call, the smallest stack in which it returns.
+pub fn all() {
+    println!("stack, KiB, on the record and the job of 2 7 4 8 16, the driver's own part included");
+    for name in CALLS {
+        let (mut few, mut enough) = (0, 8192);
+        assert!(returns(name, enough), "{name}");
+        while enough - few > 4 {
+            let kib = (few + enough) / 2;
+            if returns(name, kib) {
+                enough = kib;
+            } else {
+                few = kib;
+            }
+        }
+        println!("  {name:20} {enough}");
+    }
+}

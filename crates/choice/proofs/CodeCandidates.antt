@@ -1,0 +1,100 @@
+-- The candidates of a split, as keys.
+-- In order: first-filter, same-key; light-at; others-keys; candidates-keys.
+-- Assumes nothing.
+use mathlib.Core.Path.{_≡_, refl, sym, ap, _∙_}
+use mathlib.Core.Bool.{Bool, true, false, not, _&&_, _||_}
+use mathlib.Core.List.{List, [], _∷_, map}
+use Prim.Native.Nat.{ℕ, zero, suc, _-_, _%_, _≤_, _<_}
+use native.Mathlib.Omega.{arith}
+use borrow.Author.Tests.{lt-ltb, ne-eqb}
+use lib.Dec.{T, ltb, eqb}
+use lib.ListN.{length, getD, take}
+use lib.Seq.{getD-take}
+use Rattle.laws.specs.Lists.{filter, any, first}
+use Rattle.laws.proofs.Sums.{each-map, each-always}
+use Rattle.laws.proofs.Tests.{T→true}
+use Rattle.laws.proofs.Anys.{any-map}
+use Rattle.graph.specs.declared.Graph.{Graph}
+use Rattle.order.specs.declared.keys.Keys.{Keys}
+use Rattle.graph.specs.Arcs.{arc, out}
+use Rattle.graph.specs.Splitting.{sort, lighter, other, candidates}
+use Rattle.graph.specs.Value.{arcsIn, weightsIn, Fits}
+use Rattle.order.specs.EdgeKeys.{arcOf, keysFrom, admitted, firstKeys, keysIn}
+use Rattle.graph.proofs.Candidates.{any-sort}
+use Rattle.order.proofs.CodeKept.{same-arcs}
+use Rattle.order.proofs.CodeOrder.{sort-keys, keys-small, weights-small}
+use Rattle.graph.proofs.CodeFind.{first-yes, first-no}
+use Rattle.graph.proofs.CodeMaps.{map-take, filter-same, filter-map}
+
+-- the first that passes, of a list with one that does
+first-filter : {A B : Type 0} (p : B → Bool) (d : B) (f : A → B) (e : A) (l : List A) → any (λ x. p (f x)) l ≡ true
+    → (x : A) × (take 1 (filter (λ x. p (f x)) l) ≡ x ∷ []) × (first p d (map f l) ≡ f x)
+first-filter p d f e [] h = absurd (let z : _≡_ {A = ℕ} 0 1 = cc in omega arith)
+first-filter p d f e (x ∷ l) h = go (p (f x)) refl h (first-filter p d f e l)
+  where
+    go : (b : Bool) → p (f x) ≡ b → (b || any (λ x. p (f x)) l) ≡ true
+        → (any (λ x. p (f x)) l ≡ true → (y : _) × (take 1 (filter (λ x. p (f x)) l) ≡ y ∷ [])
+        × (first p d (map f l) ≡ f y))
+        → (y : _) × (take 1 (filter (λ x. p (f x)) (x ∷ l)) ≡ y ∷ []) × (first p d (map f (x ∷ l)) ≡ f y)
+    go true q u r = (x, rw q, first-yes p d (f x) (map f l) q)
+    go false q u r = let (y, a, b) = r u in (y, rw q a, first-no p d (f x) (map f l) q ∙ b)
+
+same-key : (s l k : ℕ) → other (arcOf s l) (arcOf s k) ≡ not (eqb k l)
+same-key s l k = ap not (same-arcs s k l)
+
+module _ (g : Graph) (s : ℕ) (fits : Fits g) (M : ℕ) (some : T (any (lighter (weightsIn g) M) (out (arcsIn g) s))) where
+  abbrev v : List ℕ
+  v = weightsIn g
+
+  abbrev ks : List ℕ
+  ks = keysFrom (arcsIn g) s
+
+  light-filter : filter (admitted v M 65535) ks ≡ filter (λ k. lighter v M (arcOf s k)) ks
+  light-filter =
+      filter-same (admitted v M 65535) (λ k. lighter v M (arcOf s k)) ks
+      (each-map (λ k. k < 32768) _ (λ k h. go k h (ltb (getD v (k % 128) 0) M)) ks (keys-small g s fits))
+    where
+      go : (k : ℕ) → k < 32768 → (b : Bool) → (b && not (eqb k 65535)) ≡ b
+      go k h true = rw (ne-eqb k 65535 (λ e. omega arith))
+      go k h false = refl
+
+  light-any : any (λ k. lighter v M (arcOf s k)) ks ≡ true
+  light-any =
+      sym (any-map (lighter v M) (arcOf s) ks) ∙ ap (any (lighter v M)) (sym (sort-keys g s fits))
+      ∙ T→true (any (lighter v M) (sort (out (arcsIn g) s))) (any-sort (lighter v M) (out (arcsIn g) s) some)
+
+  pub light-at : (r : Keys) → keysIn r ≡ firstKeys g s M 65535 1 → r .count ≤ 1
+      → first (lighter v M) (arc 0 0 0) (sort (out (arcsIn g) s)) ≡ arcOf s (getD (r .key) 0 0)
+  unfolding firstKeys
+  light-at r e h =
+      let (x, a, b) = first-filter (lighter v M) (arc 0 0 0) (arcOf s) 0 ks light-any in
+      let q : keysIn r ≡ x ∷ [] = e ∙ ap (take 1) light-filter ∙ a in
+      ap (first (lighter v M) (arc 0 0 0)) (sort-keys g s fits) ∙ b ∙ ap (arcOf s) (sym (here (r .count) refl q))
+    where
+      here : (n : ℕ) → r .count ≡ n → {x : ℕ} → take (r .count) (r .key) ≡ x ∷ [] → getD (r .key) 0 0 ≡ x
+      here zero p q =
+          absurd (let z : length (take 0 (r .key)) ≡ 1 = ap (λ n. length (take n (r .key))) (sym p) ∙ ap length q in
+          omega arith)
+      here (suc n) p q =
+          sym (getD-take (r .count) (r .key) 0 0 (omega arith)) ∙ ap (λ l. getD l 0 0) q
+
+  passes : (l k : ℕ) → admitted v 256 l k ≡ other (arcOf s l) (arcOf s k)
+  passes l k = rw (lt-ltb (getD v (k % 128) 0) 256 (weights-small g s fits (k % 128))) (sym (same-key s l k))
+
+  others-keys : (l n : ℕ) → map (arcOf s) (firstKeys g s 256 l n)
+      ≡ take n (filter (other (arcOf s l)) (sort (out (arcsIn g) s)))
+  unfolding firstKeys
+  others-keys l n =
+      map-take (arcOf s) n (filter (admitted v 256 l) ks)
+      ∙ ap (take n) (ap (map (arcOf s)) (filter-same (admitted v 256 l) (λ k. other (arcOf s l) (arcOf s k)) ks
+      (each-always _ (passes l) ks))
+      ∙ sym (filter-map (other (arcOf s l)) (arcOf s) ks) ∙ ap (filter (other (arcOf s l))) (sym (sort-keys g s fits)))
+
+  pub candidates-keys : (n : ℕ) (light others r : Keys) → keysIn light ≡ firstKeys g s M 65535 1 → light .count ≤ 1
+      → keysIn others ≡ firstKeys g s 256 (getD (light .key) 0 0) (n - 1)
+      → keysIn r ≡ getD (light .key) 0 0 ∷ keysIn others
+      → map (arcOf s) (keysIn r) ≡ candidates n v M (sort (out (arcsIn g) s))
+  candidates-keys n light others r a h b e =
+      ap (map (arcOf s)) (e ∙ ap (λ x. getD (light .key) 0 0 ∷ x) b)
+      ∙ ap (λ x. arcOf s (getD (light .key) 0 0) ∷ x) (others-keys (getD (light .key) 0 0) (n - 1))
+      ∙ ap (λ l. l ∷ take (n - 1) (filter (other l) (sort (out (arcsIn g) s)))) (sym (light-at light a h))

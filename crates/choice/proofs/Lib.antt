@@ -1,0 +1,3 @@
+pub mod CodeChoose
+pub mod CodeRun
+pub mod CodeCandidates

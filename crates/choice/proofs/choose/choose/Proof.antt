@@ -1,0 +1,94 @@
+-- The lowest source of an edge that leads from a state of the greatest weight to a lighter one.
+use mathlib.Core.Path.{_≡_, refl, sym, subst}
+use Prim.Native.Nat.{_+_, _-_, _≤_}
+use native.Mathlib.Omega.{arith}
+use Rattle.choice.proofs.CodeChoose.{Lowest, lowest-none, lowest-more, lightens, sourceAt, choose-is}
+use borrow.Author.Needs.{needs}
+use Rattle.choice.proofs.choose.choose.Statement.{statement}
+use Rattle.choice.proofs.choose.choose.Tie as tie
+
+abbrev Inv-loop : tie.InvT-loop
+Inv-loop m g best₀ n i₀ best i = (i ≤ n) × (n ≡ g .edges) × Lowest (lightens g m) (sourceAt g m) i best
+
+abbrev μ-loop : tie.MeasureT-loop
+μ-loop m g best₀ n i₀ best i = n - i
+
+loop-holds : tie.Need-loop-holds Inv-loop μ-loop
+loop-holds c = (omega arith, refl, lowest-none _ _)
+
+element-copy-out-s : tie.Need-element-copy-out-s Inv-loop μ-loop
+element-copy-out-s c = omega (arith, c .before .before .pre .0 .room)
+
+cast-s : tie.Need-cast-s Inv-loop μ-loop
+cast-s c = search needs
+
+element-copy-out-t : tie.Need-element-copy-out-t Inv-loop μ-loop
+element-copy-out-t c = omega (arith, c .before .before .before .pre .0 .room)
+
+cast-t : tie.Need-cast-t Inv-loop μ-loop
+cast-t c = search needs
+
+element-copy-out-lower-source : tie.Need-element-copy-out-lower-source Inv-loop μ-loop
+element-copy-out-lower-source c =
+    omega (
+      arith,
+      c .before .before .before .before .pre .0 .few,
+      c .before .before .before .before .pre .0 .source
+          (c .before .before .before .loop .i) (omega arith),
+    )
+
+element-copy-out-lower-source-2 : tie.Need-element-copy-out-lower-source-2 Inv-loop μ-loop
+element-copy-out-lower-source-2 c =
+    omega (
+      arith,
+      c .before .before .before .before .before .pre .0 .few,
+      c .before .before .before .before .before .pre .0 .target (c .before .before .before .before .loop .i)
+          (omega arith),
+    )
+
+lower-source-requires : tie.Need-lower-source-requires Inv-loop μ-loop
+lower-source-requires c κs = search needs
+
+add-i : tie.Need-add-i Inv-loop μ-loop
+add-i c = search needs
+
+loop-less : tie.Need-loop-less Inv-loop μ-loop
+loop-less c = search needs
+
+loop-again : tie.Need-loop-again Inv-loop μ-loop
+loop-again c =
+    let l = c .before .before .before .before .before .before .loop in
+    let p = c .before .before .before .before .before .before .before .args in (
+      omega arith,
+      refl,
+      subst (Lowest (lightens (p .t1) (p .m)) (sourceAt (p .t1) (p .m)) (l .i + 1)) (sym (c .lower-source .ensures))
+          (lowest-more (lightens (p .t1) (p .m)) (sourceAt (p .t1) (p .m)) (l .i) (l .best) (l .inv .2)),
+    )
+
+returns : tie.Need-returns Inv-loop μ-loop
+returns c =
+    let l = c .before .loop in
+    let p = c .before .before .args in
+    let e : l .i ≡ p .t1 .edges = omega arith in
+    choose-is (p .t1) (p .m) (c .before .before .pre .0) (c .before .before .pre .1) (c .before .before .pre .2)
+    (l .best)
+    (subst (λ k. Lowest (lightens (p .t1) (p .m)) (sourceAt (p .t1) (p .m)) k (l .best)) e (l .inv .2))
+
+pub choose-spec : {M : Type 1} → statement M
+choose-spec =
+    tie.close
+    (tie.spec
+    Inv-loop
+    μ-loop
+    loop-holds
+    element-copy-out-s
+    cast-s
+    element-copy-out-t
+    cast-t
+    element-copy-out-lower-source
+    element-copy-out-lower-source-2
+    lower-source-requires
+    add-i
+    loop-less
+    loop-again
+    returns)

@@ -1,0 +1,64 @@
+-- The greatest of the weights passed so far.
+use mathlib.Core.Path.{_≡_, refl, ap, _∙_}
+use mathlib.Core.Logic.{⊎-elim}
+use mathlib.Core.List.{map}
+use Prim.Native.Nat.{_-_, _≤_}
+use native.Mathlib.Omega.{arith}
+use Rattle.laws.specs.Lists.{range}
+use Rattle.graph.specs.Splitting.{greatest}
+use Rattle.graph.specs.Value.{weightAt}
+use Rattle.choice.proofs.CodeChoose.{greatest-more}
+use borrow.Author.Needs.{needs}
+use Rattle.choice.proofs.choose.greatest_weight.Statement.{statement}
+use Rattle.choice.proofs.choose.greatest_weight.Tie as tie
+
+abbrev Inv-loop : tie.InvT-loop
+Inv-loop g n m₀ i₀ m i =
+    (i ≤ n) × (n ≡ g .states) × (n ≤ 128) × (m ≡ greatest (map (weightAt g) (range i)))
+
+abbrev μ-loop : tie.MeasureT-loop
+μ-loop g n m₀ i₀ m i = n - i
+
+loop-holds : tie.Need-loop-holds Inv-loop μ-loop
+loop-holds c = (omega arith, refl, c .pre .few, refl)
+
+element-copy-out-if1 : tie.Need-element-copy-out-if1 Inv-loop μ-loop
+element-copy-out-if1 c = search needs
+
+element-copy-out-m : tie.Need-element-copy-out-m Inv-loop μ-loop
+element-copy-out-m c = search needs
+
+add-i : tie.Need-add-i Inv-loop μ-loop
+add-i c = search needs
+
+loop-less : tie.Need-loop-less Inv-loop μ-loop
+loop-less c = search needs
+
+loop-again : tie.Need-loop-again Inv-loop μ-loop
+loop-again c =
+    let l = c .before .before .before .loop in
+    let g = c .before .before .before .before .args .t1 in
+    let e = greatest-more (weightAt g) (l .i) in
+    ⊎-elim (λ w. (omega arith, refl, omega arith, omega (arith, w .2, w .0 .taken)))
+    (λ w. (omega arith, refl, omega arith, omega (arith, w .1, w .0 .left)))
+    (c .if1 .came)
+
+returns : tie.Need-returns Inv-loop μ-loop
+returns c =
+    let l = c .before .loop in
+    let e : l .i ≡ c .before .before .args .t1 .states = omega arith in
+    l .inv .3 ∙ ap (λ k. greatest (map (weightAt (c .before .before .args .t1)) (range k))) e
+
+pub greatest-weight-spec : {M : Type 1} → statement M
+greatest-weight-spec =
+    tie.close
+    (tie.spec
+    Inv-loop
+    μ-loop
+    loop-holds
+    element-copy-out-if1
+    element-copy-out-m
+    add-i
+    loop-less
+    loop-again
+    returns)

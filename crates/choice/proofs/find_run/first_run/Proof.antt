@@ -1,0 +1,69 @@
+-- The places are tried from the first on, and the first that ends a run ends the search.
+use mathlib.Core.Path.{_≡_, subst}
+use Prim.Native.Nat.{_-_, _≤_}
+use native.Mathlib.Omega.{arith}
+use lib.ListN.{length, take}
+use lib.Seq.{length-take-le}
+use Rattle.choice.proofs.CodeRun.{Without, without-more, first-found, first-nowhere}
+use borrow.Author.Needs.{needs}
+use Rattle.choice.proofs.find_run.first_run.Statement.{statement}
+use Rattle.choice.proofs.find_run.first_run.Tie as tie
+
+abbrev Inv-loop : tie.InvT-loop
+Inv-loop weight m n j₀ j = (j ≤ m) × Without n (take m weight) j
+
+abbrev μ-loop : tie.MeasureT-loop
+μ-loop weight m n j₀ j = m - j
+
+loop-holds : tie.Need-loop-holds Inv-loop μ-loop
+loop-holds c = (omega arith, λ v es e k h. absurd (omega arith))
+
+run-to-requires : tie.Need-run-to-requires Inv-loop μ-loop
+run-to-requires c κs = search needs
+
+returns : tie.Need-returns Inv-loop μ-loop
+returns c =
+    let a : length (c .before .before .before .before .before .args .weight) ≡ 16 = search needs in
+    let p = c .before .before .before .before .before .args in
+    let l = c .before .before .before .before .loop in
+    let m : length (take (p .m) (p .weight)) ≡ p .m = length-take-le (p .m) (p .weight) (omega arith) in
+    first-found (p .n) (take (p .m) (p .weight)) (l .j) (c .before .before .run-to .result)
+    (c .before .before .run-to .ensures) (c .if1 .taken) (omega arith) (l .inv .1)
+
+add-j : tie.Need-add-j Inv-loop μ-loop
+add-j c = search needs
+
+loop-less : tie.Need-loop-less Inv-loop μ-loop
+loop-less c = search needs
+
+loop-again : tie.Need-loop-again Inv-loop μ-loop
+loop-again c =
+    let p = c .before .before .before .before .before .args in
+    let l = c .before .before .before .before .loop in (
+      omega arith,
+      without-more (p .n) (take (p .m) (p .weight)) (l .j) (c .before .before .run-to .result)
+          (c .before .before .run-to .ensures) (c .if1 .left) (l .inv .1),
+    )
+
+returns-2 : tie.Need-returns-2 Inv-loop μ-loop
+returns-2 c =
+    let a : length (c .before .before .args .weight) ≡ 16 = search needs in
+    let p = c .before .before .args in
+    let l = c .before .loop in
+    let m : length (take (p .m) (p .weight)) ≡ p .m = length-take-le (p .m) (p .weight) (omega arith) in
+    let e : l .j ≡ length (take (p .m) (p .weight)) = omega arith in
+    first-nowhere (p .n) (take (p .m) (p .weight)) (subst (Without (p .n) (take (p .m) (p .weight))) e (l .inv .1))
+
+pub first-run-spec : {M : Type 1} → statement M
+first-run-spec =
+    tie.close
+    (tie.spec
+    Inv-loop
+    μ-loop
+    loop-holds
+    run-to-requires
+    returns
+    add-j
+    loop-less
+    loop-again
+    returns-2)

@@ -1,0 +1,89 @@
+-- The weights are summed from place j back, and the first sum that n divides is that of the shortest run.
+use mathlib.Core.Path.{_≡_}
+use Prim.Native.Nat.{_+_, _-_, _≤_}
+use native.Mathlib.Omega.{arith}
+use lib.ListN.{length, take}
+use Rattle.choice.proofs.CodeRun.{Summed, summed-none, summed-more, stretch-small, run-found, run-none}
+use borrow.Author.Needs.{needs}
+use Rattle.choice.proofs.find_run.run_to.Statement.{statement}
+use Rattle.choice.proofs.find_run.run_to.Tie as tie
+
+abbrev Inv-loop : tie.InvT-loop
+Inv-loop m n j weight total₀ i₀ total i = (i ≤ j + 1) × Summed n (take m weight) j i total
+
+abbrev μ-loop : tie.MeasureT-loop
+μ-loop m n j weight total₀ i₀ total i = j + 1 - i
+
+loop-holds : tie.Need-loop-holds Inv-loop μ-loop
+loop-holds c = (omega arith, summed-none _ _ _)
+
+mul-total : tie.Need-mul-total Inv-loop μ-loop
+mul-total c = search needs
+
+array-read-total : tie.Need-array-read-total Inv-loop μ-loop
+array-read-total c = search needs
+
+add-total : tie.Need-add-total Inv-loop μ-loop
+add-total c =
+    let a : length (c .before .before .args .t1) ≡ 16 = search needs in
+    let p = c .before .before .args in
+    let l = c .before .loop in
+    omega (
+      arith,
+      stretch-small (p .n) (p .t1) (p .m) (p .j) (l .i) (l .total) a (omega arith) (omega arith)
+          (omega arith) (c .before .before .pre .3) (l .inv .1),
+    )
+
+rem-if1 : tie.Need-rem-if1 Inv-loop μ-loop
+rem-if1 c = search needs
+
+add-t15 : tie.Need-add-t15 Inv-loop μ-loop
+add-t15 c = search needs
+
+returns : tie.Need-returns Inv-loop μ-loop
+returns c =
+    let a : length (c .before .before .before .args .t1) ≡ 16 = search needs in
+    let p = c .before .before .before .args in
+    let l = c .before .before .loop in
+    run-found (p .n) (p .t1) (p .m) (p .j) (l .i) (l .total) a (omega arith) (omega arith) (omega arith)
+    (c .before .before .before .pre .3) (l .inv .1) (c .if1 .taken)
+
+add-i : tie.Need-add-i Inv-loop μ-loop
+add-i c = search needs
+
+loop-less : tie.Need-loop-less Inv-loop μ-loop
+loop-less c = search needs
+
+loop-again : tie.Need-loop-again Inv-loop μ-loop
+loop-again c =
+    let a : length (c .before .before .before .args .t1) ≡ 16 = search needs in
+    let p = c .before .before .before .args in
+    let l = c .before .before .loop in (
+      omega arith,
+      summed-more (p .n) (p .t1) (p .m) (p .j) (l .i) (l .total) a (omega arith) (omega arith)
+          (omega arith) (c .before .before .before .pre .3) (l .inv .1) (c .if1 .left),
+    )
+
+returns-2 : tie.Need-returns-2 Inv-loop μ-loop
+returns-2 c =
+    let p = c .before .before .args in
+    let l = c .before .loop in
+    run-none (p .n) (take (p .m) (p .t1)) (p .j) (l .i) (l .total) (omega arith) (l .inv .1)
+
+pub run-to-spec : {M : Type 1} → statement M
+run-to-spec =
+    tie.close
+    (tie.spec
+    Inv-loop
+    μ-loop
+    loop-holds
+    mul-total
+    array-read-total
+    add-total
+    rem-if1
+    add-t15
+    returns
+    add-i
+    loop-less
+    loop-again
+    returns-2)

@@ -1,0 +1,68 @@
+-- The bytes passed are below n; the first that is not ends the loop.
+use mathlib.Core.Path.{_≡_, sym, ap, _∙_}
+use Prim.Native.Nat.{_+_, _-_, _≤_}
+use native.Mathlib.Nat.{zero-add, add-zero}
+use native.Mathlib.Omega.{arith}
+use denote.Ref.{now}
+use lib.ListN.{length, drop}
+use Rattle.codec.specs.Answers.{firstBad}
+use Rattle.codec.proofs.Writing.{bad-here, bad-later, bad-end}
+use borrow.Author.Needs.{needs}
+use Rattle.codec.proofs.bytes.find_bad.Statement.{statement}
+use Rattle.codec.proofs.bytes.find_bad.Tie as tie
+
+abbrev Inv-loop : tie.InvT-loop
+Inv-loop bytes n i₀ i =
+    (i ≤ length bytes) × (firstBad n bytes ≡ i + firstBad n (drop i bytes))
+
+abbrev μ-loop : tie.MeasureT-loop
+μ-loop bytes n i₀ i = length bytes - i
+
+loop-holds : tie.Need-loop-holds Inv-loop μ-loop
+loop-holds c = (omega arith, sym (zero-add _))
+
+shared-slice-read-if1 : tie.Need-shared-slice-read-if1 Inv-loop μ-loop
+shared-slice-read-if1 c = search needs
+
+cast-if1 : tie.Need-cast-if1 Inv-loop μ-loop
+cast-if1 c = omega (arith, c .shared-slice-known .given (c .before .before .loop .i))
+
+returns : tie.Need-returns Inv-loop μ-loop
+returns c =
+    let a = c .before .before .before .before .args in
+    let l = c .before .before .before .loop in
+    sym (l .inv .1 ∙ ap (λ k. l .i + k) (bad-here (a .n) (now (a .bytes)) (l .i) (omega arith) (c .if1 .taken))
+    ∙ add-zero (l .i))
+
+add-i : tie.Need-add-i Inv-loop μ-loop
+add-i c = search needs
+
+loop-less : tie.Need-loop-less Inv-loop μ-loop
+loop-less c = search needs
+
+loop-again : tie.Need-loop-again Inv-loop μ-loop
+loop-again c =
+    let a = c .before .before .before .before .args in
+    let l = c .before .before .before .loop in
+    (omega arith, omega (arith, bad-later (a .n) (now (a .bytes)) (l .i) (omega arith) (c .if1 .left)))
+
+returns-2 : tie.Need-returns-2 Inv-loop μ-loop
+returns-2 c =
+    let a = c .before .before .args in
+    let l = c .before .loop in
+    sym (l .inv .1 ∙ ap (λ k. l .i + k) (bad-end (a .n) (now (a .bytes)) (l .i) (omega arith)) ∙ add-zero (l .i))
+
+pub find-bad-spec : {M : Type 1} → statement M
+find-bad-spec =
+    tie.close
+    (tie.spec
+    Inv-loop
+    μ-loop
+    loop-holds
+    shared-slice-read-if1
+    cast-if1
+    returns
+    add-i
+    loop-less
+    loop-again
+    returns-2)

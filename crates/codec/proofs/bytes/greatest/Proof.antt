@@ -1,0 +1,70 @@
+-- The bytes passed are below every bound above `top`.
+use mathlib.Core.Path.{_≡_, sym, ap, _∙_}
+use Prim.Native.Nat.{ℕ, _+_, _-_, _≤_, _<_}
+use native.Mathlib.Nat.{zero-add, add-zero}
+use native.Mathlib.Omega.{arith}
+use denote.Ref.{now}
+use lib.ListN.{length, drop}
+use Rattle.codec.specs.Answers.{firstBad}
+use Rattle.codec.proofs.Writing.{bad-later, bad-end}
+use borrow.Author.Needs.{needs}
+use Rattle.codec.proofs.bytes.greatest.Statement.{statement}
+use Rattle.codec.proofs.bytes.greatest.Tie as tie
+
+abbrev Inv-loop : tie.InvT-loop
+Inv-loop bytes top₀ i₀ top i =
+    (i ≤ length bytes) × ((n : ℕ) → top < n → firstBad n bytes ≡ i + firstBad n (drop i bytes))
+
+abbrev μ-loop : tie.MeasureT-loop
+μ-loop bytes top₀ i₀ top i = length bytes - i
+
+loop-holds : tie.Need-loop-holds Inv-loop μ-loop
+loop-holds c = (omega arith, λ n h. sym (zero-add _))
+
+shared-slice-read-larger : tie.Need-shared-slice-read-larger Inv-loop μ-loop
+shared-slice-read-larger c = search needs
+
+larger-requires : tie.Need-larger-requires Inv-loop μ-loop
+larger-requires c κs = search needs
+
+add-i : tie.Need-add-i Inv-loop μ-loop
+add-i c = search needs
+
+loop-less : tie.Need-loop-less Inv-loop μ-loop
+loop-less c = search needs
+
+loop-again : tie.Need-loop-again Inv-loop μ-loop
+loop-again c =
+    let i = c .before .before in
+    let xs = now (i .before .before .before .args .bytes) in
+    let l = i .before .loop in
+    let e = c .larger .ensures in (
+      omega arith,
+      λ n h. omega (
+        arith,
+        l .inv .1 n (omega (arith, e .0)),
+        bad-later n xs (l .i) (i .loop-test .taken)
+            (omega (arith, e .1)),
+      ),
+    )
+
+returns : tie.Need-returns Inv-loop μ-loop
+returns c =
+    let xs = now (c .before .before .before .args .bytes) in
+    let l = c .before .loop in
+    let q : l .i ≡ length xs = omega arith in
+    λ n h. sym (l .inv .1 n h ∙ ap (λ k. l .i + k) (bad-end n xs (l .i) q) ∙ add-zero (l .i) ∙ q)
+
+pub greatest-spec : {M : Type 1} → statement M
+greatest-spec =
+    tie.close
+    (tie.spec
+    Inv-loop
+    μ-loop
+    loop-holds
+    shared-slice-read-larger
+    larger-requires
+    add-i
+    loop-less
+    loop-again
+    returns)

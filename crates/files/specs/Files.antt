@@ -1,0 +1,14 @@
+-- What reading a file says of the lent bytes.
+-- In order: Fits.
+-- Assumes nothing.
+use mathlib.Core.List.{List}
+use Prim.Native.Nat.{ℕ}
+use Rattle.io.specs.Counts.{Counts}
+use Rattle.files.specs.declared.Loaded.{Loaded}
+use Rattle.files.specs.declared.Loaded.the-variants.{Whole, Unreadable, TooLong}
+
+-- a whole file is within the lent bytes
+abbrev pub Fits : Loaded → List ℕ → Type 0
+Fits (Whole n) out = Counts n out
+Fits Unreadable out = Unit {0}
+Fits TooLong out = Unit {0}

@@ -1,0 +1,66 @@
+// Whole files read into lent bytes and written from them.
+ghost use mathlib.Core.Path.{_≡_};
+ghost use lib.ListN.{length};
+ghost use Rattle.files.specs.Files.{Fits};
+use libc::close;
+use libc::read;
+
+// 1,000,000 zeros, for a file.
+pub fn buffer() -> [u8; 1000000]
+    ensures answer { λ r. ⌜ 1000000 ≡ length r ⌝ }
+{
+    [0; 1000000]
+}
+
+// What reading a file comes to: how many bytes it has, or why there is no result.
+pub enum Loaded {
+    // All bytes are in front of the lent ones.
+    Whole(usize),
+    // It cannot be opened, or reading it failed.
+    Unreadable,
+    // It is longer than the lent bytes.
+    TooLong,
+}
+
+// Reads to the end of an open file.
+pub fn load_open(file: i32, out: &mut [u8]) -> Loaded
+    ensures written { λ r. ⌜ Fits r (now (out .exit)) ⌝ }
+{
+    let n = io::read_full(file, out);
+    let mut one = [0u8; 1];
+    let more = read(file, &mut one);
+    if more < 0 {
+        return Loaded::Unreadable;
+    }
+    if more > 0 {
+        return Loaded::TooLong;
+    }
+    Loaded::Whole(n)
+}
+
+// Reads the file of this name.
+pub fn load(path: &[u8], out: &mut [u8]) -> Loaded
+    ensures written { λ r. ⌜ Fits r (now (out .exit)) ⌝ }
+{
+    let file = os::open_read(path);
+    if file < 0 {
+        return Loaded::Unreadable;
+    }
+    let r = load_open(file, out);
+    close(file);
+    r
+}
+
+// Writes the file of this name, in place of one that is there; the answer is whether all bytes were written.
+pub fn store(path: &[u8], bytes: &[u8]) -> bool {
+    let file = os::open_overwrite(path);
+    if file < 0 {
+        return false;
+    }
+    let written = io::write_all(file, bytes);
+    let closed = close(file);
+    if closed < 0 {
+        return false;
+    }
+    written
+}

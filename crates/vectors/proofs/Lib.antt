@@ -1,0 +1,4 @@
+pub mod Verdicts
+pub mod Telling
+pub mod Placing
+pub mod Steps

@@ -1,0 +1,31 @@
+-- `expected` meets its contract: below the length the default does not matter.
+-- Assumes nothing.
+use mathlib.Core.Path.{sym}
+use native.Mathlib.Omega.{arith}
+use denote.Ref.{now}
+use lib.ListN.{List·getD-eq-default}
+use Rattle.laws.proofs.Lists.{getD-any}
+use borrow.Author.Needs.{needs}
+use Rattle.vectors.proofs.calls.expected.Statement.{statement}
+use Rattle.vectors.proofs.calls.expected.Tie as tie
+
+shared-slice-read-result : tie.Need-shared-slice-read-result
+shared-slice-read-result c = search needs
+
+returns : tie.Need-returns
+returns c =
+    let a = c .before .before .args in
+    getD-any (now (a .output)) (a .i) 0 165 (c .before .if1 .taken)
+
+returns-2 : tie.Need-returns-2
+returns-2 c =
+    let a = c .before .args in
+    sym (List·getD-eq-default (now (a .output)) 165 {n = a .i} (c .if1 .left))
+
+pub expected-spec : {M : Type 1} → statement M
+expected-spec =
+    tie.close
+    (tie.spec
+    shared-slice-read-result
+    returns
+    returns-2)

@@ -1,0 +1,81 @@
+// The cases of the file: where the parts of each stand.
+ghost use mathlib.Core.Path.{_≡_};
+ghost use mathlib.Core.Bool.{Bool, true};
+ghost use Prim.Native.Nat.{_+_, _*_, _≤_, _<_};
+ghost use lib.ListN.{length, getD};
+ghost use Rattle.vectors.specs.Cases.{pair, caseAt, Whole};
+
+// A case: its kind, the room of its output, where its first input begins and ends (`behind`), where its second input
+// begins and ends (`told`), the refusal and the value that it is to answer, and where its output begins and ends.
+pub struct Case {
+    pub kind: usize,
+    pub room: usize,
+    pub first: usize,
+    pub behind: usize,
+    pub second: usize,
+    pub told: usize,
+    pub refusal: usize,
+    pub value: usize,
+    pub output: usize,
+    pub end: usize,
+}
+
+// The byte at a place, 0 where there is none.
+fn byte(bytes: &[u8], at: usize) -> usize
+    ensures answer { λ r. ⌜ r ≡ getD (now (bytes .entry)) at 0 ⌝ }
+    ensures past { λ r. ⌜ r < 256 ⌝ }
+{
+    if at < bytes.len() {
+        return bytes[at] as usize;
+    }
+    0
+}
+
+// The number of two bytes at a place.
+fn two(bytes: &[u8], at: usize) -> usize
+    requires { ⌜ at ≤ 2000000 ⌝ }
+    ensures answer { λ r. ⌜ r ≡ pair (now (bytes .entry)) at ⌝ }
+    ensures past { λ r. ⌜ r < 65536 ⌝ }
+{
+    byte(bytes, at) * 256 + byte(bytes, at + 1)
+}
+
+// The case at a place.
+pub fn case_at(bytes: &[u8], at: usize) -> Case
+    requires { ⌜ at ≤ 1000000 ⌝ }
+    ensures answer { λ r. ⌜ r ≡ caseAt (now (bytes .entry)) at ⌝ }
+    ensures past { λ r. ⌜ r .room < 65536 ⌝ }
+{
+    let first = at + 5;
+    let behind = first + two(bytes, at + 3);
+    let second = behind + 2;
+    let told = second + two(bytes, behind);
+    let output = told + 7;
+    Case {
+        kind: byte(bytes, at),
+        room: two(bytes, at + 1),
+        first: first,
+        behind: behind,
+        second: second,
+        told: told,
+        refusal: byte(bytes, told),
+        value: two(bytes, told + 1) * 65536 + two(bytes, told + 3),
+        output: output,
+        end: output + two(bytes, told + 5),
+    }
+}
+
+// Whether a whole case stands at a place.
+pub fn is_case(bytes: &[u8], at: usize) -> bool
+    requires { ⌜ at ≤ 1000000 ⌝ }
+    ensures answer { λ r. ⌜ (r ≡ true → Whole (now (bytes .entry)) (caseAt (now (bytes .entry)) at)) ⌝ }
+{
+    let c = case_at(bytes, at);
+    if c.kind == 0 {
+        return false;
+    }
+    if 7 < c.kind {
+        return false;
+    }
+    c.end <= bytes.len()
+}

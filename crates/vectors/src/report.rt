@@ -1,0 +1,39 @@
+// What the program prints.
+use checksum::START;
+use libc::STDOUT_FILENO;
+use text::put;
+use text::put_decimal;
+use text::put_hex;
+use text::put_line;
+
+// A text.
+pub fn say(words: &[u8]) {
+    io::write_all(STDOUT_FILENO, words);
+}
+
+// A name and a number on a line.
+pub fn say_number(name: &[u8], n: u64) {
+    let mut out = [0u8; 128];
+    let size = put_line(&mut out, 0, name, n);
+    io::write_all(STDOUT_FILENO, &out[..size]);
+}
+
+// The length and the checksum of the file.
+pub fn say_file(bytes: &[u8]) {
+    let mut out = [0u8; 128];
+    let length = put_line(&mut out, 0, b"bytes ", bytes.len() as u64);
+    let name = put(&mut out, length, b"checksum ");
+    let sum = put_hex(&mut out, name, checksum::add(START, bytes), 16);
+    let size = put(&mut out, sum, b"\n");
+    io::write_all(STDOUT_FILENO, &out[..size]);
+}
+
+// A kind of call, how many cases it has, and how many of them differ.
+pub fn say_kind(name: &[u8], cases: u64, differ: u64) {
+    let mut out = [0u8; 128];
+    let a = put(&mut out, 0, name);
+    let b = put(&mut out, a, b" ");
+    let c = put_decimal(&mut out, b, cases);
+    let size = put_line(&mut out, c, b" cases, differ ", differ);
+    io::write_all(STDOUT_FILENO, &out[..size]);
+}

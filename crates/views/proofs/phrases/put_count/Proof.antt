@@ -1,0 +1,29 @@
+-- `put_count` meets its contract: number, words and plural are put in a row.
+-- Assumes nothing.
+use Rattle.views.proofs.Behind.{_then_}
+use borrow.Author.Needs.{needs}
+use Rattle.views.proofs.phrases.put_count.Statement.{statement}
+use Rattle.views.proofs.phrases.put_count.Tie as tie
+
+put-decimal-requires : tie.Need-put-decimal-requires
+put-decimal-requires c κs = search needs
+
+put-requires : tie.Need-put-requires
+put-requires c κs = search needs
+
+put-plural-requires : tie.Need-put-plural-requires
+put-plural-requires c κs = search needs
+
+same-length : tie.Need-same-length
+same-length c = search needs
+
+returns : tie.Need-returns
+returns c =
+    let x3 = c .before .before in
+    let x2 = x3 .before .before .before .before in
+    let x1 = x2 .before .before .before .before in
+    x1 .put-decimal .ensures then x2 .put .ensures then x3 .put-plural .ensures
+
+pub put-count-spec : {M : Type 1} → statement M
+put-count-spec =
+    tie.close (tie.spec put-decimal-requires put-requires put-plural-requires same-length returns)

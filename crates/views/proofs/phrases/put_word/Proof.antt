@@ -1,0 +1,88 @@
+-- `put_word` meets its contract. The loop's invariant: the text put since the loop began, with the last k
+-- digits behind it, is the word. The measure is k.
+-- Assumes nothing.
+use mathlib.Core.Path.{_≡_, refl, sym, ap, _∙_}
+use mathlib.Core.List.{List, [], _∷_, _++_, append-nil}
+use Prim.Native.Nat.{ℕ, _-_, _/_, _%_, _^_, _≤_}
+use native.Mathlib.Omega.{arith}
+use Rattle.text.specs.Texts.{Added}
+use Rattle.text.proofs.Adding.{added-same}
+use Rattle.compiler.specs.Listing.{digit, binary}
+use borrow.Author.Needs.{needs}
+use Rattle.views.proofs.Behind.{_then_, begun, binary-more}
+use Rattle.views.proofs.phrases.put_word.Statement.{statement}
+use Rattle.views.proofs.phrases.put_word.Tie as tie
+
+abbrev Inv-loop : tie.InvT-loop
+Inv-loop out₀ at q w end₀ k₀ out end k =
+    (k ≤ q) × (X : List ℕ) × (X ++ binary k w ≡ binary q w) × Added X end₀ out₀ out end
+
+abbrev μ-loop : tie.MeasureT-loop
+μ-loop out₀ at q w end₀ k₀ out end k = k
+
+slice-aggregate-put : tie.Need-slice-aggregate-put Inv-loop μ-loop
+slice-aggregate-put c = search needs
+
+put-requires : tie.Need-put-requires Inv-loop μ-loop
+put-requires c κs = search needs
+
+loop-holds : tie.Need-loop-holds Inv-loop μ-loop
+loop-holds c =
+    (omega arith, [], refl, begun (c .before .before .put .ensures))
+
+sub-k : tie.Need-sub-k Inv-loop μ-loop
+sub-k c = search needs
+
+put-bit-requires : tie.Need-put-bit-requires Inv-loop μ-loop
+put-bit-requires c κs =
+    omega (
+      arith,
+      c .before .before .loop .inv .0,
+      c .before .before .before .before .before .before .before .before .before .pre,
+    )
+
+loop-less : tie.Need-loop-less Inv-loop μ-loop
+loop-less c = search needs
+
+loop-again : tie.Need-loop-again Inv-loop μ-loop
+loop-again c =
+    let call = c .before .before in
+    let test = call .before .before in
+    let l = test .before .loop in
+    let a = c .before .before .before .before .before .before .before .before .before .before .before .before .args
+    in
+    let X = l .inv .1 in (
+      omega (arith, l .inv .0),
+      X ++ (digit (a .w / 2 ^ (l .k - 1) % 2) ∷ []),
+      binary-more X (a .q) (l .k) (a .w) (test .loop-test .taken) (l .inv .2),
+      l .inv .3 then call .put-bit .ensures,
+    )
+
+same-length : tie.Need-same-length Inv-loop μ-loop
+same-length c = search needs
+
+returns : tie.Need-returns Inv-loop μ-loop
+returns c =
+    let l = c .before .loop in
+    let a = c .before .before .before .before .before .before .before .before .args in
+    let z : l .k ≡ 0 = omega (arith, c .loop-test .left) in
+    let X = l .inv .1 in
+    let all : X ≡ binary (a .q) (a .w) =
+    sym (append-nil X) ∙ ap (λ k. X ++ binary k (a .w)) (sym z) ∙ l .inv .2 in
+    added-same all (c .before .before .before .before .put .ensures then l .inv .3)
+
+pub put-word-spec : {M : Type 1} → statement M
+put-word-spec =
+    tie.close
+    (tie.spec
+    Inv-loop
+    μ-loop
+    slice-aggregate-put
+    put-requires
+    loop-holds
+    sub-k
+    put-bit-requires
+    loop-less
+    loop-again
+    same-length
+    returns)

@@ -1,0 +1,4 @@
+pub mod Phrases
+pub mod Shown
+pub mod Drawn
+pub mod ArrowsTo

@@ -1,0 +1,44 @@
+-- A code as `show` prints it: its rate, its window with the reach of damage, its constraint, and the listing.
+-- In order: rateLine, windowLine, constraintLine; shown; showText, of a table by value.
+-- Assumes nothing.
+use mathlib.Core.Bool.{Bool, _&&_}
+use mathlib.Core.List.{List, [], _++_}
+use Prim.Native.Nat.{ℕ}
+use lib.Dec.{leb}
+use lib.ListN.{length}
+use Rattle.laws.specs.Lists.{if_then_else_}
+use Rattle.table.specs.declared.Table.{Table}
+use Rattle.table.specs.Rows.{Code}
+use Rattle.table.specs.Value.{codeIn, ready}
+use Rattle.compiler.specs.Listing.{listing}
+use Rattle.views.specs.Phrases.{words, told, counted}
+
+-- "2 data bits to 3 channel bits, 3 states"
+unfoldable pub rateLine : ℕ → ℕ → ℕ → List ℕ
+rateLine p q states =
+    counted p " data bit" ++ words " to " ++ counted q " channel bit" ++ words ", " ++ counted states " state"
+    ++ words "\n"
+
+-- "memory 1, lookahead 1: a bad word at i can spoil blocks i - 1 to i + 1"
+unfoldable pub windowLine : ℕ → ℕ → List ℕ
+windowLine m a =
+    told "memory " m ++ told ", lookahead " a ++ told ": a bad word at i can spoil blocks i - " a
+    ++ told " to i + " m ++ words "\n"
+
+-- "constraint of 2 states, start 0"
+unfoldable pub constraintLine : ℕ → ℕ → List ℕ
+constraintLine K start = words "constraint of " ++ counted K " state" ++ told ", start " start ++ words "\n"
+
+-- what `show` prints of a code
+unfoldable pub shown : Code → List ℕ
+shown c =
+    rateLine (c .p) (c .q) (length (c .table)) ++ windowLine (c .window .memory) (c .window .lookahead)
+    ++ constraintLine (length (c .constraint)) (c .start) ++ listing c
+
+-- the table is one that a record can give, with its window
+abbrev pub whole : Table → Bool
+whole t = leb (t .memory) 15 && (leb (t .lookahead) 15 && ready t)
+
+-- what `show` prints of a table by value; nothing where no record gives it
+unfoldable pub showText : Table → List ℕ
+showText t = if whole t then shown (codeIn t) else []

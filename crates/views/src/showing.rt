@@ -1,0 +1,85 @@
+// The table of a code with its rate, its window and its constraint in words.
+ghost use mathlib.Core.Path.{_≡_};
+ghost use Rattle.text.specs.Texts.{Added};
+ghost use Rattle.table.specs.Value.{codeIn};
+ghost use Rattle.compiler.specs.Listing.{listing};
+ghost use Rattle.compiler.specs.Texts.{Listed};
+ghost use Rattle.views.specs.Shown.{rateLine, windowLine, constraintLine, whole, showText};
+use crate::phrases::put_count;
+use crate::phrases::put_number;
+use answer::Answer;
+use compiler::listing::list;
+use table::Table;
+use table::ready::is_ready;
+use text::put;
+
+// The line of the rate.
+fn put_rate(out: &mut [u8], at: usize, p: usize, q: usize, states: usize) -> usize
+    ensures written { λ r. ⌜ Added (rateLine p q states) at (now (out .entry)) (now (out .exit)) r ⌝ }
+{
+    let to = put_count(out, at, p, b" data bit");
+    let channel = put(out, to, b" to ");
+    let comma = put_count(out, channel, q, b" channel bit");
+    let count = put(out, comma, b", ");
+    let end = put_count(out, count, states, b" state");
+    put(out, end, b"\n")
+}
+
+// The line of the window.
+fn put_window(out: &mut [u8], at: usize, m: usize, a: usize) -> usize
+    ensures written { λ r. ⌜ Added (windowLine m a) at (now (out .entry)) (now (out .exit)) r ⌝ }
+{
+    let lookahead = put_number(out, at, b"memory ", m);
+    let from = put_number(out, lookahead, b", lookahead ", a);
+    let to = put_number(out, from, b": a bad word at i can spoil blocks i - ", a);
+    let end = put_number(out, to, b" to i + ", m);
+    put(out, end, b"\n")
+}
+
+// The line of the constraint.
+fn put_constraint(out: &mut [u8], at: usize, k: usize, start: usize) -> usize
+    ensures written { λ r. ⌜ Added (constraintLine k start) at (now (out .entry)) (now (out .exit)) r ⌝ }
+{
+    let count = put(out, at, b"constraint of ");
+    let first = put_count(out, count, k, b" state");
+    let end = put_number(out, first, b", start ", start);
+    put(out, end, b"\n")
+}
+
+// The listing.
+fn put_listing(out: &mut [u8], at: usize, t: Table) -> usize
+    requires { ⌜ Listed t ⌝ }
+    ensures written { λ r. ⌜ Added (listing (codeIn t)) at (now (out .entry)) (now (out .exit)) r ⌝ }
+{
+    let mut lines = [0u8; 43028];
+    match list(t, &mut lines) {
+        Answer::Done(size) => put(out, at, &lines[..size]),
+        Answer::Refused(_) => put(out, at, b""),
+    }
+}
+
+// The table is one that a record can give, with its window.
+fn is_whole(t: Table) -> bool
+    ensures answer { λ r. ⌜ r ≡ whole t ⌝ }
+{
+    if 15 < t.memory {
+        return false;
+    }
+    if 15 < t.lookahead {
+        return false;
+    }
+    is_ready(t)
+}
+
+// The code in words and its listing behind the first `at` bytes; the answer is the place behind them.
+pub fn show(t: Table, out: &mut [u8], at: usize) -> usize
+    ensures written { λ r. ⌜ Added (showText t) at (now (out .entry)) (now (out .exit)) r ⌝ }
+{
+    if !is_whole(t) {
+        return put(out, at, b"");
+    }
+    let window = put_rate(out, at, t.p, t.q, t.states);
+    let constraint = put_window(out, window, t.memory, t.lookahead);
+    let first = put_constraint(out, constraint, t.constraint.states, t.start);
+    put_listing(out, first, t)
+}

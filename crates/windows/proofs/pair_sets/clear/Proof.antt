@@ -1,0 +1,62 @@
+-- The places that the loop has passed hold no pair.
+use mathlib.Core.Path.{_≡_, refl, _∙_}
+use mathlib.Core.Bool.{false}
+use Prim.Native.Nat.{ℕ, _-_, _*_, _≤_, _<_}
+use native.Mathlib.Omega.{arith}
+use lib.ListN.{length, length-set}
+use Rattle.laws.specs.Sets.{member}
+use Rattle.windows.specs.PairSets.{Long}
+use Rattle.windows.proofs.SetLaws.{set-more}
+use borrow.Author.Needs.{needs}
+use Rattle.windows.proofs.pair_sets.clear.Statement.{statement}
+use Rattle.windows.proofs.pair_sets.clear.Tie as tie
+
+abbrev Inv-loop : tie.InvT-loop
+Inv-loop states out₀ z₀ out z =
+    (z ≤ states * 128) × Long out × ((j : ℕ) → j < z → member out j ≡ false)
+
+abbrev μ-loop : tie.MeasureT-loop
+μ-loop states out₀ z₀ out z = states * 128 - z
+
+loop-holds : tie.Need-loop-holds Inv-loop μ-loop
+loop-holds c = (omega arith, c .pre .1, λ j l. absurd (omega arith))
+
+mul-loop : tie.Need-mul-loop Inv-loop μ-loop
+mul-loop c = search needs
+
+element-write-out : tie.Need-element-write-out Inv-loop μ-loop
+element-write-out c = search needs
+
+add-z : tie.Need-add-z Inv-loop μ-loop
+add-z c = search needs
+
+loop-less : tie.Need-loop-less Inv-loop μ-loop
+loop-less c = search needs
+
+loop-again : tie.Need-loop-again Inv-loop μ-loop
+loop-again c =
+    let l = c .before .loop in
+    let small : l .z < length (l .out) = rw (l .inv .1) (omega arith) in (
+      omega arith,
+      length-set (l .out) (l .z) false ∙ l .inv .1,
+      set-more (λ j. false) (l .out) (l .z) false refl small (l .inv .2),
+    )
+
+returns : tie.Need-returns Inv-loop μ-loop
+returns c =
+    let l = c .before .loop in
+    (l .inv .1, λ z h. l .inv .2 z (omega arith))
+
+pub clear-spec : {M : Type 1} → statement M
+clear-spec =
+    tie.close
+    (tie.spec
+    Inv-loop
+    μ-loop
+    loop-holds
+    mul-loop
+    element-write-out
+    add-z
+    loop-less
+    loop-again
+    returns)

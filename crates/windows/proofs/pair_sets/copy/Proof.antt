@@ -1,0 +1,70 @@
+-- The places that the loop has passed hold what those of the set hold.
+use mathlib.Core.Path.{_≡_, refl, _∙_}
+use Prim.Native.Nat.{ℕ, _-_, _*_, _≤_, _<_}
+use native.Mathlib.Omega.{arith}
+use denote.Ref.{now}
+use lib.ListN.{length, length-set}
+use Rattle.laws.specs.Sets.{member}
+use Rattle.windows.specs.PairSets.{Long}
+use Rattle.windows.proofs.SetLaws.{set-more, copied}
+use borrow.Author.Needs.{needs}
+use Rattle.windows.proofs.pair_sets.copy.Statement.{statement}
+use Rattle.windows.proofs.pair_sets.copy.Tie as tie
+
+abbrev Inv-loop : tie.InvT-loop
+Inv-loop states set out₀ z₀ out z =
+    (z ≤ states * 128) × Long out × ((j : ℕ) → j < z → member out j ≡ member set j)
+
+abbrev μ-loop : tie.MeasureT-loop
+μ-loop states set out₀ z₀ out z = states * 128 - z
+
+loop-holds : tie.Need-loop-holds Inv-loop μ-loop
+loop-holds c = (omega arith, c .pre .1, λ j l. absurd (omega arith))
+
+mul-loop : tie.Need-mul-loop Inv-loop μ-loop
+mul-loop c = search needs
+
+element-copy-out-out : tie.Need-element-copy-out-out Inv-loop μ-loop
+element-copy-out-out c = search needs
+
+element-write-out : tie.Need-element-write-out Inv-loop μ-loop
+element-write-out c = search needs
+
+add-z : tie.Need-add-z Inv-loop μ-loop
+add-z c = search needs
+
+loop-less : tie.Need-loop-less Inv-loop μ-loop
+loop-less c = search needs
+
+loop-again : tie.Need-loop-again Inv-loop μ-loop
+loop-again c =
+    let A = now (c .before .before .before .args .set) in
+    let l = c .before .before .loop in
+    let small : l .z < length (l .out) = rw (l .inv .1) (omega arith) in (
+      omega arith,
+      length-set (l .out) (l .z) (member A (l .z)) ∙ l .inv .1,
+      set-more (member A) (l .out) (l .z) (member A (l .z)) refl small (l .inv .2),
+    )
+
+returns : tie.Need-returns Inv-loop μ-loop
+returns c =
+    let s = c .before .before in
+    let l = c .before .loop in (
+      l .inv .1,
+      copied (s .args .states) (now (s .args .set)) (l .out) (s .pre .0) (λ j h. l .inv .2 j (omega arith)),
+    )
+
+pub copy-spec : {M : Type 1} → statement M
+copy-spec =
+    tie.close
+    (tie.spec
+    Inv-loop
+    μ-loop
+    loop-holds
+    mul-loop
+    element-copy-out-out
+    element-write-out
+    add-z
+    loop-less
+    loop-again
+    returns)
