@@ -1,7 +1,5 @@
 -- `put_number` meets its contract: name and number are put in a row.
 -- Assumes nothing.
-use denote.Ref.{now}
-use Rattle.text.specs.Texts.{decimal}
 use Rattle.text.proofs.Adding.{added-more}
 use borrow.Author.Needs.{needs}
 use Rattle.text.proofs.put_number.Statement.{statement}
@@ -20,9 +18,7 @@ returns : tie.Need-returns
 returns c =
     let number = c .before .before in
     let name = number .before .before .before .before in
-    let a = name .before .before .before .before .args in
-    added-more (now (a .name)) (decimal (a .n)) (now (a .out)) _ _ (a .at) (name .put .result) (number .put-decimal
-        .result) (name .put .ensures) (number .put-decimal .ensures)
+    added-more (name .put .ensures) (number .put-decimal .ensures)
 
 pub put-number-spec : {M : Type 1} → statement M
 put-number-spec =
