@@ -1,12 +1,12 @@
 -- A result lies within the bytes that were lent for it; and marks, block by block.
--- In order: result-within, front-long; zeros-long; mark-on, mark-end.
+-- In order: result-within, front-long; mark-on, mark-end.
 -- Assumes nothing.
 use mathlib.Core.Path.{_≡_, refl, sym, ap, subst, _∙_}
 use mathlib.Core.List.{List, [], _∷_, _++_}
 use Prim.Native.Nat.{ℕ, _+_, _≤_, _<_}
 use native.Mathlib.Numerals.{add-one}
 use native.Mathlib.Omega.{arith}
-use lib.ListN.{length, getD, drop, replicate, length-append, length-replicate}
+use lib.ListN.{length, getD, drop, length-append}
 use lib.Seq.{drop-cons, drop-length}
 use Rattle.answer.specs.declared.Answer.{Answer}
 use Rattle.answer.specs.declared.Answer.the-variants.{Done}
@@ -22,10 +22,6 @@ result-within o a B C e w = subst (λ a. Within a C) (sym e) (go o w)
 
 pub front-long : (a : Answer) (xs : List ℕ) (n : ℕ) → Within a xs → a ≡ Done n → n ≤ length xs
 front-long a xs n h e = subst (λ a. Within a xs) e h
-
--- an array of zeros has the length that it is made with
-pub zeros-long : (n : ℕ) → n ≡ length {A = ℕ} (replicate n 0)
-zeros-long n = sym (length-replicate n 0)
 
 module _ (bs : List ℕ) (i : ℕ) where
   pub mark-on : i < length bs → marksIn (drop i bs) ≡ markOf (getD bs i 0) + marksIn (drop (i + 1) bs)

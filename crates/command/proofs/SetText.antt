@@ -82,4 +82,4 @@ module _ (s B C D : List ℕ) (i at r : ℕ) where
   pub lines-more : Added (linesTo s i) 0 B C at → Added (recordText s i) at C D r → Added (linesTo s (i + 1)) 0 B D r
   unfolding linesTo
   lines-more p q =
-      added-same (sym (concat-more (recordText s) i)) (added-more (linesTo s i) (recordText s i) B C D 0 at r p q)
+      added-same (sym (concat-more (recordText s) i)) (added-more p q)

@@ -3,3 +3,4 @@ pub mod Parsing
 pub mod Sayings
 pub mod Results
 pub mod SetText
+pub mod Viewing

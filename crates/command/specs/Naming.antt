@@ -4,7 +4,8 @@
 use mathlib.Core.List.{List}
 use Prim.Native.Nat.{ℕ}
 use Rattle.laws.specs.Lists.{if_then_else_}
-use Rattle.text.specs.Words.{words, same}
+use Rattle.text.specs.Texts.{bytes}
+use Rattle.text.specs.Words.{same}
 use Rattle.command.specs.declared.arguments.Action.{Action}
 use Rattle.command.specs.declared.arguments.Action.the-variants.{Compile, CompileJob, Trace, Collection, Help}
 use Rattle.command.specs.declared.arguments.Action.the-variants.{Check, Show, Draw, Encode, Decode, Unknown}
@@ -14,20 +15,20 @@ use Rattle.command.specs.declared.Status.the-variants.{Done, Failed, Mis
 -- the action on one record, or on one and what is recorded under it
 unfoldable pub recordAction : List ℕ → Action
 recordAction w =
-    if same w (words "check") then Check else
-    if same w (words "show") then Show else
-    if same w (words "draw") then Draw else
-    if same w (words "encode") then Encode else
-    if same w (words "decode") then Decode else Unknown
+    if same w (bytes "check") then Check else
+    if same w (bytes "show") then Show else
+    if same w (bytes "draw") then Draw else
+    if same w (bytes "encode") then Encode else
+    if same w (bytes "decode") then Decode else Unknown
 
 -- the action that a word names
 unfoldable pub actionOf : List ℕ → Action
 actionOf w =
-    if same w (words "compile") then Compile else
-    if same w (words "compile-job") then CompileJob else
-    if same w (words "trace") then Trace else
-    if same w (words "set") then Collection else
-    if same w (words "help") then Help else recordAction w
+    if same w (bytes "compile") then Compile else
+    if same w (bytes "compile-job") then CompileJob else
+    if same w (bytes "trace") then Trace else
+    if same w (bytes "set") then Collection else
+    if same w (bytes "help") then Help else recordAction w
 
 -- the exit status
 abbrev pub statusOf : Status → ℕ

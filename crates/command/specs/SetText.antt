@@ -5,7 +5,8 @@ use mathlib.Core.List.{List, [], _++_, map}
 use Prim.Native.Nat.{ℕ}
 use lib.ListN.{length, take, drop}
 use Rattle.laws.specs.Lists.{range, concat}
-use Rattle.text.specs.Words.{words, told}
+use Rattle.text.specs.Texts.{bytes}
+use Rattle.text.specs.Words.{told}
 use Rattle.answer.specs.Outcomes.{Outcome, done, refused}
 use Rattle.table.specs.Rows.{Code}
 use Rattle.record.specs.Parse.{parse}
@@ -15,12 +16,12 @@ use Rattle.sets.specs.Offsets.{recordPlace}
 
 -- the number of a record, its first byte and its length
 unfoldable pub placeText : ℕ → ℕ → ℕ → List ℕ
-placeText i start len = told "record " i ++ told " at byte " start ++ told ", " len ++ words " bytes: "
+placeText i start len = told "record " i ++ told " at byte " start ++ told ", " len ++ bytes " bytes: "
 
 -- p, q, states, m and a of a code
 unfoldable pub kindText : ℕ → ℕ → ℕ → ℕ → ℕ → List ℕ
 kindText p q states m a =
-    told "p " p ++ told ", q " q ++ told ", " states ++ told " states, m " m ++ told ", a " a ++ words "\n"
+    told "p " p ++ told ", q " q ++ told ", " states ++ told " states, m " m ++ told ", a " a ++ bytes "\n"
 
 -- a record at a place, if it is good
 abbrev pub recordLine : ℕ → ℕ → ℕ → Outcome Code → List ℕ
@@ -44,4 +45,4 @@ linesTo s n = concat (map (recordText s) (range n))
 
 -- what is printed of a good set of n records
 unfoldable pub setText : List ℕ → ℕ → List ℕ
-setText s n = linesTo s n ++ told "" n ++ words " records, all good\n"
+setText s n = linesTo s n ++ told "" n ++ bytes " records, all good\n"

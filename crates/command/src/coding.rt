@@ -6,11 +6,19 @@ ghost use Rattle.command.specs.Results.{Within, markOf, marksIn};
 use crate::Status;
 use crate::arguments::Action;
 use crate::compiling::finish;
-use crate::files::load;
-use crate::files::load_whole;
+use crate::inputs::is_twice;
+use crate::inputs::load;
+use crate::inputs::load_whole;
 use crate::messages::say_marks;
 use crate::usage::misused;
 use answer::Answer;
+
+// 1,000,015 zeros: room for the words of 1,000,000 blocks.
+fn recording() -> [u8; 1000015]
+    ensures answer { λ r. ⌜ 1000015 ≡ length r ⌝ }
+{
+    [0; 1000015]
+}
 
 // 1 for the mark 255, 0 for any other block.
 fn mark(block: u8) -> usize
@@ -42,30 +50,28 @@ fn encode_bytes(bytes: &[u8], blocks: &[u8], out: &mut [u8]) -> Status {
     finish(a, out, 4)
 }
 
-// The blocks in the file of argument 3, encoded under the record in that of argument 2.
-fn encode_in(blocks: &mut [u8], out: &mut [u8]) -> Status {
-    let mut bytes = [0u8; 3865];
-    let r = load(2, &mut bytes);
-    if !r.good {
-        return Status::Failed;
-    }
-    let b = load_whole(3, blocks);
-    if !b.good {
-        return Status::Failed;
-    }
-    let n = r.size;
-    let k = b.size;
-    encode_bytes(&bytes[..n], &blocks[..k], out)
-}
-
 // encode RECORD DATA OUT
 pub fn encode() -> Status {
     if os::arg_count() != 5 {
         return misused(Action::Encode);
     }
-    let mut blocks = [0u8; 1000000];
-    let mut out = [0u8; 1000015];
-    encode_in(&mut blocks, &mut out)
+    if is_twice(2, 3) {
+        return misused(Action::Encode);
+    }
+    let mut bytes = [0u8; 3865];
+    let r = load(2, &mut bytes);
+    if !r.good {
+        return Status::Failed;
+    }
+    let mut blocks = files::buffer();
+    let b = load_whole(3, &mut blocks);
+    if !b.good {
+        return Status::Failed;
+    }
+    let n = r.size;
+    let k = b.size;
+    let mut out = recording();
+    encode_bytes(&bytes[..n], &blocks[..k], &mut out)
 }
 
 // Writes the blocks of a decoding and says how many are marked.
@@ -88,28 +94,26 @@ fn decode_bytes(bytes: &[u8], words: &[u8], out: &mut [u8]) -> Status {
     finish_blocks(a, out)
 }
 
-// The words in the file of argument 3, decoded under the record in that of argument 2.
-fn decode_in(words: &mut [u8], out: &mut [u8]) -> Status {
-    let mut bytes = [0u8; 3865];
-    let r = load(2, &mut bytes);
-    if !r.good {
-        return Status::Failed;
-    }
-    let w = load_whole(3, words);
-    if !w.good {
-        return Status::Failed;
-    }
-    let n = r.size;
-    let k = w.size;
-    decode_bytes(&bytes[..n], &words[..k], out)
-}
-
 // decode RECORD WORDS OUT
 pub fn decode() -> Status {
     if os::arg_count() != 5 {
         return misused(Action::Decode);
     }
-    let mut words = [0u8; 1000015];
-    let mut out = [0u8; 1000015];
-    decode_in(&mut words, &mut out)
+    if is_twice(2, 3) {
+        return misused(Action::Decode);
+    }
+    let mut bytes = [0u8; 3865];
+    let r = load(2, &mut bytes);
+    if !r.good {
+        return Status::Failed;
+    }
+    let mut words = recording();
+    let w = load_whole(3, &mut words);
+    if !w.good {
+        return Status::Failed;
+    }
+    let n = r.size;
+    let k = w.size;
+    let mut out = recording();
+    decode_bytes(&bytes[..n], &words[..k], &mut out)
 }

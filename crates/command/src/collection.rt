@@ -8,8 +8,8 @@ ghost use Rattle.record.specs.Parse.{parse};
 ghost use Rattle.command.specs.SetText.{placeText, kindText, recordLine, recordText, linesTo, setText};
 use crate::Status;
 use crate::arguments::Action;
-use crate::files::load_whole;
-use crate::files::print;
+use crate::inputs::load_whole;
+use crate::inputs::print;
 use crate::messages::refuse_set;
 use crate::usage::misused;
 use record::Verdict;
@@ -115,21 +115,16 @@ fn tell_set(set: &[u8]) -> Status {
     }
 }
 
-// The set in the file of argument 2.
-fn set_in(bytes: &mut [u8]) -> Status {
-    let l = load_whole(2, bytes);
-    if !l.good {
-        return Status::Failed;
-    }
-    let n = l.size;
-    tell_set(&bytes[..n])
-}
-
 // set FILE
 pub fn set() -> Status {
     if os::arg_count() != 3 {
         return misused(Action::Collection);
     }
-    let mut bytes = [0u8; 1000000];
-    set_in(&mut bytes)
+    let mut bytes = files::buffer();
+    let l = load_whole(2, &mut bytes);
+    if !l.good {
+        return Status::Failed;
+    }
+    let n = l.size;
+    tell_set(&bytes[..n])
 }

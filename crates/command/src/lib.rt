@@ -6,7 +6,7 @@ mod arguments;
 mod coding;
 mod collection;
 mod compiling;
-mod files;
+mod inputs;
 mod messages;
 mod records;
 mod usage;
@@ -44,9 +44,9 @@ fn act(a: Action) -> Status {
         Action::Trace => misused(Action::Trace),
         Action::Collection => collection::set(),
         Action::Help => usage::help(),
-        Action::Check => records::check(),
-        Action::Show => misused(Action::Show),
-        Action::Draw => misused(Action::Draw),
+        Action::Check => records::check_file(),
+        Action::Show => records::show_file(),
+        Action::Draw => records::draw_file(),
         Action::Encode => coding::encode(),
         Action::Decode => coding::decode(),
         Action::Unknown => misused(Action::Unknown),

@@ -83,7 +83,7 @@ fn tell_coding(file: i32, a: Action) -> bool {
             file,
             b"usage: sbc encode RECORD DATA OUT
 Encodes the blocks in DATA, one byte each and below 2^p, under the record in RECORD, and writes the words to OUT, one
-byte each. N blocks give N + a words. At most 1,000,000 blocks.
+byte each. N blocks give N + a words. At most 1,000,000 blocks. Only one of RECORD and DATA can be -.
 ",
         ),
         _ => io::write_all(
@@ -91,7 +91,7 @@ byte each. N blocks give N + a words. At most 1,000,000 blocks.
             b"usage: sbc decode RECORD WORDS OUT
 Decodes the words in WORDS, one byte each and below 2^q, under the record in RECORD, and writes the blocks to OUT, one
 byte each. W words give W - a blocks. A block that cannot be read is the mark 255; how many there are is said on
-standard error. At most 1,000,015 words.
+standard error. At most 1,000,015 words. Only one of RECORD and WORDS can be -.
 ",
         ),
     }
@@ -138,6 +138,9 @@ fn print_use(a: Action) -> Status {
 pub fn help() -> Status {
     if os::arg_count() < 3 {
         return print_use(Action::Help);
+    }
+    if 3 < os::arg_count() {
+        return misused(Action::Help);
     }
     let mut word = io::buffer();
     let n = os::arg(2, &mut word);

@@ -3,7 +3,8 @@
 use mathlib.Core.Path.{_≡_, sym, _∙_}
 use mathlib.Core.Bool.{true, false}
 use denote.Ref.{now}
-use Rattle.text.specs.Words.{words, same}
+use Rattle.text.specs.Texts.{bytes}
+use Rattle.text.specs.Words.{same}
 use Rattle.command.specs.Naming.{actionOf}
 use borrow.Author.Needs.{needs}
 use Rattle.command.proofs.arguments.action_of.Statement.{statement}
@@ -16,10 +17,10 @@ is-same-requires : tie.Need-is-same-requires
 is-same-requires c κs = search needs
 
 returns : tie.Need-returns
-unfolding words actionOf
+unfolding actionOf
 returns c =
     let w = now (c .before .before .before .before .args .word) in
-    let e1 : same w (words "compile") ≡ true =
+    let e1 : same w (bytes "compile") ≡ true =
     sym (c .before .is-same .ensures) ∙ c .if1 .taken in
     simp (e1)
 
@@ -30,13 +31,13 @@ is-same-requires-2 : tie.Need-is-same-requires-2
 is-same-requires-2 c κs = search needs
 
 returns-2 : tie.Need-returns-2
-unfolding words actionOf
+unfolding actionOf
 returns-2 c =
     let c1 = c .before .before .before in
     let w = now (c1 .before .before .before .before .args .word) in
-    let e1 : same w (words "compile") ≡ false =
+    let e1 : same w (bytes "compile") ≡ false =
     sym (c1 .before .is-same .ensures) ∙ c1 .if1 .left in
-    let e2 : same w (words "compile-job") ≡ true =
+    let e2 : same w (bytes "compile-job") ≡ true =
     sym (c .before .is-same2 .ensures) ∙ c .if2 .taken in
     simp (e1, e2)
 
@@ -47,16 +48,16 @@ is-same-requires-3 : tie.Need-is-same-requires-3
 is-same-requires-3 c κs = search needs
 
 returns-3 : tie.Need-returns-3
-unfolding words actionOf
+unfolding actionOf
 returns-3 c =
     let c2 = c .before .before .before in
     let c1 = c2 .before .before .before in
     let w = now (c1 .before .before .before .before .args .word) in
-    let e1 : same w (words "compile") ≡ false =
+    let e1 : same w (bytes "compile") ≡ false =
     sym (c1 .before .is-same .ensures) ∙ c1 .if1 .left in
-    let e2 : same w (words "compile-job") ≡ false =
+    let e2 : same w (bytes "compile-job") ≡ false =
     sym (c2 .before .is-same2 .ensures) ∙ c2 .if2 .left in
-    let e3 : same w (words "trace") ≡ true =
+    let e3 : same w (bytes "trace") ≡ true =
     sym (c .before .is-same3 .ensures) ∙ c .if3 .taken in
     simp (e1, e2, e3)
 
@@ -67,19 +68,19 @@ is-same-requires-4 : tie.Need-is-same-requires-4
 is-same-requires-4 c κs = search needs
 
 returns-4 : tie.Need-returns-4
-unfolding words actionOf
+unfolding actionOf
 returns-4 c =
     let c3 = c .before .before .before in
     let c2 = c3 .before .before .before in
     let c1 = c2 .before .before .before in
     let w = now (c1 .before .before .before .before .args .word) in
-    let e1 : same w (words "compile") ≡ false =
+    let e1 : same w (bytes "compile") ≡ false =
     sym (c1 .before .is-same .ensures) ∙ c1 .if1 .left in
-    let e2 : same w (words "compile-job") ≡ false =
+    let e2 : same w (bytes "compile-job") ≡ false =
     sym (c2 .before .is-same2 .ensures) ∙ c2 .if2 .left in
-    let e3 : same w (words "trace") ≡ false =
+    let e3 : same w (bytes "trace") ≡ false =
     sym (c3 .before .is-same3 .ensures) ∙ c3 .if3 .left in
-    let e4 : same w (words "set") ≡ true =
+    let e4 : same w (bytes "set") ≡ true =
     sym (c .before .is-same4 .ensures) ∙ c .if4 .taken in
     simp (e1, e2, e3, e4)
 
@@ -90,22 +91,22 @@ is-same-requires-5 : tie.Need-is-same-requires-5
 is-same-requires-5 c κs = search needs
 
 returns-5 : tie.Need-returns-5
-unfolding words actionOf
+unfolding actionOf
 returns-5 c =
     let c4 = c .before .before .before in
     let c3 = c4 .before .before .before in
     let c2 = c3 .before .before .before in
     let c1 = c2 .before .before .before in
     let w = now (c1 .before .before .before .before .args .word) in
-    let e1 : same w (words "compile") ≡ false =
+    let e1 : same w (bytes "compile") ≡ false =
     sym (c1 .before .is-same .ensures) ∙ c1 .if1 .left in
-    let e2 : same w (words "compile-job") ≡ false =
+    let e2 : same w (bytes "compile-job") ≡ false =
     sym (c2 .before .is-same2 .ensures) ∙ c2 .if2 .left in
-    let e3 : same w (words "trace") ≡ false =
+    let e3 : same w (bytes "trace") ≡ false =
     sym (c3 .before .is-same3 .ensures) ∙ c3 .if3 .left in
-    let e4 : same w (words "set") ≡ false =
+    let e4 : same w (bytes "set") ≡ false =
     sym (c4 .before .is-same4 .ensures) ∙ c4 .if4 .left in
-    let e5 : same w (words "help") ≡ true =
+    let e5 : same w (bytes "help") ≡ true =
     sym (c .before .is-same5 .ensures) ∙ c .if5 .taken in
     simp (e1, e2, e3, e4, e5)
 
@@ -113,7 +114,7 @@ record-action-requires : tie.Need-record-action-requires
 record-action-requires c κs = search needs
 
 returns-6 : tie.Need-returns-6
-unfolding words actionOf
+unfolding actionOf
 returns-6 c =
     let c5 = c .before in
     let c4 = c5 .before .before .before in
@@ -121,15 +122,15 @@ returns-6 c =
     let c2 = c3 .before .before .before in
     let c1 = c2 .before .before .before in
     let w = now (c1 .before .before .before .before .args .word) in
-    let e1 : same w (words "compile") ≡ false =
+    let e1 : same w (bytes "compile") ≡ false =
     sym (c1 .before .is-same .ensures) ∙ c1 .if1 .left in
-    let e2 : same w (words "compile-job") ≡ false =
+    let e2 : same w (bytes "compile-job") ≡ false =
     sym (c2 .before .is-same2 .ensures) ∙ c2 .if2 .left in
-    let e3 : same w (words "trace") ≡ false =
+    let e3 : same w (bytes "trace") ≡ false =
     sym (c3 .before .is-same3 .ensures) ∙ c3 .if3 .left in
-    let e4 : same w (words "set") ≡ false =
+    let e4 : same w (bytes "set") ≡ false =
     sym (c4 .before .is-same4 .ensures) ∙ c4 .if4 .left in
-    let e5 : same w (words "help") ≡ false =
+    let e5 : same w (bytes "help") ≡ false =
     sym (c5 .before .is-same5 .ensures) ∙ c5 .if5 .left in
     c .record-action .ensures ∙ sym (simp (e1, e2, e3, e4, e5))
 

@@ -1,8 +1,5 @@
 -- `put_kind` meets its contract: the numbers are put in a row.
 -- Assumes nothing.
-use mathlib.Core.List.{_++_}
-use denote.Ref.{now}
-use Rattle.text.specs.Words.{words, told}
 use Rattle.text.proofs.Adding.{added-more}
 use Rattle.command.specs.SetText.{kindText}
 use borrow.Author.Needs.{needs}
@@ -49,7 +46,7 @@ same-length : tie.Need-same-length
 same-length c = search needs
 
 returns : tie.Need-returns
-unfolding words kindText
+unfolding kindText
 returns c =
     let p6 = c .before .before in
     let p5 = p6 .before .before .before .before .before in
@@ -57,20 +54,11 @@ returns c =
     let p3 = p4 .before .before .before .before .before in
     let p2 = p3 .before .before .before .before .before in
     let p1 = p2 .before .before .before .before .before in
-    let a = p1 .before .before .before .before .args in
-    let B = now (a .out) in
-    let t1 = told "p " (a .p) in
-    let t2 = told ", q " (a .q) in
-    let t3 = told ", " (a .states) in
-    let t4 = told " states, m " (a .m) in
-    let t5 = told ", a " (a .a) in
-    let t6 = words "\n" in
-    let s1 = p1 .put-number .ensures in
-    let s2 = added-more (t1) t2 B _ _ (a .at) _ _ s1 (p2 .put-number2 .ensures) in
-    let s3 = added-more (t1 ++ t2) t3 B _ _ (a .at) _ _ s2 (p3 .put-number3 .ensures) in
-    let s4 = added-more (t1 ++ t2 ++ t3) t4 B _ _ (a .at) _ _ s3 (p4 .put-number4 .ensures) in
-    let s5 = added-more (t1 ++ t2 ++ t3 ++ t4) t5 B _ _ (a .at) _ _ s4 (p5 .put-number5 .ensures) in
-    added-more (t1 ++ t2 ++ t3 ++ t4 ++ t5) t6 B _ _ (a .at) _ _ s5 (p6 .put .ensures)
+    let s2 = added-more (p1 .put-number .ensures) (p2 .put-number2 .ensures) in
+    let s3 = added-more s2 (p3 .put-number3 .ensures) in
+    let s4 = added-more s3 (p4 .put-number4 .ensures) in
+    let s5 = added-more s4 (p5 .put-number5 .ensures) in
+    added-more s5 (p6 .put .ensures)
 
 pub put-kind-spec : {M : Type 1} → statement M
 put-kind-spec =

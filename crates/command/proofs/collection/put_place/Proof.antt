@@ -1,8 +1,5 @@
 -- `put_place` meets its contract: the numbers are put in a row.
 -- Assumes nothing.
-use mathlib.Core.List.{_++_}
-use denote.Ref.{now}
-use Rattle.text.specs.Words.{words, told}
 use Rattle.text.proofs.Adding.{added-more}
 use Rattle.command.specs.SetText.{placeText}
 use borrow.Author.Needs.{needs}
@@ -37,22 +34,15 @@ same-length : tie.Need-same-length
 same-length c = search needs
 
 returns : tie.Need-returns
-unfolding words placeText
+unfolding placeText
 returns c =
     let p4 = c .before .before in
     let p3 = p4 .before .before .before .before .before in
     let p2 = p3 .before .before .before .before .before in
     let p1 = p2 .before .before .before .before .before in
-    let a = p1 .before .before .before .before .args in
-    let B = now (a .out) in
-    let t1 = told "record " (a .i) in
-    let t2 = told " at byte " (a .start) in
-    let t3 = told ", " (a .len) in
-    let t4 = words " bytes: " in
-    let s1 = p1 .put-number .ensures in
-    let s2 = added-more (t1) t2 B _ _ (a .at) _ _ s1 (p2 .put-number2 .ensures) in
-    let s3 = added-more (t1 ++ t2) t3 B _ _ (a .at) _ _ s2 (p3 .put-number3 .ensures) in
-    added-more (t1 ++ t2 ++ t3) t4 B _ _ (a .at) _ _ s3 (p4 .put .ensures)
+    let s2 = added-more (p1 .put-number .ensures) (p2 .put-number2 .ensures) in
+    let s3 = added-more s2 (p3 .put-number3 .ensures) in
+    added-more s3 (p4 .put .ensures)
 
 pub put-place-spec : {M : Type 1} → statement M
 put-place-spec =

@@ -4,7 +4,7 @@ use denote.Ref.{now}
 use lib.ListN.{length}
 use Rattle.record.specs.Parse.{parse}
 use Rattle.text.proofs.Adding.{added-same, added-more}
-use Rattle.command.specs.SetText.{placeText, kindText}
+use Rattle.command.specs.SetText.{kindText}
 use Rattle.command.proofs.SetText.{line-bad, line-good}
 use borrow.Author.Needs.{needs}
 use Rattle.command.proofs.collection.put_record_at.Statement.{statement}
@@ -56,9 +56,8 @@ returns-2 c =
     let t = r .result .table in
     added-same (line-good (a .i) (a .start) (length bytes) (r .result .verdict) t (parse bytes)
     (place .before .before .enum-told2 .given .1) (r .ensures .0))
-    (added-more (placeText (a .i) (a .start) (length bytes))
-    (kindText (t .p) (t .q) (t .states) (t .memory) (t .lookahead)) (now (a .out)) _ _ (a .at) _ _
-    (place .put-place .ensures) (kind .put-kind .ensures))
+    (added-more {t = kindText (t .p) (t .q) (t .states) (t .memory) (t .lookahead)} (place .put-place .ensures)
+    (kind .put-kind .ensures))
 
 pub put-record-at-spec : {M : Type 1} → statement M
 put-record-at-spec =

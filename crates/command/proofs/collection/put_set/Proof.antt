@@ -1,10 +1,7 @@
 -- `put_set` meets its contract: the count is put behind the lines.
 -- Assumes nothing.
-use mathlib.Core.List.{_++_}
-use denote.Ref.{now}
-use Rattle.text.specs.Words.{words, told}
 use Rattle.text.proofs.Adding.{added-more}
-use Rattle.command.specs.SetText.{linesTo, setText}
+use Rattle.command.specs.SetText.{setText}
 use borrow.Author.Needs.{needs}
 use Rattle.command.proofs.collection.put_set.Statement.{statement}
 use Rattle.command.proofs.collection.put_set.Tie as tie
@@ -28,18 +25,11 @@ same-length : tie.Need-same-length
 same-length c = search needs
 
 returns : tie.Need-returns
-unfolding words setText
+unfolding setText
 returns c =
     let last = c .before .before in
     let count = last .before .before .before .before .before in
-    let lines = count .before .before .before .before .before in
-    let a = lines .before .before .before .before .args in
-    let B = now (a .out) in
-    let front = linesTo (now (a .set)) (a .n) in
-    let number = told "" (a .n) in
-    added-more (front ++ number) (words " records, all good\n") B _ _ 0 _ _
-    (added-more front number B _ _ 0 _ _ (lines .put-records .ensures) (count .put-number .ensures))
-    (last .put .ensures)
+    added-more (added-more (count .before .before .before .before .before .put-records .ensures) (count .put-number .ensures)) (last .put .ensures)
 
 pub put-set-spec : {M : Type 1} → statement M
 put-set-spec =

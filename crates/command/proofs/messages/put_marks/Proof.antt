@@ -1,8 +1,5 @@
 -- `put_marks` meets its contract: the two numbers are put in a row.
 -- Assumes nothing.
-use denote.Ref.{now}
-use mathlib.Core.List.{_++_}
-use Rattle.text.specs.Words.{words, told}
 use Rattle.text.proofs.Adding.{added-more}
 use Rattle.command.specs.Sayings.{marksLine}
 use borrow.Author.Needs.{needs}
@@ -31,17 +28,12 @@ same-length : tie.Need-same-length
 same-length c = search needs
 
 returns : tie.Need-returns
-unfolding words marksLine
+unfolding marksLine
 returns c =
     let last = c .before .before in
     let of = last .before .before .before .before .before in
     let first = of .before .before .before .before .before in
-    let a = first .before .before .before .before .args in
-    let B = now (a .out) in
-    let marks = told "sbc: " (a .k) in
-    let all = told " of " (a .n) in
-    added-more (marks ++ all) (words " blocks marked\n") B _ _ 0 _ _
-    (added-more marks all B _ _ 0 _ _ (first .put-number .ensures) (of .put-number2 .ensures)) (last .put .ensures)
+    added-more (added-more (first .put-number .ensures) (of .put-number2 .ensures)) (last .put .ensures)
 
 pub put-marks-spec : {M : Type 1} → statement M
 put-marks-spec =

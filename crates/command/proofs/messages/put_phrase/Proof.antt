@@ -4,7 +4,6 @@ use mathlib.Core.Path.{_≡_, sym, ap}
 use mathlib.Core.List.{List}
 use Prim.Native.Nat.{ℕ}
 use Rattle.text.specs.Texts.{Added}
-use Rattle.text.specs.Words.{words}
 use Rattle.text.proofs.Adding.{added-same}
 use Rattle.answer.specs.declared.Refusal.{Refusal}
 use Rattle.command.specs.Sayings.{phraseOf}
@@ -136,77 +135,77 @@ same-length : tie.Need-same-length
 same-length c = search needs
 
 returns : tie.Need-returns
-unfolding phraseOf words
+unfolding phraseOf
 returns c = let p = c .before .before in said (p .before .before .before .enum-told .given .1) (p .put .ensures)
 
 same-length-2 : tie.Need-same-length-2
 same-length-2 c = search needs
 
 returns-2 : tie.Need-returns-2
-unfolding phraseOf words
+unfolding phraseOf
 returns-2 c = let p = c .before .before in said (p .before .before .before .enum-told2 .given .1) (p .put2 .ensures)
 
 same-length-3 : tie.Need-same-length-3
 same-length-3 c = search needs
 
 returns-3 : tie.Need-returns-3
-unfolding phraseOf words
+unfolding phraseOf
 returns-3 c = let p = c .before .before in said (p .before .before .before .enum-told3 .given .1) (p .put3 .ensures)
 
 same-length-4 : tie.Need-same-length-4
 same-length-4 c = search needs
 
 returns-4 : tie.Need-returns-4
-unfolding phraseOf words
+unfolding phraseOf
 returns-4 c = let p = c .before .before in said (p .before .before .before .enum-told4 .given .1) (p .put4 .ensures)
 
 same-length-5 : tie.Need-same-length-5
 same-length-5 c = search needs
 
 returns-5 : tie.Need-returns-5
-unfolding phraseOf words
+unfolding phraseOf
 returns-5 c = let p = c .before .before in said (p .before .before .before .enum-told5 .given .1) (p .put5 .ensures)
 
 same-length-6 : tie.Need-same-length-6
 same-length-6 c = search needs
 
 returns-6 : tie.Need-returns-6
-unfolding phraseOf words
+unfolding phraseOf
 returns-6 c = let p = c .before .before in said (p .before .before .before .enum-told6 .given .1) (p .put6 .ensures)
 
 same-length-7 : tie.Need-same-length-7
 same-length-7 c = search needs
 
 returns-7 : tie.Need-returns-7
-unfolding phraseOf words
+unfolding phraseOf
 returns-7 c = let p = c .before .before in said (p .before .before .before .enum-told7 .given .1) (p .put7 .ensures)
 
 same-length-8 : tie.Need-same-length-8
 same-length-8 c = search needs
 
 returns-8 : tie.Need-returns-8
-unfolding phraseOf words
+unfolding phraseOf
 returns-8 c = let p = c .before .before in said (p .before .before .before .enum-told8 .given .1) (p .put8 .ensures)
 
 same-length-9 : tie.Need-same-length-9
 same-length-9 c = search needs
 
 returns-9 : tie.Need-returns-9
-unfolding phraseOf words
+unfolding phraseOf
 returns-9 c = let p = c .before .before in said (p .before .before .before .enum-told9 .given .1) (p .put9 .ensures)
 
 same-length-10 : tie.Need-same-length-10
 same-length-10 c = search needs
 
 returns-10 : tie.Need-returns-10
-unfolding phraseOf words
+unfolding phraseOf
 returns-10 c = let p = c .before .before in said (p .before .before .before .enum-told10 .given .1) (p .put10 .ensures)
 
 same-length-11 : tie.Need-same-length-11
 same-length-11 c = search needs
 
 returns-11 : tie.Need-returns-11
-unfolding phraseOf words
+unfolding phraseOf
 returns-11 c =
     let p = c .before .before in
     said (p .before .before .before .before .r .given .1) (p .put-number .ensures)
@@ -215,14 +214,14 @@ same-length-12 : tie.Need-same-length-12
 same-length-12 c = search needs
 
 returns-12 : tie.Need-returns-12
-unfolding phraseOf words
+unfolding phraseOf
 returns-12 c = let p = c .before .before in said (p .before .before .before .enum-told11 .given .1) (p .put11 .ensures)
 
 same-length-13 : tie.Need-same-length-13
 same-length-13 c = search needs
 
 returns-13 : tie.Need-returns-13
-unfolding phraseOf words
+unfolding phraseOf
 returns-13 c = let p = c .before .before in said (p .before .before .before .enum-told12 .given .1) (p .put12 .ensures)
 
 pub put-phrase-spec : {M : Type 1} → statement M

@@ -1,9 +1,7 @@
 -- `put_refusal` meets its contract: a newline is put behind the number and the condition.
 -- Assumes nothing.
-use denote.Ref.{now}
-use Rattle.text.specs.Words.{words}
 use Rattle.text.proofs.Adding.{added-more}
-use Rattle.command.specs.Sayings.{saying, refusalLine}
+use Rattle.command.specs.Sayings.{refusalLine}
 use borrow.Author.Needs.{needs}
 use Rattle.command.proofs.messages.put_refusal.Statement.{statement}
 use Rattle.command.proofs.messages.put_refusal.Tie as tie
@@ -21,12 +19,10 @@ same-length : tie.Need-same-length
 same-length c = search needs
 
 returns : tie.Need-returns
-unfolding words refusalLine
+unfolding refusalLine
 returns c =
     let last = c .before .before in
-    let first = last .before .before .before .before .before in
-    let a = first .before .before .before .args in
-    added-more (saying (a .r)) (words "\n") (now (a .out)) _ _ 0 _ _ (first .put-saying .ensures) (last .put .ensures)
+    added-more (last .before .before .before .before .before .put-saying .ensures) (last .put .ensures)
 
 pub put-refusal-spec : {M : Type 1} → statement M
 put-refusal-spec =

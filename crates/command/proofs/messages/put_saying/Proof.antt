@@ -1,12 +1,9 @@
 -- `put_saying` meets its contract: the number and the condition are put in a row.
 -- Assumes nothing.
-use mathlib.Core.Path.{sym, ap}
-use denote.Ref.{now}
-use mathlib.Core.List.{_++_}
-use Rattle.text.specs.Words.{words, told}
+use mathlib.Core.Path.{ap}
+use Rattle.text.specs.Words.{told}
 use Rattle.text.proofs.Adding.{added-same, added-more}
-use Rattle.answer.specs.Refusals.{numberOf}
-use Rattle.command.specs.Sayings.{phraseOf, saying}
+use Rattle.command.specs.Sayings.{saying}
 use borrow.Author.Needs.{needs}
 use Rattle.command.proofs.messages.put_saying.Statement.{statement}
 use Rattle.command.proofs.messages.put_saying.Tie as tie
@@ -33,18 +30,14 @@ same-length : tie.Need-same-length
 same-length c = search needs
 
 returns : tie.Need-returns
-unfolding words saying
+unfolding saying
 returns c =
     let phrase = c .before .before in
     let colon = phrase .before .before .before .before in
     let number = colon .before .before .before .before .before in
-    let a = number .before .before .before .before .before .args in
-    let B = now (a .out) in
-    let front = told "sbc: refused " (numberOf (a .r)) in
     let same = ap (told "sbc: refused ") (number .before .refusal-number .ensures) in
     let first = added-same same (number .put-number .ensures) in
-    let second = added-more front (words ": ") B _ _ 0 _ _ first (colon .put .ensures) in
-    added-more (front ++ words ": ") (phraseOf (a .r)) B _ _ 0 _ _ second (phrase .put-phrase .ensures)
+    added-more (added-more first (colon .put .ensures)) (phrase .put-phrase .ensures)
 
 pub put-saying-spec : {M : Type 1} → statement M
 put-saying-spec =

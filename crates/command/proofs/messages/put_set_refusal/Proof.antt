@@ -1,10 +1,7 @@
 -- `put_set_refusal` meets its contract: the number of the record is put behind the number and the condition.
 -- Assumes nothing.
-use denote.Ref.{now}
-use mathlib.Core.List.{_++_}
-use Rattle.text.specs.Words.{words, told}
 use Rattle.text.proofs.Adding.{added-more}
-use Rattle.command.specs.Sayings.{saying, setRefusalLine}
+use Rattle.command.specs.Sayings.{setRefusalLine}
 use borrow.Author.Needs.{needs}
 use Rattle.command.proofs.messages.put_set_refusal.Statement.{statement}
 use Rattle.command.proofs.messages.put_set_refusal.Tie as tie
@@ -28,17 +25,11 @@ same-length : tie.Need-same-length
 same-length c = search needs
 
 returns : tie.Need-returns
-unfolding words setRefusalLine
+unfolding setRefusalLine
 returns c =
     let last = c .before .before in
     let number = last .before .before .before .before .before in
-    let first = number .before .before .before .before .before in
-    let a = first .before .before .before .args in
-    let B = now (a .out) in
-    let where-at = told ", at record " (a .i) in
-    added-more (saying (a .r) ++ where-at) (words "\n") B _ _ 0 _ _
-    (added-more (saying (a .r)) where-at B _ _ 0 _ _ (first .put-saying .ensures) (number .put-number .ensures))
-    (last .put .ensures)
+    added-more (added-more (number .before .before .before .before .before .put-saying .ensures) (number .put-number .ensures)) (last .put .ensures)
 
 pub put-set-refusal-spec : {M : Type 1} → statement M
 put-set-refusal-spec =

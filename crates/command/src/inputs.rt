@@ -1,70 +1,70 @@
 // Files and standard input read into lent bytes, and results written. A file named - is standard input or output.
 ghost use Rattle.io.specs.Counts.{Counts};
+ghost use Rattle.files.specs.Files.{Fits};
 use crate::Status;
 use crate::messages::complain;
 use crate::messages::say_too_long;
+use files::Loaded;
 use libc::STDIN_FILENO;
 use libc::STDOUT_FILENO;
-use libc::close;
-use libc::read;
 use text::is_same;
 
 // What reading a file comes to: whether it went well, whether the file has more bytes than were lent, and how many of
 // the lent bytes it filled.
-pub struct Loaded {
+pub struct Input {
     pub good: bool,
     pub more: bool,
     pub size: usize,
 }
 
 // Nothing was read.
-const NOTHING: Loaded = Loaded {
+const NOTHING: Input = Input {
     good: false,
     more: false,
     size: 0,
 };
 
-// The file of this name, open to be read; below 0 where it cannot be opened.
-fn open_input(name: &[u8]) -> i32 {
-    if is_same(name, b"-") {
-        return STDIN_FILENO;
-    }
-    os::open_read(name)
+// Whether argument i is -.
+fn is_dash(i: usize) -> bool {
+    let mut name = io::buffer();
+    let n = os::arg(i, &mut name);
+    is_same(&name[..n], b"-")
 }
 
-// Reads an open file until the lent bytes are full or the file ends, and looks whether there are more.
-fn read_open(file: i32, out: &mut [u8]) -> Loaded
-    ensures past { λ r. ⌜ Counts (r .size) (now (out .exit)) ⌝ }
+// Reads the file of this name.
+fn load_from(name: &[u8], out: &mut [u8]) -> Loaded
+    ensures past { λ r. ⌜ Fits r (now (out .exit)) ⌝ }
 {
-    let size = io::read_full(file, out);
-    let mut one = [0u8; 1];
-    let next = read(file, &mut one);
-    Loaded {
-        good: next >= 0,
-        more: next > 0,
-        size,
+    if is_same(name, b"-") {
+        return files::load_open(STDIN_FILENO, out);
     }
+    files::load(name, out)
 }
 
 // Reads the file of this name. It says what goes wrong.
-fn load_named(name: &[u8], out: &mut [u8]) -> Loaded
+fn load_named(name: &[u8], out: &mut [u8]) -> Input
     ensures past { λ r. ⌜ Counts (r .size) (now (out .exit)) ⌝ }
 {
-    let file = open_input(name);
-    if file < 0 {
-        complain(name);
-        return NOTHING;
+    match load_from(name, out) {
+        Loaded::Whole(n) => Input {
+            good: true,
+            more: false,
+            size: n,
+        },
+        Loaded::TooLong => Input {
+            good: true,
+            more: true,
+            size: out.len(),
+        },
+        Loaded::Unreadable => {
+            complain(name);
+            NOTHING
+        }
     }
-    let r = read_open(file, out);
-    if !r.good {
-        complain(name);
-    }
-    close(file);
-    r
 }
 
 // Reads the file that argument i names. It says what goes wrong.
-pub fn load(i: usize, out: &mut [u8]) -> Loaded
+pub fn load(i: usize, out: &mut [u8]) -> Input
     ensures past { λ r. ⌜ Counts (r .size) (now (out .exit)) ⌝ }
 {
     let mut name = io::buffer();
@@ -77,7 +77,7 @@ pub fn load(i: usize, out: &mut [u8]) -> Loaded
 }
 
 // As load, and a file that is longer than the lent bytes is too long.
-pub fn load_whole(i: usize, out: &mut [u8]) -> Loaded
+pub fn load_whole(i: usize, out: &mut [u8]) -> Input
     ensures past { λ r. ⌜ Counts (r .size) (now (out .exit)) ⌝ }
 {
     let r = load(i, out);
@@ -85,13 +85,21 @@ pub fn load_whole(i: usize, out: &mut [u8]) -> Loaded
         let mut name = io::buffer();
         let n = os::arg(i, &mut name);
         say_too_long(&name[..n], out.len());
-        return Loaded {
+        return Input {
             good: false,
             more: true,
             size: r.size,
         };
     }
     r
+}
+
+// Whether arguments i and j both name standard input, which can be read only once.
+pub fn is_twice(i: usize, j: usize) -> bool {
+    if is_dash(i) {
+        return is_dash(j);
+    }
+    false
 }
 
 // Writes to standard output.
@@ -107,17 +115,10 @@ fn store_named(name: &[u8], bytes: &[u8]) -> Status {
     if is_same(name, b"-") {
         return print(bytes);
     }
-    let file = os::open_overwrite(name);
-    if file < 0 {
-        return complain(name);
+    if files::store(name, bytes) {
+        return Status::Done;
     }
-    if !io::write_all(file, bytes) {
-        return complain(name);
-    }
-    if close(file) < 0 {
-        return complain(name);
-    }
-    Status::Done
+    complain(name)
 }
 
 // Writes the file that argument i names; standard output where there is no such argument.
