@@ -4,12 +4,14 @@ use crate::Status;
 use crate::arguments::Action;
 use crate::arguments::numbers_said;
 use crate::inputs::load;
+use crate::inputs::print;
 use crate::inputs::store;
 use crate::messages::refuse;
 use crate::usage::misused;
 use answer::Answer;
 use compiler::bytes::compile_job;
 use compiler::bytes::compile_run_length;
+use trace::tracing::trace_run_length;
 
 // Says the refusal of a call, or writes its result, which is in front of `out`, to the file that argument i names.
 pub fn finish(a: Answer, out: &[u8], i: usize) -> Status
@@ -68,4 +70,19 @@ pub fn compile_file() -> Status {
     let n = l.size;
     let mut out = [0u8; 3864];
     compile_bytes(&job[..n], &mut out)
+}
+
+// trace d k p q cap
+pub fn trace_numbers() -> Status {
+    if os::arg_count() != 7 {
+        return misused(Action::Trace);
+    }
+    let said = numbers_said();
+    if !said.good {
+        return misused(Action::Trace);
+    }
+    let job = said.job;
+    let mut out = files::buffer();
+    let n = trace_run_length(&job, &mut out, 0);
+    print(&out[..n])
 }

@@ -41,7 +41,7 @@ fn act(a: Action) -> Status {
     match a {
         Action::Compile => compiling::compile(),
         Action::CompileJob => compiling::compile_file(),
-        Action::Trace => misused(Action::Trace),
+        Action::Trace => compiling::trace_numbers(),
         Action::Collection => collection::set(),
         Action::Help => usage::help(),
         Action::Check => records::check_file(),
