@@ -26,7 +26,7 @@ use Rattle.table.specs.Accepted.{Sound}
 use Rattle.table.proofs.Paths.{length-recording, blocks→path, path-words}
 use Rattle.table.proofs.Shape.{words}
 use Rattle.table.proofs.Accepted.{sound}
-use Rattle.codec.specs.Reading.{decode}
+use Rattle.reading.specs.Reading.{decode}
 use Rattle.codec.specs.Answers.{firstBad, allBelow, encoded, decoded}
 use Rattle.codec.specs.Damage.{Recording}
 use Rattle.codec.proofs.RoundTrip.{decode-recording}

@@ -18,7 +18,8 @@ use Rattle.laws.proofs.Tests.{map-range-at, tab→, →tab}
 use Rattle.table.specs.Rows.{Rows, edges, at, Code}
 use Rattle.laws.specs.Sums.{Below}
 use Rattle.table.specs.Paths.{spells, recording, ends, Closed}
-use Rattle.codec.specs.Reading.{decode, block, alongAll, oneState, everyState, reading}
+use Rattle.stepping.specs.StateSets.{alongAll, oneState, everyState}
+use Rattle.reading.specs.Reading.{decode, block, reading}
 use Rattle.laws.specs.Sets.{member}
 use Rattle.table.proofs.Same.{AgreeSame}
 use Rattle.codec.proofs.Reading.{Reads, reads-take, reads-drop, reads-end, one→, →one, at-place}

@@ -6,9 +6,5 @@ pub mod Answers
 pub mod Promises
 pub mod Writing
 pub mod Tabled
-pub mod StateSteps
-pub mod FirstReading
-pub mod Windowed
+pub mod Decoded
 pub mod Loaded
-pub mod EdgeRuns
-pub mod RunTurns

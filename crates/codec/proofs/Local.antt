@@ -10,7 +10,8 @@ use lib.ListN.{length, getD, take, drop}
 use borrow.Author.Tests.{lt-ltb, le-ltb}
 use Rattle.laws.specs.Lists.{if_then_else_}
 use Rattle.table.specs.Rows.{Rows, Code}
-use Rattle.codec.specs.Reading.{everyState, oneState, alongAll, reading, block}
+use Rattle.stepping.specs.StateSets.{everyState, oneState, alongAll}
+use Rattle.reading.specs.Reading.{reading, block}
 use Rattle.codec.proofs.Damage.{same-reading, cut-before, cut-at, cut-ahead}
 
 -- the datum behind k words of the window W, from the states of S

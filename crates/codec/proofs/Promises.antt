@@ -17,7 +17,7 @@ use Rattle.table.proofs.Formed.{formed→}
 use Rattle.table.proofs.Accepted.{sound}
 use Rattle.record.specs.Parse.{parse}
 use Rattle.record.proofs.Accepted.{parse-exact}
-use Rattle.codec.specs.Reading.{mark, decode}
+use Rattle.reading.specs.Reading.{mark, decode}
 use Rattle.codec.specs.Answers.{encoded, decoded, encodeUnder, decodeUnder}
 use Rattle.codec.specs.Damage.{StandsClear, Recording}
 use Rattle.codec.proofs.Damage.{recovered}

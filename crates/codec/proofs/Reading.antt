@@ -14,7 +14,8 @@ use Rattle.laws.specs.Lists.{range, any, elem}
 use Rattle.laws.proofs.Tests.{and→, →and, →any, any→, any-below→, →any-below, →orL, tab→, →tab}
 use Rattle.table.specs.Rows.{edge, Rows, edges, at}
 use Rattle.table.specs.Paths.{ends, Closed}
-use Rattle.codec.specs.Reading.{leads, along, alongAll, readings, oneState, able, enters, readingsOf, reading}
+use Rattle.stepping.specs.StateSets.{leads, along, alongAll, oneState, able, enters}
+use Rattle.reading.specs.Reading.{readings, readingsOf, reading}
 use Rattle.laws.specs.Sets.{member}
 use Rattle.laws.proofs.Anys.{any-map, any-concat}
 use Rattle.table.proofs.Same.{Same, AgreeSame}

@@ -18,7 +18,7 @@ use Rattle.answer.specs.Outcomes.{Outcome, done, refused, unless, answerOf, out
 use Rattle.table.specs.declared.Table.{Table}
 use Rattle.table.specs.Paths.{recording}
 use Rattle.table.specs.Value.{codeIn, ready}
-use Rattle.codec.specs.Reading.{decode}
+use Rattle.reading.specs.Reading.{decode}
 use Rattle.codec.specs.Answers.{firstBad, allBelow, encoded, decoded}
 use Rattle.codec.specs.With.{encodedWith, decodedWith}
 

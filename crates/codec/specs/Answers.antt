@@ -12,7 +12,7 @@ use Rattle.answer.specs.Outcomes.{Outcome, done, unless, onward}
 use Rattle.table.specs.Rows.{Code}
 use Rattle.table.specs.Paths.{recording}
 use Rattle.record.specs.Parse.{parse}
-use Rattle.codec.specs.Reading.{decode}
+use Rattle.reading.specs.Reading.{decode}
 
 -- "the place of the first bad byte, counted from 0": the first that is not below n, or the length where there is none
 abbrev pub firstBad : ℕ → List ℕ → ℕ

@@ -24,7 +24,7 @@ use Rattle.record.specs.Checks.{checkedOnly}
 use Rattle.record.specs.Reasons.{Reason}
 use Rattle.record.proofs.Reasons.{reason}
 use Rattle.record.proofs.Accepted.{check-exact, parse-canonical}
-use Rattle.codec.specs.Reading.{mark, block}
+use Rattle.reading.specs.Reading.{mark, block}
 use Rattle.codec.specs.Answers.{encodeUnder, decodeUnder}
 use Rattle.codec.specs.Damage.{StandsClear, Recording}
 use Rattle.codec.proofs.Local.{block-local, block-local-start}

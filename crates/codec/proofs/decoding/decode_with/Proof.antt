@@ -12,10 +12,10 @@ use Rattle.table.specs.Value.{Ready, ready, codeIn}
 use Rattle.table.specs.Edges.{arrays, Fits}
 use Rattle.table.proofs.ReadyTables.{ready→}
 use Rattle.table.proofs.RowsOf.{fits-lent}
-use Rattle.codec.specs.Reading.{decode}
+use Rattle.reading.specs.Reading.{decode}
 use Rattle.codec.specs.With.{decodedWith}
 use Rattle.codec.proofs.Tabled.{declined, finished, decode-7, decode-12, decode-13, decode-11, decode-done}
-use Rattle.codec.proofs.Windowed.{length-decode, decoded-in}
+use Rattle.codec.proofs.Decoded.{length-decode, decoded-in}
 use borrow.Author.Needs.{needs}
 use Rattle.codec.proofs.decoding.decode_with.Statement.{statement}
 use Rattle.codec.proofs.decoding.decode_with.Tie as tie

@@ -7,8 +7,8 @@ use denote.Ref.{now}
 use lib.ListN.{length, drop, length-set}
 use Rattle.laws.specs.Lists.{range}
 use Rattle.table.specs.Edges.{arrays, rowsOf}
-use Rattle.codec.specs.Reading.{block}
-use Rattle.codec.specs.StateSets.{under}
+use Rattle.reading.specs.Reading.{block}
+use Rattle.reading.specs.BlockParts.{under}
 use Rattle.codec.proofs.Writing.{map-more}
 use borrow.Author.Needs.{needs}
 use Rattle.codec.proofs.decoding.read_blocks.Statement.{statement}

@@ -1,0 +1,27 @@
+-- Decoding under a table by value, with the number of data that the code has computed.
+-- In order: length-decode, decoded-in.
+-- Assumes nothing.
+use mathlib.Core.Path.{_≡_, sym, ap, _∙_}
+use mathlib.Core.List.{List, _++_, map}
+use Prim.Native.Nat.{ℕ, _-_, _^_}
+use lib.ListN.{length, length-map}
+use Rattle.laws.specs.Lists.{range}
+use Rattle.laws.proofs.Tests.{length-from}
+use Rattle.table.specs.declared.Table.{Table}
+use Rattle.table.specs.Rows.{Code}
+use Rattle.table.specs.Value.{codeIn}
+use Rattle.table.specs.Edges.{arrays, rowsOf}
+use Rattle.reading.specs.Reading.{block, decode}
+use Rattle.reading.specs.BlockParts.{under}
+
+pub length-decode : (c : Code) (ws : List ℕ) → length ws - c .window .lookahead ≡ length (decode c ws)
+length-decode c ws =
+    let k = length ws - c .window .lookahead in
+    sym (length-map (range k) (block c ws) ∙ length-from 0 k)
+
+pub decoded-in : (t : Table) (n : ℕ) (ws out : List ℕ) → n ≡ 2 ^ t .p
+    → map (block (under (rowsOf (arrays (t .states) n (t .word) (t .next))) (t .memory) (t .lookahead)) ws)
+    (range (length ws - t .lookahead)) ++ out ≡ decode (codeIn t) ws ++ out
+decoded-in t n ws out e =
+    ap (λ k. map (block (under (rowsOf (arrays (t .states) k (t .word) (t .next))) (t .memory) (t .lookahead)) ws)
+    (range (length ws - t .lookahead)) ++ out) e

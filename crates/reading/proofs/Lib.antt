@@ -1,0 +1,3 @@
+pub mod FirstReading
+pub mod FirstTurns
+pub mod Windowed

@@ -1,0 +1,43 @@
+-- The edge's state first, then its next state.
+use mathlib.Core.Path.{sym, ap}
+use mathlib.Core.Bool.{_&&_}
+use native.Mathlib.Omega.{arith}
+use denote.Ref.{now}
+use lib.ListN.{getD}
+use Rattle.laws.specs.Sets.{member}
+use borrow.Author.Needs.{needs}
+use Rattle.reading.proofs.blocks.joins.Statement.{statement}
+use Rattle.reading.proofs.blocks.joins.Tie as tie
+
+element-copy-out-if1 : tie.Need-element-copy-out-if1
+element-copy-out-if1 c = search needs
+
+element-copy-out-result : tie.Need-element-copy-out-result
+element-copy-out-result c = search needs
+
+cast-result : tie.Need-cast-result
+cast-result c = omega (arith, c .before .before .before .pre .1)
+
+element-copy-out-result-2 : tie.Need-element-copy-out-result-2
+element-copy-out-result-2 c = c .before .before .before .pre .1
+
+returns : tie.Need-returns
+returns c =
+    let a = c .before .before .before .before .args in
+    sym (ap (λ b. b && member (now (a .ahead)) (getD (now (a .next)) (a .e) 0)) (c .before .before .if1 .taken))
+
+returns-2 : tie.Need-returns-2
+returns-2 c =
+    let a = c .before .before .args in
+    sym (ap (λ b. b && member (now (a .ahead)) (getD (now (a .next)) (a .e) 0)) (c .if1 .left))
+
+pub joins-spec : {M : Type 1} → statement M
+joins-spec =
+    tie.close
+    (tie.spec
+    element-copy-out-if1
+    element-copy-out-result
+    cast-result
+    element-copy-out-result-2
+    returns
+    returns-2)

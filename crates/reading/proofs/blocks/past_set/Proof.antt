@@ -1,0 +1,53 @@
+-- State 0 and all words below m, otherwise all states and the last m words.
+use mathlib.Core.Path.{ap₂, _∙_}
+use denote.Ref.{now}
+use lib.Dec.{lit<}
+use lib.Seq.{slice}
+use Rattle.table.specs.Edges.{arrays, rowsOf}
+use Rattle.table.proofs.RowsOf.{length-rows}
+use Rattle.stepping.specs.StateSets.{alongAll}
+use Rattle.stepping.proofs.StateSteps.{states-every, states-one}
+use Rattle.reading.proofs.Windowed.{past-start, past-later}
+use borrow.Author.Needs.{needs}
+use Rattle.reading.proofs.blocks.past_set.Statement.{statement}
+use Rattle.reading.proofs.blocks.past_set.Tie as tie
+
+less-requires : tie.Need-less-requires
+less-requires c κs = search needs
+
+array-write-one : tie.Need-array-write-one
+array-write-one c = search needs
+
+step-all-requires : tie.Need-step-all-requires
+step-all-requires c κs = search needs
+
+returns : tie.Need-returns
+returns c =
+    let i = c .before .before .before in
+    let s = i .before .before .before in
+    let a = s .args in
+    let ws = now (a .words) in
+    let u = arrays (a .states) (a .n) (now (a .word)) (now (a .next)) in
+    c .step-all .ensures
+    ∙ ap₂ (λ S k. alongAll (rowsOf u) S (slice k (a .i) ws))
+    (states-one (a .states) 128 (rowsOf u) (length-rows u) (s .pre .0 .fits .few) (lit< tt)) (i .before .less .ensures)
+    ∙ past-start (rowsOf u) (a .m) 0 ws (a .i) (i .if1 .taken)
+
+step-all-requires-2 : tie.Need-step-all-requires-2
+step-all-requires-2 c κs = search needs
+
+returns-2 : tie.Need-returns-2
+returns-2 c =
+    let i = c .before .before .before in
+    let s = i .before .before .before in
+    let a = s .args in
+    let ws = now (a .words) in
+    let u = arrays (a .states) (a .n) (now (a .word)) (now (a .next)) in
+    c .step-all2 .ensures
+    ∙ ap₂ (λ S k. alongAll (rowsOf u) S (slice k (a .i) ws))
+    (states-every (a .states) 128 (rowsOf u) (length-rows u) (s .pre .0 .fits .few)) (i .before .less .ensures)
+    ∙ past-later (rowsOf u) (a .m) 0 ws (a .i) (i .if1 .left)
+
+pub past-set-spec : {M : Type 1} → statement M
+past-set-spec =
+    tie.close (tie.spec less-requires array-write-one step-all-requires returns step-all-requires-2 returns-2)

@@ -1,0 +1,2 @@
+// The reading rule: one block from its window of words.
+pub mod blocks;

@@ -1,0 +1,2 @@
+// The edges of a table by word, in a row.
+pub mod laying;

@@ -1,0 +1,2 @@
+pub mod StateSteps
+pub mod StateWords

@@ -1,0 +1,70 @@
+-- No word, or the last one.
+use mathlib.Core.Path.{_≡_, sym, ap, _∙_}
+use Prim.Native.Nat.{_-_, _+_}
+use native.Mathlib.Omega.{arith}
+use denote.Ref.{now}
+use lib.ListN.{getD}
+use lib.Seq.{slice}
+use Rattle.table.specs.Edges.{arrays, rowsOf}
+use Rattle.table.proofs.RowsOf.{length-rows}
+use Rattle.stepping.specs.StateSets.{back, able}
+use Rattle.stepping.proofs.StateSteps.{states-every}
+use Rattle.stepping.proofs.StateWords.{able-first, able-end}
+use borrow.Author.Needs.{needs}
+use Rattle.stepping.proofs.backs.back_odd.Statement.{statement}
+use Rattle.stepping.proofs.backs.back_odd.Tie as tie
+
+sub-if1 : tie.Need-sub-if1
+sub-if1 c = search needs
+
+returns : tie.Need-returns
+returns c =
+    let i = c .before in
+    let s = i .before .before in
+    let a = s .args in
+    let u = arrays (a .states) (a .n) (now (a .word)) (now (a .next)) in (
+      (omega arith, omega arith, omega (arith, i .if1 .taken)),
+      states-every (a .states) 128 (rowsOf u) (length-rows u) (s .pre .0 .fits .few)
+          ∙ sym (able-end (rowsOf u) (now (a .words)) (a .to)),
+    )
+
+sub-back-by : tie.Need-sub-back-by
+sub-back-by c = search needs
+
+shared-slice-read-back-by : tie.Need-shared-slice-read-back-by
+shared-slice-read-back-by c = search needs
+
+back-by-requires : tie.Need-back-by-requires
+back-by-requires c κs = search needs
+
+sub-result : tie.Need-sub-result
+sub-result c = search needs
+
+returns-2 : tie.Need-returns-2
+returns-2 c =
+    let i = c .before .before .before .before in
+    let s = i .before .before in
+    let a = s .args in
+    let ws = now (a .words) in
+    let u = arrays (a .states) (a .n) (now (a .word)) (now (a .next)) in
+    let t = rowsOf u in
+    let k : a .to - 1 + 1 ≡ a .to = omega (arith, i .if1 .left) in (
+      (omega (arith, i .if1 .left), omega arith, omega (arith, i .if1 .left)),
+      c .back-by .ensures
+          ∙ ap (λ S. back t S (getD ws (a .to - 1) 0))
+          (states-every (a .states) 128 t (length-rows u) (s .pre .0 .fits .few)
+          ∙ sym (ap (λ x. able t (slice x (a .to) ws)) k ∙ able-end t ws (a .to)))
+          ∙ sym (able-first t ws (a .to - 1) (a .to) (omega (arith, i .if1 .left)) (s .pre .2)),
+    )
+
+pub back-odd-spec : {M : Type 1} → statement M
+back-odd-spec =
+    tie.close
+    (tie.spec
+    sub-if1
+    returns
+    sub-back-by
+    shared-slice-read-back-by
+    back-by-requires
+    sub-result
+    returns-2)

@@ -1,0 +1,45 @@
+-- No word, or one.
+use mathlib.Core.Path.{sym, ap, _∙_}
+use native.Mathlib.Omega.{arith}
+use Prim.Native.Nat.{_+_}
+use denote.Ref.{now}
+use lib.Seq.{slice}
+use Rattle.table.specs.Edges.{arrays, rowsOf}
+use Rattle.stepping.specs.StateSets.{alongAll}
+use Rattle.stepping.specs.StateSets.{statesIn}
+use Rattle.stepping.proofs.StateWords.{along-first}
+use borrow.Author.Needs.{needs}
+use Rattle.stepping.proofs.steps.step_odd.Statement.{statement}
+use Rattle.stepping.proofs.steps.step_odd.Tie as tie
+
+sub-if1 : tie.Need-sub-if1
+sub-if1 c = search needs
+
+returns : tie.Need-returns
+returns c = search needs
+
+shared-slice-read-step-by : tie.Need-shared-slice-read-step-by
+shared-slice-read-step-by c = search needs
+
+step-by-requires : tie.Need-step-by-requires
+step-by-requires c κs = search needs
+
+add-result : tie.Need-add-result
+add-result c = search needs
+
+returns-2 : tie.Need-returns-2
+returns-2 c =
+    let i = c .before .before .before in
+    let s = i .before .before in
+    let a = s .args in
+    let t = rowsOf (arrays (a .states) (a .n) (now (a .word)) (now (a .next))) in (
+      (omega (arith, i .if1 .left), omega (arith, i .if1 .left)),
+      along-first t (now (a .words)) (statesIn (a .states) (now (a .set))) (a .from) (a .to)
+          (omega (arith, i .if1 .left)) (s .pre .2)
+          ∙ ap (λ S. alongAll t S (slice (a .from + 1) (a .to) (now (a .words)))) (sym (c .step-by .ensures)),
+    )
+
+pub step-odd-spec : {M : Type 1} → statement M
+step-odd-spec =
+    tie.close
+    (tie.spec sub-if1 returns shared-slice-read-step-by step-by-requires add-result returns-2)

@@ -1,0 +1,3 @@
+// Sets of states stepped by words, forward and back.
+pub mod backs;
+pub mod steps;
