@@ -126,27 +126,27 @@ module _ (j : JobValue) (r : JobReady j) where
 
   -- the same of the table that the code holds
   module _ (P : List ℕ) (words : ℕ) (e : P ≡ powerCodes (constraintOf (j .constraint)) (j .q)) (f : words ≡ 2 ^ j .q)
-      where
-    pub held-powers : Powers P words (j .constraint .states)
-    held-powers =
-        subst (λ X. Powers X words (j .constraint .states)) (sym e)
-        (subst (λ w. Powers (powerCodes (constraintOf (j .constraint)) (j .q)) w (j .constraint .states)) (sym f)
-            job-powers)
+    where
+      pub held-powers : Powers P words (j .constraint .states)
+      held-powers =
+          subst (λ X. Powers X words (j .constraint .states)) (sym e)
+          (subst (λ w. Powers (powerCodes (constraintOf (j .constraint)) (j .q)) w (j .constraint .states)) (sym f)
+          job-powers)
 
-    pub held-tabled : tabled P words (j .constraint .states) ≡ graphOf (jobIn j)
-    held-tabled = ap₂ (λ X w. tabled X w (j .constraint .states)) e f ∙ job-tabled
+      pub held-tabled : tabled P words (j .constraint .states) ≡ graphOf (jobIn j)
+      held-tabled = ap₂ (λ X w. tabled X w (j .constraint .states)) e f ∙ job-tabled
 
-    -- THEOREM: the component that the code finds is the job's
-    pub held-component : (n : ℕ) (v : List ℕ) (x : ComponentAnswer) → n ≡ ways (jobIn j)
-        → v ≡ weights n (j .cap) (j .constraint .states) (tabled P words (j .constraint .states))
-        → FoundIn v (tabled P words (j .constraint .states)) x → FoundIn (weightsOf (jobIn j)) (graphOf (jobIn j)) x
-    held-component n v x p q h =
-        let g = tabled P words (j .constraint .states) in
-        let K = length-constraintOf (j .constraint) in
-        let w : v ≡ weightsOf (jobIn j) =
-                q ∙ ap₂ (λ m k. weights m (j .cap) k g) p (sym K)
-                ∙ ap (weights (ways (jobIn j)) (j .cap) (length (jobIn j .constraint))) held-tabled in
-        subst (λ y. FoundIn y (graphOf (jobIn j)) x) w (subst (λ y. FoundIn v y x) held-tabled h)
+      -- THEOREM: the component that the code finds is the job's
+      pub held-component : (n : ℕ) (v : List ℕ) (x : ComponentAnswer) → n ≡ ways (jobIn j)
+          → v ≡ weights n (j .cap) (j .constraint .states) (tabled P words (j .constraint .states))
+          → FoundIn v (tabled P words (j .constraint .states)) x → FoundIn (weightsOf (jobIn j)) (graphOf (jobIn j)) x
+      held-component n v x p q h =
+          let g = tabled P words (j .constraint .states) in
+          let K = length-constraintOf (j .constraint) in
+          let w : v ≡ weightsOf (jobIn j) =
+          q ∙ ap₂ (λ m k. weights m (j .cap) k g) p (sym K)
+          ∙ ap (weights (ways (jobIn j)) (j .cap) (length (jobIn j .constraint))) held-tabled in
+          subst (λ y. FoundIn y (graphOf (jobIn j)) x) w (subst (λ y. FoundIn v y x) held-tabled h)
 
 -- ---- the component, split to the end
 module _ (j : Job) (a : Allowed j) (n : ℕ) (g : Graph) (start : ℕ) (b : Begun j n g start) where

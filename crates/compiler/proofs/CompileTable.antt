@@ -50,50 +50,56 @@ tableBy j start rows = record {
 
 module _ (j : JobValue) (a : JobReady j) (n : ℕ) (g : Graph) (start : ℕ) (b : Begun (jobIn j) n g start)
     (r : NextGraph) (s : SplitAllInto n g r) (e : r .crowded ≡ false) (rows : TableRows)
-        (i : TableIn n (r .graph) rows)
-    where
-  abbrev t : Table
-  t = tableBy j start rows
+    (i : TableIn n (r .graph) rows)
+  where
+    abbrev t : Table
+    t = tableBy j start rows
 
-  table-rows : rowsIn t ≡ tableFor (jobIn j)
-  table-rows =
-      ap (λ m. rowsOfTable m rows) (sym (b .count)) ∙ i .rows
-      ∙ ap₂ tableOf (b .count) (begun-work (jobIn j) (a .allowed) n g start b r s e)
+    table-rows : rowsIn t ≡ tableFor (jobIn j)
+    table-rows =
+        ap (λ m. rowsOfTable m rows) (sym (b .count)) ∙ i .rows
+        ∙ ap₂ tableOf (b .count) (begun-work (jobIn j) (a .allowed) n g start b r s e)
 
-  made-so : Made (jobIn j)
-  made-so =
-      made (jobIn j) (a .allowed) (b .some) (b .light) (begun-short (jobIn j) (a .allowed) n g start b r s e)
+    made-so : Made (jobIn j)
+    made-so =
+        made (jobIn j) (a .allowed) (b .some) (b .light) (begun-short (jobIn j) (a .allowed) n g start b r s e)
 
-  long : length (tableFor (jobIn j)) ≡ rows .states
-  long = ap length (sym table-rows) ∙ length-rows (lent t)
+    long : length (tableFor (jobIn j)) ≡ rows .states
+    long = ap length (sym table-rows) ∙ length-rows (lent t)
 
-  at-is : (x d : ℕ) → x < rows .states → d < 2 ^ j .p → at (tableFor (jobIn j)) x d ≡ edge (wordAt t x d)
-      (nextAt t x d)
-  at-is x d h l = ap (λ T. at T x d) (sym table-rows) ∙ edge-at (lent t) x d h l
+    at-is : (x d : ℕ) → x < rows .states → d < 2 ^ j .p → at (tableFor (jobIn j)) x d ≡ edge (wordAt t x d)
+        (nextAt t x d)
+    at-is x d h l = ap (λ T. at T x d) (sym table-rows) ∙ edge-at (lent t) x d h l
 
-  -- THEOREM: the table can be searched, written and listed
-  pub table-ready : Ready t
-  table-ready =
-      let m = made-so in
-      record {
-        some = subst (λ k. 1 ≤ k) long (m .table .some);
-        few = i .few;
-        narrow = a .allowed .p₂;
-        short = a .allowed .q₂;
-        reading = λ x d h l. subst (λ z. z .word < 2 ^ j .q) (at-is x d h l)
-            (m .table .over x d (subst (λ k. x < k) (sym long) h) l .1 .2);
-        inside = λ x d h l. subst (λ k. nextAt t x d < k) long (subst (λ z. z .next < length (tableFor (jobIn j)))
-            (at-is x d h l) (m .table .next x d (subst (λ k. x < k) (sym long) h) l));
-        limits = a .limits;
-      }
+    -- THEOREM: the table can be searched, written and listed
+    pub table-ready : Ready t
+    table-ready =
+        let m = made-so in
+        record {
+          some = subst (λ k. 1 ≤ k) long (m .table .some);
+          few = i .few;
+          narrow = a .allowed .p₂;
+          short = a .allowed .q₂;
+          reading = λ x d h l. subst (λ z. z .word < 2 ^ j .q) (at-is x d h l)
+              (m .table .over x d (subst (λ k. x < k) (sym long) h) l .1 .2);
+          inside = λ x d h l. subst (λ k. nextAt t x d < k) long (subst (λ z. z .next < length (tableFor (jobIn j)))
+              (at-is x d h l) (m .table .next x d (subst (λ k. x < k) (sym long) h) l));
+          limits = a .limits;
+        }
 
-  -- THEOREM: what compiling comes to is the table with its window
-  pub table-code : windowed (codeIn t) ≡ compile (jobIn j)
-  table-code =
-      ap₂ (λ z T. unless NoWindow (leb (window T .memory) 15) (done (record {
-        p = j .p; q = j .q; window = window T; constraint = jobIn j .constraint; start = z; table = T }))) (b .first)
-            table-rows
-      ∙ sym (compile-table (jobIn j) (b .some) (b .light) (begun-room (jobIn j) (a .allowed) n g start b r s e))
+    -- THEOREM: what compiling comes to is the table with its window
+    pub table-code : windowed (codeIn t) ≡ compile (jobIn j)
+    table-code =
+        ap₂ (λ z T. unless NoWindow (leb (window T .memory) 15) (done (record {
+          p = j .p;
+          q = j .q;
+          window = window T;
+          constraint = jobIn j .constraint;
+          start = z;
+          table = T;
+        }))) (b .first)
+        table-rows
+        ∙ sym (compile-table (jobIn j) (b .some) (b .light) (begun-room (jobIn j) (a .allowed) n g start b r s e))
 
 -- ---- the window
 passed : (b : Bool) (x : Outcome Code) → b ≡ true → unless NoWindow b x ≡ x
@@ -115,8 +121,14 @@ module _ (t : Table) (w : Found) (e : foundSize w ≡ window (rowsIn t)) where
     -- THEOREM: the table with the window that was found
     pub windowed-found : done (codeIn (withSize t m a)) ≡ windowed (codeIn t)
     windowed-found =
-        ap (λ z. done (record { p = t .p; q = t .q; window = z; constraint = codeIn t .constraint; start = t .start;
-          table = rowsIn t })) (sym size-is)
+        ap (λ z. done (record {
+          p = t .p;
+          q = t .q;
+          window = z;
+          constraint = codeIn t .constraint;
+          start = t .start;
+          table = rowsIn t;
+        })) (sym size-is)
         ∙ sym (passed (leb (window (rowsIn t) .memory) 15) _ (le-leb _ _ small))
 
     pub listed-with : Ready t → Listed (withSize t m a)

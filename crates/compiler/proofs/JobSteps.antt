@@ -34,9 +34,9 @@ states-from (suc K) i xs =
     let more : 4 + i * 2 + 2 ≡ 4 + suc i * 2 = omega arith in
     let xs' = drop (4 + i * 2) xs in
     let state : _≡_ {A = NextStates} (record { zero = getD xs' 0 0; one = getD xs' 1 0 }) (stateAt xs i) =
-            ap₂ {C = NextStates} (λ z o. record { zero = z; one = o })
-            (getD-drop (4 + i * 2) xs 0 0 ∙ ap (λ k. getD xs k 0) zero')
-            (getD-drop (4 + i * 2) xs 1 0 ∙ ap (λ k. getD xs k 0) one) in
+    ap₂ {C = NextStates} (λ z o. record { zero = z; one = o })
+    (getD-drop (4 + i * 2) xs 0 0 ∙ ap (λ k. getD xs k 0) zero')
+    (getD-drop (4 + i * 2) xs 1 0 ∙ ap (λ k. getD xs k 0) one) in
     ap₂ _∷_ state (ap (statesOf K) (drop-drop 2 (4 + i * 2) xs ∙ ap (λ k. drop k xs) more) ∙ states-from K (suc i) xs)
 
 pub statesOf-is : (K : ℕ) (xs : List ℕ) → statesOf K (drop 4 xs) ≡ map (stateAt xs) (range K)

@@ -27,22 +27,22 @@ edge-parts q s d w t =
     omega (arith, length-append ((S ++ D) ++ W) N, length-append (S ++ D) W, length-append S D)
 
 module _ (q s d w t : ℕ) (o a b c r : ℕ) (B B₁ B₂ B₃ B₄ : List ℕ) (h : o + length (edgeText q s d w t) ≤ length B)
-    where
-  -- THEOREM: the four parts of an edge's line
-  pub edge-put : Put (numberText s blank) o B B₁ a → Put (numberText d blank) a B₁ B₂ b → Put (wordText q w) b B₂ B₃ c
-      → Put (numberText t newline) c B₃ B₄ r → Put (edgeText q s d w t) o B B₄ r
-  unfolding edgeText
-  edge-put p₁ p₂ p₃ p₄ =
-      let S = numberText s blank in
-      let D = numberText d blank in
-      let W = wordText q w in
-      let N = numberText t newline in
-      let l₁ = length-append S D in
-      let l₂ = length-append (S ++ D) W in
-      let l₃ = length-append ((S ++ D) ++ W) N in
-      let p₁₂ : Put (S ++ D) o B B₂ b = put-more S D o a b B B₁ B₂ (omega arith) p₁ p₂ in
-      let p₁₃ : Put ((S ++ D) ++ W) o B B₃ c = put-more (S ++ D) W o b c B B₂ B₃ (omega arith) p₁₂ p₃ in
-      put-more ((S ++ D) ++ W) N o c r B B₃ B₄ (omega arith) p₁₃ p₄
+  where
+    -- THEOREM: the four parts of an edge's line
+    pub edge-put : Put (numberText s blank) o B B₁ a → Put (numberText d blank) a B₁ B₂ b → Put (wordText q w) b B₂ B₃ c
+        → Put (numberText t newline) c B₃ B₄ r → Put (edgeText q s d w t) o B B₄ r
+    unfolding edgeText
+    edge-put p₁ p₂ p₃ p₄ =
+        let S = numberText s blank in
+        let D = numberText d blank in
+        let W = wordText q w in
+        let N = numberText t newline in
+        let l₁ = length-append S D in
+        let l₂ = length-append (S ++ D) W in
+        let l₃ = length-append ((S ++ D) ++ W) N in
+        let p₁₂ : Put (S ++ D) o B B₂ b = put-more S D o a b B B₁ B₂ (omega arith) p₁ p₂ in
+        let p₁₃ : Put ((S ++ D) ++ W) o B B₃ c = put-more (S ++ D) W o b c B B₂ B₃ (omega arith) p₁₂ p₃ in
+        put-more ((S ++ D) ++ W) N o c r B B₃ B₄ (omega arith) p₁₃ p₄
 
 -- ---- the first line
 pub head-parts : (t : Table) → length (headText t) ≡ length (numberText (t .p) blank)
@@ -55,8 +55,13 @@ head-parts t =
     let S = numberText (t .states) blank in
     let M = numberText (t .memory) blank in
     let A = numberText (t .lookahead) newline in
-    omega (arith, length-append (((P ++ Q) ++ S) ++ M) A, length-append ((P ++ Q) ++ S) M, length-append (P ++ Q) S,
-        length-append P Q)
+    omega (
+      arith,
+      length-append (((P ++ Q) ++ S) ++ M) A,
+      length-append ((P ++ Q) ++ S) M,
+      length-append (P ++ Q) S,
+      length-append P Q,
+    )
 
 module _ (t : Table) (a b c d r : ℕ) (B B₁ B₂ B₃ B₄ B₅ : List ℕ) (h : length (headText t) ≤ length B) where
   -- THEOREM: the five numbers in front
@@ -77,7 +82,7 @@ module _ (t : Table) (a b c d r : ℕ) (B B₁ B₂ B₃ B₄ B₅ : List ℕ) (
       let p₁₂ : Put (P ++ Q) 0 B B₂ b = put-more P Q 0 a b B B₁ B₂ (omega arith) p₁ p₂ in
       let p₁₃ : Put ((P ++ Q) ++ S) 0 B B₃ c = put-more (P ++ Q) S 0 b c B B₂ B₃ (omega arith) p₁₂ p₃ in
       let p₁₄ : Put (((P ++ Q) ++ S) ++ M) 0 B B₄ d =
-              put-more ((P ++ Q) ++ S) M 0 c d B B₃ B₄ (omega arith) p₁₃ p₄ in
+      put-more ((P ++ Q) ++ S) M 0 c d B B₃ B₄ (omega arith) p₁₃ p₄ in
       put-more (((P ++ Q) ++ S) ++ M) A 0 d r B B₄ B₅ (omega arith) p₁₄ p₅
 
 -- ---- the lines of edges
@@ -119,7 +124,7 @@ module _ (t : Table) where
       let g = lines-le (e + 1) j in
       let m = lines-length e in
       let u : length (linesTo t (e + 1)) ≤ length (linesTo t k) = subst
-          (λ i. length (linesTo t (e + 1)) ≤ length (linesTo t i)) z g in
+      (λ i. length (linesTo t (e + 1)) ≤ length (linesTo t i)) z g in
       omega arith
     where
       split : (e k : ℕ) → e < k → (j : ℕ) × (e + 1 + j ≡ k)

@@ -82,7 +82,7 @@ flat-more F m (suc j) =
 
 pub rows-flat : (f : ℕ → ℕ → List ℕ) (n k : ℕ) → 1 ≤ n
     → concat (map (λ s. concat (map (f s) (range n))) (range k)) ≡ concat
-        (map (λ e. f (e / n) (e % n)) (range (k * n)))
+    (map (λ e. f (e / n) (e % n)) (range (k * n)))
 rows-flat f n zero h = let z : 0 * n ≡ 0 = omega arith in rw z
 rows-flat f n (suc k) h =
     let z : suc k * n ≡ k * n + n = omega arith in
@@ -96,7 +96,7 @@ rows-flat f n (suc k) h =
     last k = ap concat (map-below [] (f k) (λ d. f ((k * n + d) / n) ((k * n + d) % n)) n (λ d l.
         let z : d / n + k ≡ k = rw (div-eq-of-lt l) (omega arith) in
         let q : (k * n + d) / n ≡ k =
-                ap (λ m. m / n) (add-comm (k * n) d) ∙ add-mul-div-right d k {z = n} (omega arith) ∙ z in
+        ap (λ m. m / n) (add-comm (k * n) d) ∙ add-mul-div-right d k {z = n} (omega arith) ∙ z in
         let r : (k * n + d) % n ≡ d = mul-add-mod-self-right k n d ∙ mod-eq-of-lt l in
         ap₂ f (sym q) (sym r)))
 
@@ -127,7 +127,7 @@ module _ (t : Table) where
       ap₂ _++_ head-is
       (ap (λ n. concat (map (rowLines (codeIn t)) (range n))) (length-rows (lent t))
       ∙ ap concat (map-below [] (rowLines (codeIn t)) (λ s. concat (map (edgeOf s) (range (2 ^ t .p)))) (t .states)
-          row-is)
+      row-is)
       ∙ rows-flat edgeOf (2 ^ t .p) (t .states) (pow-pos (t .p)))
 
 -- ---- a text in lent bytes, if there is room
@@ -141,9 +141,10 @@ pub fit-done : (xs B C : List ℕ) (r : ℕ) → length xs ≤ length B → Put 
     → (Done r ≡ answerOf (fitting (length B) xs)) × (C ≡ outputOf (fitting (length B) xs) B)
 fit-done xs B C r h p =
     let e = fitting-true (length B) xs h in
-    let z : 0 + length xs ≡ length xs = omega arith in
-    (ap Done (p .end ∙ z) ∙ sym (ap answerOf e),
-    p .written ∙ ap (λ k. xs ++ drop k B) z ∙ sym (ap (λ o. outputOf o B) e))
+    let z : 0 + length xs ≡ length xs = omega arith in (
+      ap Done (p .end ∙ z) ∙ sym (ap answerOf e),
+      p .written ∙ ap (λ k. xs ++ drop k B) z ∙ sym (ap (λ o. outputOf o B) e),
+    )
 
 module _ (t : Table) (n : ℕ) (p : n ≡ 2 ^ t .p) (B : List ℕ) where
   whole : listing (codeIn t) ≡ headText t ++ linesTo t (t .states * n)

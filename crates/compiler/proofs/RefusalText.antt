@@ -61,4 +61,4 @@ module _ (r : Refusal) (n : ℕ) (e : n ≡ numberOf r) (B : List ℕ) where
   refusal-done C D m s h u v =
       fit-done (refusal r) B D s (let l = total in omega arith)
       (put-same whole (put-more refused (numberText n newline) 0 m s B C D (omega (arith, length-number n newline)) u
-          v))
+      v))

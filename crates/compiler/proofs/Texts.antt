@@ -161,7 +161,7 @@ module _ (q w at : ℕ) (B : List ℕ) (h : at + (q + 1) ≤ length B) where
   word-end C p =
       let l = length-binary q w in
       let digits : Put (binary q w) at B C (at + q) =
-              paste-all B at (binary q w) q C (sym l) (omega arith) p in
+      paste-all B at (binary q w) q C (sym l) (omega arith) p in
       let k = digits .kept in
       put-more (binary q w) (blank ∷ []) at (at + q) (at + q + 1) B C (set C (at + q) blank) (omega arith) digits
       (put-stores (blank ∷ []) (at + q) C (set C (at + q) blank) (at + q + 1) (omega arith) refl refl)
@@ -175,5 +175,13 @@ length-edge q s d w t =
     let D = numberText d blank in
     let W = wordText q w in
     let N = numberText t newline in
-    omega (arith, length-append ((S ++ D) ++ W) N, length-append (S ++ D) W, length-append S D, length-number s blank,
-        length-number d blank, length-word q w, length-number t newline)
+    omega (
+      arith,
+      length-append ((S ++ D) ++ W) N,
+      length-append (S ++ D) W,
+      length-append S D,
+      length-number s blank,
+      length-number d blank,
+      length-word q w,
+      length-number t newline,
+    )

@@ -6,12 +6,12 @@ ghost use Rattle.compiler.specs.Compile.{compileInto, compileJob, compil
 ghost use Rattle.compiler.specs.Listing.{listInto};
 ghost use Rattle.compiler.specs.JobValues.{jobIn, JobReady};
 ghost use Rattle.compiler.specs.Stages.{listedInto};
-use answer::Answer;
 use crate::JobValue;
 use crate::compiling::compile;
 use crate::listing::list;
 use crate::reading::read_job;
 use crate::reading::read_run_length;
+use answer::Answer;
 use record::Verdict;
 use record::write;
 

@@ -6,15 +6,15 @@ ghost use Rattle.answer.specs.Outcomes.{fitting, answerOf, outputOf};
 ghost use Rattle.table.specs.Value.{codeIn};
 ghost use Rattle.compiler.specs.Listing.{listing, refusal};
 ghost use Rattle.compiler.specs.Texts.{Put, edgeText, headText, linesTo, Listed};
+use crate::text::digits;
+use crate::text::put_bytes;
+use crate::text::put_number;
+use crate::text::put_word;
 use answer::Answer;
 use answer::Refusal;
 use answer::refusal_number;
 use table::Table;
 use table::chains::ways;
-use crate::text::digits;
-use crate::text::put_bytes;
-use crate::text::put_number;
-use crate::text::put_word;
 
 // How long the line of an edge is, whatever its word.
 fn edge_size(q: usize, s: usize, d: usize, next: usize) -> usize
@@ -88,7 +88,15 @@ fn put_lines(out: &mut [u8], first: usize, code: Table, n: usize) -> usize
     let mut e = 0;
     while e < edges {
         let i = e / n * 16 + e % n;
-        at = put_edge(out, at, q, e / n, e % n, code.word[i] as usize, code.next[i] as usize);
+        at = put_edge(
+            out,
+            at,
+            q,
+            e / n,
+            e % n,
+            code.word[i] as usize,
+            code.next[i] as usize,
+        );
         e += 1;
     }
     at

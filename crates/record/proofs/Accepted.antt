@@ -46,5 +46,5 @@ check-exact xs b = (
       let (c, p, _) = onward→ (parse xs) (λ c. done []) [] e in
       let (f, k, a) = parse-exact xs b c .0 p in
       (c, f, k, a)),
-  (λ (c, f, k, a). ap (λ o. onward o (λ c. done [])) (parse-exact xs b c .1 (f, k, a)))
+  (λ (c, f, k, a). ap (λ o. onward o (λ c. done [])) (parse-exact xs b c .1 (f, k, a))),
 )

@@ -31,10 +31,14 @@ reason xs =
   where
     n : ℕ
     n = length xs
+
     sized : leb 4 n ≡ true → goodHead (headerOf xs) ≡ true → eqb n (size (headerOf xs)) ≡ true → Sized xs
     sized a b c = record {
-      long = leb-true 4 n a; headed = yes-so (goodHead (headerOf xs)) b; exact = eqb-true n (size (headerOf xs)) c
+      long = leb-true 4 n a;
+      headed = yes-so (goodHead (headerOf xs)) b;
+      exact = eqb-true n (size (headerOf xs)) c;
     }
+
     go : (a : Bool) → leb 4 n ≡ a → (b : Bool) → goodHead (headerOf xs) ≡ b
         → (c : Bool) → eqb n (size (headerOf xs)) ≡ c → (d : Bool) → restGood (headerOf xs) (bitsOf xs) ≡ d
         → (e : Bool) → obeys (codeFrom xs) ≡ e → (f : Bool) → works (codeFrom xs .table) (codeFrom xs .window) ≡ f

@@ -49,22 +49,22 @@ judgeable xs t r e =
     let l : length (nextsOf (h .count) (drop 7 vs)) ≡ h .count = length-nextsOf (h .count) (drop 7 vs) in
     let ranges = ranges-of bs (below-bytes xs) g in
     let (good, _) = and→ (goodFields (h .count) (h .count) (drop 7 vs))
-            (all (all (goodTarget (h .states))) (c .table) && eqb (filler h vs) 0) k in
+    (all (all (goodTarget (h .states))) (c .table) && eqb (filler h vs) 0) k in
     let states : length (constraintOf (t .constraint)) ≡ t .constraint .states =
-            length-map (range (t .constraint .states)) (nextStatesAt (t .constraint))
-            ∙ length-from 0 (t .constraint .states) in
+    length-map (range (t .constraint .states)) (nextStatesAt (t .constraint))
+    ∙ length-from 0 (t .constraint .states) in
     let begin : t .start < length (constraintOf (t .constraint)) =
-            subst (λ c. c .start < length (c .constraint)) same (subst (λ n. h .start < n) (sym l) (ranges .start)) in
+    subst (λ c. c .start < length (c .constraint)) same (subst (λ n. h .start < n) (sym l) (ranges .start)) in
     let ahead : t .lookahead < 16 = subst (λ c. c .window .lookahead < 16) same (ranges .a) in
     record {
       follow = record {
         ready = r;
         nexts = subst (λ c. T (all (goodNext (length (c .constraint))) (c .constraint))) same
-          (subst (λ n. T (all (goodNext n) (nextsOf (h .count) (drop 7 vs)))) (sym l)
-          (nexts-good (h .count) (h .count) (drop 7 vs) good));
-        begin = subst (λ n. t .start < n) states begin
+            (subst (λ n. T (all (goodNext n) (nextsOf (h .count) (drop 7 vs)))) (sym l)
+            (nexts-good (h .count) (h .count) (drop 7 vs) good));
+        begin = subst (λ n. t .start < n) states begin;
       };
-      ahead = omega arith
+      ahead = omega arith;
     }
 
 -- ---- the two checks of the table, one by one

@@ -6,14 +6,14 @@ ghost use Rattle.laws.specs.Lists.{any, range};
 ghost use Rattle.graph.specs.Splitting.{splittable};
 ghost use Rattle.graph.specs.Value.{weightsIn, arcsIn, workIn, Fits};
 ghost use Rattle.trace.specs.ChoiceParts.{ChosenIn};
-use graph::Graph;
-use order::keys::Keys;
-use order::keys::key_weights;
 use choice::choose::candidate_keys;
 use choice::choose::choose;
 use choice::choose::greatest_weight;
 use choice::find_run::Run;
 use choice::find_run::first_run;
+use graph::Graph;
+use order::keys::Keys;
+use order::keys::key_weights;
 
 // The state to split and its weight, the list of its edges with the run that it keeps, the weight that it keeps, and
 // the number of the new state.

@@ -58,7 +58,8 @@ returns c =
     let put = c .before .before in
     let a = put .before .before .before .before .before .before .before .before .args in
     let told = put .before .before .before in
-    added-same (text-nowhere (now (a .set)) (a .i) (sym (told .before .before .find .ensures) ∙ told .enum-told .given .1))
+    added-same (text-nowhere (now (a .set)) (a .i) (sym (told .before .before .find .ensures)
+    ∙ told .enum-told .given .1))
     (put .put .ensures)
 
 same-length-2 : tie.Need-same-length-2

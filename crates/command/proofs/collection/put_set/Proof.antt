@@ -29,7 +29,8 @@ unfolding setText
 returns c =
     let last = c .before .before in
     let count = last .before .before .before .before .before in
-    added-more (added-more (count .before .before .before .before .before .put-records .ensures) (count .put-number .ensures)) (last .put .ensures)
+    let lines = count .before .before .before .before .before in
+    added-more (added-more (lines .put-records .ensures) (count .put-number .ensures)) (last .put .ensures)
 
 pub put-set-spec : {M : Type 1} → statement M
 put-set-spec =

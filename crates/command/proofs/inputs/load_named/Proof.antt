@@ -27,7 +27,9 @@ same-length : tie.Need-same-length
 same-length c = search needs
 
 returns : tie.Need-returns
-returns c = let l = c .before .before .before .before .before .load-from in whole-fits (l .result) _ _ (l .ensures) (c .before .n .given .1)
+returns c =
+    let l = c .before .before .before .before .before .load-from in
+    whole-fits (l .result) _ _ (l .ensures) (c .before .n .given .1)
 
 same-length-2 : tie.Need-same-length-2
 same-length-2 c = search needs

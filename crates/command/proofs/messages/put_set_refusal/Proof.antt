@@ -29,7 +29,8 @@ unfolding setRefusalLine
 returns c =
     let last = c .before .before in
     let number = last .before .before .before .before .before in
-    added-more (added-more (number .before .before .before .before .before .put-saying .ensures) (number .put-number .ensures)) (last .put .ensures)
+    let saying = number .before .before .before .before .before in
+    added-more (added-more (saying .put-saying .ensures) (number .put-number .ensures)) (last .put .ensures)
 
 pub put-set-refusal-spec : {M : Type 1} → statement M
 put-set-refusal-spec =

@@ -44,7 +44,7 @@ returns-2 c =
     let o = now (a .out) in
     goes-on (compile (jobIn (a .j))) (λ c. packInto c (length o)) o _ (w .result) _
     (read-done (k .result) _ (k .ensures .0) (c .before .before .before .before .enum-told .given .1))
-        (w .ensures .0) (w .ensures .1)
+    (w .ensures .0) (w .ensures .1)
 
 pub compile-into-spec : {M : Type 1} → statement M
 compile-into-spec =

@@ -30,7 +30,7 @@ returns c =
     let o = now (a .out) in
     listed-so (now (a .job)) (length o) o _ _
     (ends-bad (readRunLength (now (a .job))) (listedInto (length o)) o _
-        (job-bad (k .result) _ _ (k .ensures .0) (c .before .v .given .1)))
+    (job-bad (k .result) _ _ (k .ensures .0) (c .before .v .given .1)))
 
 same-length : tie.Need-same-length
 same-length c = search needs
@@ -44,7 +44,7 @@ returns-2 c =
     listed-so (now (a .job)) (length o) o _ (w .result)
     (goes-on (readRunLength (now (a .job))) (listedInto (length o)) o _ (w .result) _
     (job-done (k .result) _ (k .ensures .0) (c .before .before .before .before .enum-told .given .1)) (w .ensures .0)
-        (w .ensures .1))
+    (w .ensures .1))
 
 pub list-run-length-spec : {M : Type 1} → statement M
 list-run-length-spec =

@@ -22,9 +22,10 @@ bad-requires c κs = search needs
 returns : tie.Need-returns
 returns c =
     let f = c .before .before .before .component-of in
-    let j = jobIn (c .before .before .before .before .before .args .j) in
-    (c .bad .ensures .0 ∙ sym (compile-none j (sym (f .ensures .total) ∙ c .before .if1 .taken)),
-    λ e. absurd (c .bad .ensures .1 e))
+    let j = jobIn (c .before .before .before .before .before .args .j) in (
+      c .bad .ensures .0 ∙ sym (compile-none j (sym (f .ensures .total) ∙ c .before .if1 .taken)),
+      λ e. absurd (c .bad .ensures .1 e),
+    )
 
 bad-requires-2 : tie.Need-bad-requires-2
 bad-requires-2 c κs = search needs
@@ -32,11 +33,12 @@ bad-requires-2 c κs = search needs
 returns-2 : tie.Need-returns-2
 returns-2 c =
     let f = c .before .before .before .before .before .component-of in
-    let j = jobIn (c .before .before .before .before .before .before .before .args .j) in
-    (c .bad2 .ensures .0
-    ∙ sym (compile-heavy j (omega (arith, f .ensures .total, c .before .before .before .if1 .left))
-        (omega (arith, f .ensures .total, c .before .if2 .taken))),
-    λ e. absurd (c .bad2 .ensures .1 e))
+    let j = jobIn (c .before .before .before .before .before .before .before .args .j) in (
+      c .bad2 .ensures .0
+          ∙ sym (compile-heavy j (omega (arith, f .ensures .total, c .before .before .before .if1 .left))
+          (omega (arith, f .ensures .total, c .before .if2 .taken))),
+      λ e. absurd (c .bad2 .ensures .1 e),
+    )
 
 bad-requires-3 : tie.Need-bad-requires-3
 bad-requires-3 c κs = search needs
@@ -44,25 +46,28 @@ bad-requires-3 c κs = search needs
 returns-3 : tie.Need-returns-3
 returns-3 c =
     let f = c .before .before .before .before .before .before .component-of in
-    let j = jobIn (c .before .before .before .before .before .before .before .before .args .j) in
-    (c .bad3 .ensures .0
-    ∙ sym (compile-crowded j (omega (arith, f .ensures .total, c .before .before .before .before .if1 .left))
-        (omega (arith, f .ensures .total, c .before .before .if2 .left))
-    (crowded-stays (ways j) (componentOf j) (sym (f .ensures .crowds) ∙ c .before .if3 .taken))),
-    λ e. absurd (c .bad3 .ensures .1 e))
+    let j = jobIn (c .before .before .before .before .before .before .before .before .args .j) in (
+      c .bad3 .ensures .0
+          ∙ sym (compile-crowded j (omega (arith, f .ensures .total, c .before .before .before .before .if1 .left))
+          (omega (arith, f .ensures .total, c .before .before .if2 .left))
+          (crowded-stays (ways j) (componentOf j) (sym (f .ensures .crowds) ∙ c .before .if3 .taken))),
+      λ e. absurd (c .bad3 .ensures .1 e),
+    )
 
 split-and-window-requires : tie.Need-split-and-window-requires
 split-and-window-requires c κs =
     let f = c .before .before .before .before .before .before .component-of .ensures in
-    let b = c .before .before .before .before .before .before .before .before in
-    (b .pre, record {
-      count = c .before .before .before .before .before .before .before .ways .ensures .0;
-      work = f .work (c .before .if3 .left);
-      fits = f .fits (c .before .if3 .left);
-      first = f .start;
-      some = omega (arith, f .total, c .before .before .before .before .if1 .left);
-      light = omega (arith, f .total, c .before .before .if2 .left);
-    })
+    let b = c .before .before .before .before .before .before .before .before in (
+      b .pre,
+      record {
+        count = c .before .before .before .before .before .before .before .ways .ensures .0;
+        work = f .work (c .before .if3 .left);
+        fits = f .fits (c .before .if3 .left);
+        first = f .start;
+        some = omega (arith, f .total, c .before .before .before .before .if1 .left);
+        light = omega (arith, f .total, c .before .before .if2 .left);
+      },
+    )
 
 returns-4 : tie.Need-returns-4
 returns-4 c = search needs

@@ -17,23 +17,27 @@ power-requires c κs = omega (arith, c .before .pre .0 .allowed .q₂)
 state-weights-requires : tie.Need-state-weights-requires
 state-weights-requires c κs =
     let b = c .before .before .before in
-    let j = b .args .j in
-    (held-powers j (b .pre .0) _ _ (c .before .before .power-codes .ensures) (c .before .power .ensures),
-    omega (arith, ways-pos (jobIn j), b .pre .1), b .pre .0 .allowed .cap₂)
+    let j = b .args .j in (
+      held-powers j (b .pre .0) _ _ (c .before .before .power-codes .ensures) (c .before .power .ensures),
+      omega (arith, ways-pos (jobIn j), b .pre .1),
+      b .pre .0 .allowed .cap₂,
+    )
 
 find-component-requires : tie.Need-find-component-requires
 find-component-requires c κs =
     let b = c .before .before .before .before .before in
-    let j = b .args .j in
-    (held-powers j (b .pre .0) _ _ (c .before .before .before .before .power-codes .ensures)
-        (c .before .before .before .power .ensures),
-    has-states j (b .pre .0), λ s h. omega (arith, c .before .state-weights .ensures .1 s h, b .pre .0 .allowed .cap₂))
+    let j = b .args .j in (
+      held-powers j (b .pre .0) _ _ (c .before .before .before .before .power-codes .ensures)
+          (c .before .before .before .power .ensures),
+      has-states j (b .pre .0),
+      λ s h. omega (arith, c .before .state-weights .ensures .1 s h, b .pre .0 .allowed .cap₂),
+    )
 
 returns : tie.Need-returns
 returns c =
     let b = c .before .before .before .before .before .before in
     held-component (b .args .j) (b .pre .0) _ _ (c .before .before .before .before .before .power-codes .ensures)
-        (c .before .before .before .before .power .ensures) (b .args .n) _ _
+    (c .before .before .before .before .power .ensures) (b .args .n) _ _
     (b .pre .1) (c .before .before .state-weights .ensures .0) (c .find-component .ensures)
 
 pub component-of-spec : {M : Type 1} → statement M

@@ -22,12 +22,13 @@ returns : tie.Need-returns
 returns c =
     let b = c .before .before .before in
     let a = b .args in
-    let s = c .before .before .split-all in
-    (c .bad .ensures .0
-    ∙ sym (compile-crowded (jobIn (a .j)) (b .pre .1 .some) (b .pre .1 .light)
-    (begun-crowded (jobIn (a .j)) (b .pre .0 .allowed) (a .n) (a .g) (a .start) (b .pre .1) (s .result) (s .ensures)
-    (c .before .if1 .taken))),
-    λ e. absurd (c .bad .ensures .1 e))
+    let s = c .before .before .split-all in (
+      c .bad .ensures .0
+          ∙ sym (compile-crowded (jobIn (a .j)) (b .pre .1 .some) (b .pre .1 .light)
+          (begun-crowded (jobIn (a .j)) (b .pre .0 .allowed) (a .n) (a .g) (a .start) (b .pre .1) (s .result)
+          (s .ensures) (c .before .if1 .taken))),
+      λ e. absurd (c .bad .ensures .1 e),
+    )
 
 finish-table-requires : tie.Need-finish-table-requires
 finish-table-requires c κs =
@@ -44,7 +45,7 @@ with-window-requires c κs =
     let s = c .before .before .before .before .before .before .split-all in
     let f = c .before .before .before .finish-table in
     table-ready (a .j) (b .pre .0) (a .n) (a .g) (a .start) (b .pre .1) (s .result) (s .ensures)
-        (c .before .before .before .before .before .if1 .left)
+    (c .before .before .before .before .before .if1 .left)
     (f .result) (f .ensures)
 
 returns-2 : tie.Need-returns-2
@@ -52,12 +53,13 @@ returns-2 c =
     let b = c .before .before .before .before .before .before .before .before in
     let a = b .args in
     let s = c .before .before .before .before .before .before .before .split-all in
-    let f = c .before .before .before .before .finish-table in
-    (c .with-window .ensures .0
-    ∙ table-code (a .j) (b .pre .0) (a .n) (a .g) (a .start) (b .pre .1) (s .result) (s .ensures)
-        (c .before .before .before .before .before .before .if1 .left)
-    (f .result) (f .ensures),
-    c .with-window .ensures .1)
+    let f = c .before .before .before .before .finish-table in (
+      c .with-window .ensures .0
+          ∙ table-code (a .j) (b .pre .0) (a .n) (a .g) (a .start) (b .pre .1) (s .result) (s .ensures)
+          (c .before .before .before .before .before .before .if1 .left)
+          (f .result) (f .ensures),
+      c .with-window .ensures .1,
+    )
 
 pub split-and-window-spec : {M : Type 1} → statement M
 split-and-window-spec =

@@ -21,11 +21,12 @@ bad-requires c κs = search needs
 
 returns : tie.Need-returns
 returns c =
-    let l = c .before .before .before in
-    (c .bad .ensures .0
-    ∙ sym (windowed-none (l .before .args .t) (l .least-window .result) (l .least-window .ensures) _
-        (c .before .before .memory-of .ensures) (c .before .if1 .taken)),
-    λ e. absurd (c .bad .ensures .1 e))
+    let l = c .before .before .before in (
+      c .bad .ensures .0
+          ∙ sym (windowed-none (l .before .args .t) (l .least-window .result) (l .least-window .ensures) _
+          (c .before .before .memory-of .ensures) (c .before .if1 .taken)),
+      λ e. absurd (c .bad .ensures .1 e),
+    )
 
 lookahead-of-requires : tie.Need-lookahead-of-requires
 lookahead-of-requires c κs = search needs
@@ -38,13 +39,14 @@ returns-2 c =
     let l = c .before .before .before .before in
     let t = l .before .args .t in
     let m = c .before .before .before .memory-of in
-    let a = c .before .lookahead-of in
-    (ap (λ x. done (codeIn x)) (c .with-size .ensures)
-    ∙ windowed-found t (l .least-window .result) (l .least-window .ensures) _ _ (m .ensures) (a .ensures)
-        (c .before .before .if1 .left),
-    λ e. subst Listed (sym (c .with-size .ensures))
-    (listed-with t (l .least-window .result) (l .least-window .ensures) _ _ (m .ensures) (a .ensures)
-        (c .before .before .if1 .left) (l .before .pre)))
+    let a = c .before .lookahead-of in (
+      ap (λ x. done (codeIn x)) (c .with-size .ensures)
+          ∙ windowed-found t (l .least-window .result) (l .least-window .ensures) _ _ (m .ensures) (a .ensures)
+          (c .before .before .if1 .left),
+      λ e. subst Listed (sym (c .with-size .ensures))
+          (listed-with t (l .least-window .result) (l .least-window .ensures) _ _ (m .ensures) (a .ensures)
+          (c .before .before .if1 .left) (l .before .pre)),
+    )
 
 pub with-window-spec : {M : Type 1} → statement M
 with-window-spec =

@@ -30,11 +30,17 @@ add-result-4 c = search needs
 
 returns : tie.Need-returns
 returns c =
-    let a = c .before .before .before .args in
-    (λ w. omega (arith, length-edge (a .q) (a .s) (a .d) w (a .next), c .digits3 .ensures .0, c .before .digits2
-        .ensures .0,
-        c .before .before .digits .ensures .0),
-    omega arith)
+    let a = c .before .before .before .args in (
+      λ w. omega (
+        arith,
+        length-edge (a .q) (a .s) (a .d) w (a .next),
+        c .digits3 .ensures .0,
+        c .before .digits2
+            .ensures .0,
+        c .before .before .digits .ensures .0,
+      ),
+      omega arith,
+    )
 
 pub edge-size-spec : {M : Type 1} → statement M
 edge-size-spec =

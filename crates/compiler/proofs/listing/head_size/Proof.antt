@@ -41,13 +41,25 @@ add-result-5 c = search needs
 
 returns : tie.Need-returns
 returns c =
-    let t = c .before .before .before .before .before .args .t in
-    (omega (arith, head-parts t, length-number (t .p) blank, length-number (t .q) blank, length-number (t .states)
-        blank,
-        length-number (t .memory) blank, length-number (t .lookahead) newline, c .digits5 .ensures .0,
-        c .before .digits4 .ensures .0, c .before .before .digits3 .ensures .0, c .before .before .before .digits2
-            .ensures .0, c .before .before .before .before .digits .ensures .0),
-    omega arith)
+    let t = c .before .before .before .before .before .args .t in (
+      omega (
+        arith,
+        head-parts t,
+        length-number (t .p) blank,
+        length-number (t .q) blank,
+        length-number (t .states)
+            blank,
+        length-number (t .memory) blank,
+        length-number (t .lookahead) newline,
+        c .digits5 .ensures .0,
+        c .before .digits4 .ensures .0,
+        c .before .before .digits3 .ensures .0,
+        c .before .before .before .digits2
+            .ensures .0,
+        c .before .before .before .before .digits .ensures .0,
+      ),
+      omega arith,
+    )
 
 pub head-size-spec : {M : Type 1} → statement M
 head-size-spec =

@@ -30,7 +30,7 @@ module _ (c : tie.In-loop Inv-loop μ-loop) where
   state =
       let b = c .before .before in
       let s = edge-state (b .args .t1) (b .pre .0 .ready) (b .args .n) (c .before .loop .e) (b .pre .1)
-          (c .loop-test .taken) in
+      (c .loop-test .taken) in
       omega (arith, b .pre .0 .ready .few)
 
   place : c .before .loop .e / c .before .before .args .n * 16 + c .before .loop .e % c .before .before .args .n < 2048
@@ -73,9 +73,12 @@ edge-size-requires c κs =
     let l = c .before in
     let b = l .before .before in
     let e = l .before .loop .e in
-    let d = edge-small (b .args .t1) (b .pre .0 .ready) (b .args .n) e (b .pre .1) (l .loop-test .taken) in
-    (omega (arith, b .pre .0 .ready .short), omega (arith, state l), omega arith,
-    edge-next (b .args .t1) (b .pre .0 .ready) (b .args .n) e (b .pre .1) (l .loop-test .taken))
+    let d = edge-small (b .args .t1) (b .pre .0 .ready) (b .args .n) e (b .pre .1) (l .loop-test .taken) in (
+      omega (arith, b .pre .0 .ready .short),
+      omega (arith, state l),
+      omega arith,
+      edge-next (b .args .t1) (b .pre .0 .ready) (b .args .n) e (b .pre .1) (l .loop-test .taken),
+    )
 
 add-size : tie.Need-add-size Inv-loop μ-loop
 add-size c = omega (arith, c .edge-size .ensures .1, few (c .before .before))
@@ -92,16 +95,17 @@ loop-again c =
     let b = c .before .before .before .before in
     let t = b .args .t1 in
     let line : c .edge-size .result ≡ length (lineAt t (l .e)) =
-            c .edge-size .ensures .0 _ ∙ ap length (lineOf t (b .args .n) (l .e) (b .pre .1)) in
+    c .edge-size .ensures .0 _ ∙ ap length (lineOf t (b .args .n) (l .e) (b .pre .1)) in
     (omega arith, omega (arith, lines-length t (l .e)), omega (arith, c .edge-size .ensures .1))
 
 returns : tie.Need-returns Inv-loop μ-loop
 returns c =
     let l = c .before .loop in
     let b = c .before .before in
-    let e : l .e ≡ b .args .t1 .states * b .args .n = omega arith in
-    (l .inv .1 ∙ ap (λ k. length (linesTo (b .args .t1) k)) e,
-    omega (arith, edges-few (b .args .t1) (b .pre .0 .ready) (b .args .n) (b .pre .1)))
+    let e : l .e ≡ b .args .t1 .states * b .args .n = omega arith in (
+      l .inv .1 ∙ ap (λ k. length (linesTo (b .args .t1) k)) e,
+      omega (arith, edges-few (b .args .t1) (b .pre .0 .ready) (b .args .n) (b .pre .1)),
+    )
 
 pub lines-size-spec : {M : Type 1} → statement M
 lines-size-spec =

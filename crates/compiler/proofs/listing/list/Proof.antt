@@ -31,23 +31,37 @@ returns c =
 
 put-head-requires : tie.Need-put-head-requires
 put-head-requires c κs =
-    let h = c .before .before .before in
-    (h .before .before .before .pre, omega (arith, h .head-size .ensures .0, c .before .before .lines-size .ensures
-        .0))
+    let h = c .before .before .before in (
+      h .before .before .before .pre,
+      omega (
+        arith,
+        h .head-size .ensures .0,
+        c .before .before .lines-size .ensures
+            .0,
+      ),
+    )
 
 put-lines-requires : tie.Need-put-lines-requires
 put-lines-requires c κs =
     let h = c .before .before .before .before .before .before .before in
     let w = h .before in
-    let p = c .before .before .before .put-head .ensures in
-    (w .before .before .pre, w .ways .ensures .0,
-    omega (arith, p .end, p .kept, h .head-size .ensures .0, c .before .before .before .before .before .before
-        .lines-size .ensures .0))
+    let p = c .before .before .before .put-head .ensures in (
+      w .before .before .pre,
+      w .ways .ensures .0,
+      omega (
+        arith,
+        p .end,
+        p .kept,
+        h .head-size .ensures .0,
+        c .before .before .before .before .before .before
+            .lines-size .ensures .0,
+      ),
+    )
 
 same-length : tie.Need-same-length
 same-length c =
     c .before .before .put-lines .ensures .kept ∙ c .before .before .before .before .before .before .put-head
-        .ensures .kept
+    .ensures .kept
 
 returns-2 : tie.Need-returns-2
 returns-2 c =
@@ -55,9 +69,14 @@ returns-2 c =
     let w = h .before in
     let b = w .before .before in
     list-done (b .args .t) (w .ways .result) (w .ways .ensures .0) (now (b .args .out)) _ _ _ _
-    (omega (arith, c .before .before .before .before .before .before .before .before .if1 .left, h .head-size
-        .ensures .0, c .before .before .before .before .before .before .before .before .before .lines-size .ensures
-        .0)) (c .before .before .before .before .before .before .put-head .ensures)
+    (omega (
+      arith,
+      c .before .before .before .before .before .before .before .before .if1 .left,
+      h .head-size
+          .ensures .0,
+      c .before .before .before .before .before .before .before .before .before .lines-size .ensures
+          .0,
+    )) (c .before .before .before .before .before .before .put-head .ensures)
     (c .before .before .put-lines .ensures)
 
 pub list-spec : {M : Type 1} → statement M

@@ -28,26 +28,28 @@ put-number-requires-3 c κs =
 put-number-requires-4 : tie.Need-put-number-requires-4
 put-number-requires-4 c κs =
     let b = c .before .before .before .before .before .before .before .before .before .before .before .before .before
-        .before in
+    .before in
     let p = c .before .before .before .before .before .before .before .before .before .before .before .put-number
-        .ensures in
+    .ensures in
     let q = c .before .before .before .before .before .before .before .put-number2 .ensures in
-    let s = c .before .before .before .put-number3 .ensures in
-    (omega (arith, b .pre .0 .memory),
-    omega (arith, head-parts (b .args .t), p .end, p .kept, q .end, q .kept, s .end, s .kept))
+    let s = c .before .before .before .put-number3 .ensures in (
+      omega (arith, b .pre .0 .memory),
+      omega (arith, head-parts (b .args .t), p .end, p .kept, q .end, q .kept, s .end, s .kept),
+    )
 
 put-number-requires-5 : tie.Need-put-number-requires-5
 put-number-requires-5 c κs =
     let b = c .before .before .before .before .before .before .before .before .before .before .before .before .before
-        .before .before .before .before .before in
+    .before .before .before .before .before in
     let p = c .before .before .before .before .before .before .before .before .before .before .before .before .before
-        .before .before .put-number .ensures in
+    .before .before .put-number .ensures in
     let q = c .before .before .before .before .before .before .before .before .before .before .before .put-number2
-        .ensures in
+    .ensures in
     let s = c .before .before .before .before .before .before .before .put-number3 .ensures in
-    let m = c .before .before .before .put-number4 .ensures in
-    (omega (arith, b .pre .0 .lookahead),
-    omega (arith, head-parts (b .args .t), p .end, p .kept, q .end, q .kept, s .end, s .kept, m .end, m .kept))
+    let m = c .before .before .before .put-number4 .ensures in (
+      omega (arith, b .pre .0 .lookahead),
+      omega (arith, head-parts (b .args .t), p .end, p .kept, q .end, q .kept, s .end, s .kept, m .end, m .kept),
+    )
 
 same-length : tie.Need-same-length
 same-length c =
@@ -55,7 +57,7 @@ same-length c =
     let q = s .before .before .before .before in
     let p = q .before .before .before .before in
     c .before .before .put-number5 .ensures .kept ∙ c .before .before .before .before .before .before .put-number4
-        .ensures .kept ∙ s .put-number3 .ensures .kept
+    .ensures .kept ∙ s .put-number3 .ensures .kept
     ∙ q .put-number2 .ensures .kept ∙ p .put-number .ensures .kept
 
 returns : tie.Need-returns
@@ -66,7 +68,7 @@ returns c =
     let b = p .before .before .before in
     head-put (b .args .t) _ _ _ _ _ (now (b .args .out)) _ _ _ _ _ (b .pre .1) (p .put-number .ensures)
     (q .put-number2 .ensures) (s .put-number3 .ensures) (c .before .before .before .before .before .before
-        .put-number4 .ensures) (c .before .before .put-number5 .ensures)
+    .put-number4 .ensures) (c .before .before .put-number5 .ensures)
 
 pub put-head-spec : {M : Type 1} → statement M
 put-head-spec =

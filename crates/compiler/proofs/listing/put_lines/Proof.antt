@@ -33,7 +33,7 @@ module _ (c : tie.In-loop Inv-loop μ-loop) where
   state =
       let b = c .before .before .before in
       let s = edge-state (b .args .t3) (b .pre .0 .ready) (b .args .n) (c .before .loop .e) (b .pre .1)
-          (c .loop-test .taken) in
+      (c .loop-test .taken) in
       omega (arith, b .pre .0 .ready .few)
 
   place : c .before .loop .e / c .before .before .before .args .n * 16 + c .before .loop .e % c .before .before
@@ -48,8 +48,12 @@ module _ (c : tie.In-loop Inv-loop μ-loop) where
       ≤ length (now (c .before .before .before .args .out))
   room =
       let b = c .before .before .before in
-      omega (arith, lines-room (b .args .t3) (c .before .loop .e) (b .args .t3 .states * b .args .n)
-          (c .loop-test .taken), b .pre .2)
+      omega (
+        arith,
+        lines-room (b .args .t3) (c .before .loop .e) (b .args .t3 .states * b .args .n)
+            (c .loop-test .taken),
+        b .pre .2,
+      )
 
 mul-edges : tie.Need-mul-edges Inv-loop μ-loop
 mul-edges c =
@@ -58,10 +62,11 @@ mul-edges c =
 
 loop-holds : tie.Need-loop-holds Inv-loop μ-loop
 loop-holds c =
-    let a = c .before .args in
-    (omega arith,
-    subst (λ T. Put T (a .first) (now (a .out)) (now (a .out)) (a .first)) (sym (lines-none (a .t3)))
-    (put-none (a .first) (now (a .out))))
+    let a = c .before .args in (
+      omega arith,
+      subst (λ T. Put T (a .first) (now (a .out)) (now (a .out)) (a .first)) (sym (lines-none (a .t3)))
+          (put-none (a .first) (now (a .out))),
+    )
 
 div-i : tie.Need-div-i Inv-loop μ-loop
 div-i c = omega (arith, some c)
@@ -100,10 +105,13 @@ put-edge-requires c κs =
     let t = b .args .t3 in
     let e = l .before .loop .e in
     let p = l .before .loop .inv .1 in
-    let d = edge-small t (b .pre .0 .ready) (b .args .n) e (b .pre .1) (l .loop-test .taken) in
-    (omega (arith, b .pre .0 .ready .short), omega (arith, state l), omega arith,
-    edge-next t (b .pre .0 .ready) (b .args .n) e (b .pre .1) (l .loop-test .taken),
-    omega (arith, ap length (lineOf t (b .args .n) e (b .pre .1)), room l, p .end, p .kept))
+    let d = edge-small t (b .pre .0 .ready) (b .args .n) e (b .pre .1) (l .loop-test .taken) in (
+      omega (arith, b .pre .0 .ready .short),
+      omega (arith, state l),
+      omega arith,
+      edge-next t (b .pre .0 .ready) (b .args .n) e (b .pre .1) (l .loop-test .taken),
+      omega (arith, ap length (lineOf t (b .args .n) e (b .pre .1)), room l, p .end, p .kept),
+    )
 
 add-e : tie.Need-add-e Inv-loop μ-loop
 add-e c = omega (arith, few (c .before .before .before .before .before .before))
@@ -116,10 +124,11 @@ loop-again c =
     let l = c .before .before .before .before .before .before in
     let b = l .before .before .before in
     let t = b .args .t3 in
-    let e = l .before .loop .e in
-    (omega arith,
-    lines-put t e (b .args .first) _ _ (now (b .args .out)) _ _ (room l) (l .before .loop .inv .1)
-    (put-same (lineOf t (b .args .n) e (b .pre .1)) (c .before .before .put-edge .ensures)))
+    let e = l .before .loop .e in (
+      omega arith,
+      lines-put t e (b .args .first) _ _ (now (b .args .out)) _ _ (room l) (l .before .loop .inv .1)
+          (put-same (lineOf t (b .args .n) e (b .pre .1)) (c .before .before .put-edge .ensures)),
+    )
 
 same-length : tie.Need-same-length Inv-loop μ-loop
 same-length c = c .before .loop .inv .1 .kept

@@ -27,7 +27,7 @@ returns c =
     let n = c .before .before .refusal-number in
     let a = c .before .before .before .before .args in
     refusal-short (a .r) (n .result) (n .ensures) (now (a .out))
-        (omega (arith, c .if1 .taken, c .before .digits .ensures .0))
+    (omega (arith, c .if1 .taken, c .before .digits .ensures .0))
 
 slice-aggregate-put-bytes : tie.Need-slice-aggregate-put-bytes
 slice-aggregate-put-bytes c = search needs
@@ -38,16 +38,24 @@ put-bytes-requires c κs = search needs
 put-number-requires : tie.Need-put-number-requires
 put-number-requires c κs =
     let n = c .before .before .before .before .before .before .before .before .refusal-number in
-    let p = c .before .before .before .put-bytes .ensures in
-    (subst (λ n. n < 1000) (sym (n .ensures)) (number-small (c .before .before .before .before .before .before
-        .before .before .before .before .args .r)),
-    omega (arith, p .end, p .kept, length-number (n .result) newline, c .before .before .before .before .before
-        .before .if1 .left, c .before .before .before .before .before .before .before .digits .ensures .0))
+    let p = c .before .before .before .put-bytes .ensures in (
+      subst (λ n. n < 1000) (sym (n .ensures)) (number-small (c .before .before .before .before .before .before
+          .before .before .before .before .args .r)),
+      omega (
+        arith,
+        p .end,
+        p .kept,
+        length-number (n .result) newline,
+        c .before .before .before .before .before
+            .before .if1 .left,
+        c .before .before .before .before .before .before .before .digits .ensures .0,
+      ),
+    )
 
 same-length : tie.Need-same-length
 same-length c =
     c .before .before .put-number .ensures .kept ∙ c .before .before .before .before .before .before .put-bytes
-        .ensures .kept
+    .ensures .kept
 
 returns-2 : tie.Need-returns-2
 returns-2 c =
@@ -55,9 +63,13 @@ returns-2 c =
     let n = d .before .refusal-number in
     let a = d .before .before .before .args in
     refusal-done (a .r) (n .result) (n .ensures) (now (a .out)) _ _ _ _
-    (omega (arith, c .before .before .before .before .before .before .before .before .before .if1 .left, d .digits
-        .ensures .0)) (c .before .before .before .before .before .before .put-bytes .ensures)
-        (c .before .before .put-number .ensures)
+    (omega (
+      arith,
+      c .before .before .before .before .before .before .before .before .before .if1 .left,
+      d .digits
+          .ensures .0,
+    )) (c .before .before .before .before .before .before .put-bytes .ensures)
+    (c .before .before .put-number .ensures)
 
 pub put-refusal-spec : {M : Type 1} → statement M
 put-refusal-spec =

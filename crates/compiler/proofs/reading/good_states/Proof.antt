@@ -42,9 +42,11 @@ loop-less c = search needs
 
 loop-again : tie.Need-loop-again Inv-loop μ-loop
 loop-again c =
-    let g = c .before .good-next in
-    (omega arith, below-more _ _ (c .before .before .before .loop .inv .1)
-        (sym (g .ensures) ∙ not-false (g .result) (c .if1 .left)))
+    let g = c .before .good-next in (
+      omega arith,
+      below-more _ _ (c .before .before .before .loop .inv .1)
+          (sym (g .ensures) ∙ not-false (g .result) (c .if1 .left)),
+    )
 
 returns-2 : tie.Need-returns-2 Inv-loop μ-loop
 returns-2 c =

@@ -46,10 +46,11 @@ bad-requires : tie.Need-bad-requires
 bad-requires c κs = search needs
 
 returns : tie.Need-returns
-returns c =
-    (c .bad .ensures .0 ∙ sym (job-short (now (c .before .before .before .args .bytes))
-        (lt-leb 4 _ (c .before .if1 .taken))),
-    λ e. absurd (c .bad .ensures .1 e))
+returns c = (
+  c .bad .ensures .0 ∙ sym (job-short (now (c .before .before .before .args .bytes))
+      (lt-leb 4 _ (c .before .if1 .taken))),
+  λ e. absurd (c .bad .ensures .1 e),
+)
 
 shared-slice-read-p : tie.Need-shared-slice-read-p
 shared-slice-read-p c = search needs
@@ -78,11 +79,12 @@ bad-requires-2 c κs = search needs
 returns-2 : tie.Need-returns-2
 returns-2 c =
     let g = c .before .before in
-    let b = g .before .before .before .before in
-    (c .bad2 .ensures .0
-    ∙ sym (job-parameters (in₁ b) (long b)
-    (sym (g .good-parameters .ensures) ∙ not-true (g .good-parameters .result) (c .before .if2 .taken))),
-    λ e. absurd (c .bad2 .ensures .1 e))
+    let b = g .before .before .before .before in (
+      c .bad2 .ensures .0
+          ∙ sym (job-parameters (in₁ b) (long b)
+          (sym (g .good-parameters .ensures) ∙ not-true (g .good-parameters .result) (c .before .if2 .taken))),
+      λ e. absurd (c .bad2 .ensures .1 e),
+    )
 
 shared-slice-read-count : tie.Need-shared-slice-read-count
 shared-slice-read-count c = search needs
@@ -99,11 +101,12 @@ bad-requires-3 c κs = search needs
 returns-3 : tie.Need-returns-3
 returns-3 c =
     let g = c .before .before in
-    let p = g .before .before in
-    (c .bad3 .ensures .0
-    ∙ sym (job-count (in₂ p) (long (p .before .before .before .before .before)) (good p)
-    (sym (g .between .ensures) ∙ not-true (g .between .result) (c .before .if3 .taken))),
-    λ e. absurd (c .bad3 .ensures .1 e))
+    let p = g .before .before in (
+      c .bad3 .ensures .0
+          ∙ sym (job-count (in₂ p) (long (p .before .before .before .before .before)) (good p)
+          (sym (g .between .ensures) ∙ not-true (g .between .result) (c .before .if3 .taken))),
+      λ e. absurd (c .bad3 .ensures .1 e),
+    )
 
 mul-if4 : tie.Need-mul-if4
 mul-if4 c = omega (arith, in-range 1 (getD (in₃ c) 3 0) 16 (counted c) .1)
@@ -117,11 +120,12 @@ bad-requires-4 c κs = search needs
 returns-4 : tie.Need-returns-4
 returns-4 c =
     let k = c .before .before in
-    let p = k .before .before .before in
-    (c .bad4 .ensures .0
-    ∙ sym (job-length (in₂ p) (long (p .before .before .before .before .before)) (good p) (counted k)
-        (ne-eqb _ _ (c .before .if4 .taken))),
-    λ e. absurd (c .bad4 .ensures .1 e))
+    let p = k .before .before .before in (
+      c .bad4 .ensures .0
+          ∙ sym (job-length (in₂ p) (long (p .before .before .before .before .before)) (good p) (counted k)
+          (ne-eqb _ _ (c .before .if4 .taken))),
+      λ e. absurd (c .bad4 .ensures .1 e),
+    )
 
 good-states-requires : tie.Need-good-states-requires
 good-states-requires c κs = (in-range 1 _ 16 (counted (c .before)) .1, omega arith)
@@ -133,12 +137,13 @@ returns-5 : tie.Need-returns-5
 returns-5 c =
     let g = c .before .before in
     let k = g .before .before in
-    let p = k .before .before .before in
-    (c .bad5 .ensures .0
-    ∙ sym (job-states (in₂ p) (long (p .before .before .before .before .before)) (good p) (counted k)
-        (sized (g .before))
-    (sym (g .good-states .ensures) ∙ not-true (g .good-states .result) (c .before .if5 .taken))),
-    λ e. absurd (c .bad5 .ensures .1 e))
+    let p = k .before .before .before in (
+      c .bad5 .ensures .0
+          ∙ sym (job-states (in₂ p) (long (p .before .before .before .before .before)) (good p) (counted k)
+          (sized (g .before))
+          (sym (g .good-states .ensures) ∙ not-true (g .good-states .result) (c .before .if5 .taken))),
+      λ e. absurd (c .bad5 .ensures .1 e),
+    )
 
 states-of-requires : tie.Need-states-of-requires
 states-of-requires c κs = (in-range 1 _ 16 (counted (c .before .before .before)) .1, omega arith)
@@ -151,8 +156,8 @@ returns-6 c =
     let xs = in₂ p in
     let k = c .states-of .result in
     let r = job-good xs (long (p .before .before .before .before .before)) (good p) (counted n) (sized (g .before))
-            (sym (g .good-states .ensures) ∙ not-false (g .good-states .result) (c .before .if5 .left)) k
-                (c .states-of .ensures .0) in
+    (sym (g .good-states .ensures) ∙ not-false (g .good-states .result) (c .before .if5 .left)) k
+    (c .states-of .ensures .0) in
     (sym r, λ e. job-ready xs (jobOf (getD xs 0 0) (getD xs 1 0) (getD xs 2 0) k) r)
 
 pub read-job-spec : {M : Type 1} → statement M

@@ -42,10 +42,11 @@ bad-requires : tie.Need-bad-requires
 bad-requires c κs = search needs
 
 returns : tie.Need-returns
-returns c =
-    (c .bad .ensures .0 ∙ sym (run-length-size (now (c .before .before .before .args .bytes))
-        (ne-eqb _ _ (c .before .if1 .taken))),
-    λ e. absurd (c .bad .ensures .1 e))
+returns c = (
+  c .bad .ensures .0 ∙ sym (run-length-size (now (c .before .before .before .args .bytes))
+      (ne-eqb _ _ (c .before .if1 .taken))),
+  λ e. absurd (c .bad .ensures .1 e),
+)
 
 shared-slice-read-p : tie.Need-shared-slice-read-p
 shared-slice-read-p c = search needs
@@ -74,11 +75,12 @@ bad-requires-2 c κs = search needs
 returns-2 : tie.Need-returns-2
 returns-2 c =
     let g = c .before .before in
-    let b = g .before .before .before .before in
-    (c .bad2 .ensures .0
-    ∙ sym (run-length-parameters (in₁ b) (sized b)
-    (sym (g .good-parameters .ensures) ∙ not-true (g .good-parameters .result) (c .before .if2 .taken))),
-    λ e. absurd (c .bad2 .ensures .1 e))
+    let b = g .before .before .before .before in (
+      c .bad2 .ensures .0
+          ∙ sym (run-length-parameters (in₁ b) (sized b)
+          (sym (g .good-parameters .ensures) ∙ not-true (g .good-parameters .result) (c .before .if2 .taken))),
+      λ e. absurd (c .bad2 .ensures .1 e),
+    )
 
 shared-slice-read-d : tie.Need-shared-slice-read-d
 shared-slice-read-d c = search needs
@@ -101,11 +103,12 @@ bad-requires-3 c κs = search needs
 returns-3 : tie.Need-returns-3
 returns-3 c =
     let g = c .before .before in
-    let p = g .before .before .before in
-    (c .bad3 .ensures .0
-    ∙ sym (run-length-range (in₂ p) (sized (p .before .before .before .before .before)) (good p)
-    (sym (g .between .ensures) ∙ not-true (g .between .result) (c .before .if3 .taken))),
-    λ e. absurd (c .bad3 .ensures .1 e))
+    let p = g .before .before .before in (
+      c .bad3 .ensures .0
+          ∙ sym (run-length-range (in₂ p) (sized (p .before .before .before .before .before)) (good p)
+          (sym (g .between .ensures) ∙ not-true (g .between .result) (c .before .if3 .taken))),
+      λ e. absurd (c .bad3 .ensures .1 e),
+    )
 
 run-length-requires : tie.Need-run-length-requires
 run-length-requires c κs = in-range _ _ 15 (ranged c) .1
@@ -116,7 +119,7 @@ returns-4 c =
     let xs = in₂ p in
     let k = c .run-length .result in
     let r = run-length-good xs (sized (p .before .before .before .before .before)) (good p) (ranged (c .before)) k
-        (c .run-length .ensures) in
+    (c .run-length .ensures) in
     (sym r, λ e. run-length-ready xs (jobOf (getD xs 2 0) (getD xs 3 0) (getD xs 4 0) k) r)
 
 pub read-run-length-spec : {M : Type 1} → statement M

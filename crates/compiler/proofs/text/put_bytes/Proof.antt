@@ -42,9 +42,11 @@ loop-less c = search needs
 loop-again : tie.Need-loop-again Inv-loop μ-loop
 loop-again c =
     let l = c .before .before .loop in
-    let a = c .before .before .before .args in
-    (omega arith, simp length-set (l .inv .1),
-    paste-more (now (a .out)) (a .at) (now (a .text)) (l .i) (l .out) (omega arith) (omega arith) (l .inv .2))
+    let a = c .before .before .before .args in (
+      omega arith,
+      simp length-set (l .inv .1),
+      paste-more (now (a .out)) (a .at) (now (a .text)) (l .i) (l .out) (omega arith) (omega arith) (l .inv .2),
+    )
 
 add-result : tie.Need-add-result Inv-loop μ-loop
 add-result c = search needs

@@ -45,7 +45,7 @@ returns : tie.Need-returns
 returns c =
     let a = c .before .before .before .args in
     put-one (a .n) (a .end) (a .at) (now (a .out)) (c .before .before .before .pre .1) _ (c .before .if1 .taken)
-        (c .digit-of .ensures)
+    (c .digit-of .ensures)
 
 digit-of-requires-2 : tie.Need-digit-of-requires-2
 digit-of-requires-2 c κs = search needs
@@ -79,7 +79,7 @@ returns-2 c =
     let b = c .before .before .before .before .before in
     let a = b .args in
     put-two (a .n) (a .end) (a .at) (now (a .out)) (b .pre .1) _ _ (c .before .before .before .if1 .left)
-        (c .before .before .if2 .taken)
+    (c .before .before .if2 .taken)
     (c .before .digit-of2 .ensures) (c .digit-of3 .ensures)
 
 digit-of-requires-4 : tie.Need-digit-of-requires-4

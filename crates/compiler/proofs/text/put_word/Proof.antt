@@ -49,12 +49,15 @@ loop-less c = search needs
 loop-again : tie.Need-loop-again Inv-loop μ-loop
 loop-again c =
     let l = c .before .before .loop in
-    let a = c .before .before .before .before .args in
-    (omega arith, omega arith, omega (arith, length-set (l .out) (a .at + l .i) (c .bit-digit .result)),
-    omega (arith, length-set (l .out) (a .at + l .i) (c .bit-digit .result)),
-    word-step (a .q) (a .w) (a .at) (now (a .out)) (c .before .before .before .before .pre .1) (l .i) _ (l .out)
-        (omega arith) (c .bit-digit .ensures)
-    (l .inv .4))
+    let a = c .before .before .before .before .args in (
+      omega arith,
+      omega arith,
+      omega (arith, length-set (l .out) (a .at + l .i) (c .bit-digit .result)),
+      omega (arith, length-set (l .out) (a .at + l .i) (c .bit-digit .result)),
+      word-step (a .q) (a .w) (a .at) (now (a .out)) (c .before .before .before .before .pre .1) (l .i) _ (l .out)
+          (omega arith) (c .bit-digit .ensures)
+          (l .inv .4),
+    )
 
 add-out-2 : tie.Need-add-out-2 Inv-loop μ-loop
 add-out-2 c = search needs

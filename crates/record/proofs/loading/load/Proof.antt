@@ -30,17 +30,19 @@ returns : tie.Need-returns
 returns c =
     let v = c .before .before in
     let r = v .before .before .before in
-    let xs = now (r .before .before .args .bytes) in
-    (c .bad .ensures .0 ∙ sym (parse-bad xs (r .read .result) _ (r .read .ensures .0) (v .v .given .1)),
-    λ e. absurd (c .bad .ensures .1 e))
+    let xs = now (r .before .before .args .bytes) in (
+      c .bad .ensures .0 ∙ sym (parse-bad xs (r .read .result) _ (r .read .ensures .0) (v .v .given .1)),
+      λ e. absurd (c .bad .ensures .1 e),
+    )
 
 returns-2 : tie.Need-returns-2
 returns-2 c =
     let r = c .before .before .before .before in
-    let xs = now (r .before .before .args .bytes) in
-    (c .judge .ensures .0
-    ∙ sym (parse-read xs (r .read .result) (r .read .ensures .0) (c .before .enum-told .given .1)),
-    c .judge .ensures .1)
+    let xs = now (r .before .before .args .bytes) in (
+      c .judge .ensures .0
+          ∙ sym (parse-read xs (r .read .result) (r .read .ensures .0) (c .before .enum-told .given .1)),
+      c .judge .ensures .1,
+    )
 
 pub load-spec : {M : Type 1} → statement M
 load-spec =
