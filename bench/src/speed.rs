@@ -94,9 +94,26 @@ fn decode(name: &str, job: [u8; 5]) {
     println!("  proved {ours:.1}; chains in Rust {rust:.1}, ratio {:.2}; plain loops in C {c:.1}, ratio {:.2}", rust / ours, c / ours);
 }
 
+fn compile() {
+    println!("compile, ms a job");
+    for job in [[2, 7, 4, 8, 16], [1, 13, 4, 6, 9]] {
+        let expected = reference::calls::compile_run_length(&job, 65535);
+        let mut out = vec![0; 4096];
+        let answer = library::compile_run_length(&job, &mut out);
+        assert_eq!(answer, (u64::from(expected.refusal), u64::from(expected.value)));
+        assert_eq!(out[..expected.output.len()], expected.output);
+        let t = medians(&mut [
+            &mut || assert_eq!(library::compile_run_length(&job, &mut out), answer),
+            &mut || assert_eq!(reference::calls::compile_run_length(&job, 65535).refusal, expected.refusal),
+        ]);
+        println!("  {job:?} proved {:.2}, sets as bits in Rust {:.2}, ratio {:.2}", t[0] * 1e3, t[1] * 1e3, t[1] / t[0]);
+    }
+}
+
 /// Prints every figure.
 pub fn all() {
     check();
+    compile();
     encode();
     decode("listed code", [0, 1, 2, 3, 2]);
     decode("2 7 4 8 16", [2, 7, 4, 8, 16]);
