@@ -20,12 +20,12 @@ use Rattle.answer.specs.Outcomes.{Outcome, done, unless}
 use Rattle.answer.proofs.Outcomes.{done-inj, unless-true, unless→}
 use Rattle.table.specs.Rows.{Code}
 use Rattle.table.specs.Paths.{Blocks, recording}
-use Rattle.table.specs.Window.{Window}
+use Rattle.windows.specs.Window.{Window}
 use Rattle.table.specs.Formed.{Formed}
-use Rattle.table.specs.Accepted.{Sound}
+use Rattle.obeying.specs.Accepted.{Sound}
 use Rattle.table.proofs.Paths.{length-recording, blocks→path, path-words}
 use Rattle.table.proofs.Shape.{words}
-use Rattle.table.proofs.Accepted.{sound}
+use Rattle.obeying.proofs.Accepted.{sound}
 use Rattle.reading.specs.Reading.{decode}
 use Rattle.codec.specs.Answers.{firstBad, allBelow, encoded, decoded}
 use Rattle.codec.specs.Damage.{Recording}

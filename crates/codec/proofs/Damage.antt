@@ -21,12 +21,12 @@ use Rattle.table.specs.Paths.{spells, recording, ends, Closed}
 use Rattle.stepping.specs.StateSets.{alongAll, oneState, everyState}
 use Rattle.reading.specs.Reading.{decode, block, reading}
 use Rattle.laws.specs.Sets.{member}
-use Rattle.table.proofs.Same.{AgreeSame}
+use Rattle.windows.proofs.Same.{AgreeSame}
 use Rattle.codec.proofs.Reading.{Reads, reads-take, reads-drop, reads-end, one→, →one, at-place}
 use Rattle.codec.specs.Damage.{StandsClear}
 use Rattle.laws.proofs.Lists.{below-zeros, drop-take, below-append}
-use Rattle.table.specs.Accepted.{Sound}
-use Rattle.table.proofs.Window.{window→same}
+use Rattle.obeying.specs.Accepted.{Sound}
+use Rattle.windows.proofs.Window.{window→same}
 
 run-reads : (g : Rows) (n : ℕ) → Closed g → ((s : ℕ) → s < length g → length (edges g s) ≡ n) → (xs : List ℕ) (s : ℕ)
     → s < length g → Below n xs → Reads g s xs (spells g s xs)

@@ -11,10 +11,10 @@ use Rattle.answer.specs.Outcomes.{done, onward}
 use Rattle.answer.proofs.Outcomes.{onward→}
 use Rattle.table.specs.Rows.{Code}
 use Rattle.table.specs.Paths.{Blocks, recording}
-use Rattle.table.specs.Window.{Window}
+use Rattle.windows.specs.Window.{Window}
 use Rattle.table.specs.Formed.{Formed}
 use Rattle.table.proofs.Formed.{formed→}
-use Rattle.table.proofs.Accepted.{sound}
+use Rattle.obeying.proofs.Accepted.{sound}
 use Rattle.record.specs.Parse.{parse}
 use Rattle.record.proofs.Accepted.{parse-exact}
 use Rattle.reading.specs.Reading.{mark, decode}

@@ -18,7 +18,7 @@ use Rattle.stepping.specs.StateSets.{leads, along, alongAll, oneState, able, en
 use Rattle.reading.specs.Reading.{readings, readingsOf, reading}
 use Rattle.laws.specs.Sets.{member}
 use Rattle.laws.proofs.Anys.{any-map, any-concat}
-use Rattle.table.proofs.Same.{Same, AgreeSame}
+use Rattle.windows.proofs.Same.{Same, AgreeSame}
 use Rattle.laws.proofs.Elems.{elem-filter, →elem-filter, elem-range}
 
 -- ---- a path by its data and its words

@@ -17,12 +17,12 @@ use Rattle.laws.proofs.Elems.{each-at}
 use Rattle.answer.specs.Outcomes.{done}
 use Rattle.constraint.specs.Walking.{Constraint, none, nowhere, walk, Target}
 use Rattle.table.specs.Rows.{edge, Rows, edges, at, Code}
-use Rattle.table.specs.Works.{works}
-use Rattle.table.specs.Search.{window}
-use Rattle.table.specs.Obeys.{obeys}
+use Rattle.windows.specs.Works.{works}
+use Rattle.windows.specs.Search.{window}
+use Rattle.obeying.specs.Obeys.{obeys}
 use Rattle.table.specs.Formed.{head, inRange, goodState, goodNext, goodEdge, goodRow, formed}
-use Rattle.table.proofs.WindowLeast.{window-least, Chosen}
-use Rattle.table.proofs.AnyClosure.{obeys-by}
+use Rattle.windows.proofs.WindowLeast.{window-least, Chosen}
+use Rattle.obeying.proofs.AnyClosure.{obeys-by}
 use Rattle.record.specs.Layout.{pack}
 use Rattle.record.specs.Parse.{parse}
 use Rattle.record.proofs.RecordWrite.{parse-pack-good}

@@ -19,7 +19,7 @@ use Rattle.answer.specs.declared.Refusal.the-variants.{NoCode, TooHeavy, TooMan
 use Rattle.answer.specs.Outcomes.{Outcome, done, refused, unless}
 use Rattle.answer.proofs.Outcomes.{unless-false}
 use Rattle.table.specs.Rows.{Code}
-use Rattle.table.specs.Search.{window}
+use Rattle.windows.specs.Search.{window}
 use Rattle.graph.specs.Weights.{AtMost}
 use Rattle.graph.specs.Component.{componentStates, componentGraph, weightOf}
 use Rattle.graph.proofs.Weights.{weights-length, weights-enough, weights-greatest, weights-cap}

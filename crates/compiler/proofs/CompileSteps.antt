@@ -25,7 +25,7 @@ use Rattle.constraint.proofs.Values.{length-constraintOf}
 use Rattle.constraint.proofs.PowerTable.{codes-at, length-power}
 use mathlib.Core.Logic.{inl}
 use Rattle.table.specs.Rows.{at}
-use Rattle.table.specs.Search.{window}
+use Rattle.windows.specs.Search.{window}
 use Rattle.graph.specs.declared.Graph.{Graph}
 use Rattle.graph.specs.declared.NextGraph.{NextGraph}
 use Rattle.component.specs.declared.component_graph.ComponentAnswer.{ComponentAnswer}

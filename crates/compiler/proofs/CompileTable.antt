@@ -14,7 +14,7 @@ use Rattle.answer.proofs.Outcomes.{unless-false}
 use Rattle.table.specs.declared.Table.{Table}
 use Rattle.windows.specs.declared.least.Found.{Found}
 use Rattle.table.specs.Rows.{Size, Code, edge, at}
-use Rattle.table.specs.Search.{window}
+use Rattle.windows.specs.Search.{window}
 use Rattle.table.specs.Edges.{lent}
 use Rattle.windows.specs.Steps.{foundSize}
 use Rattle.table.specs.Value.{wordAt, nextAt, rowsIn, codeIn, Ready}

@@ -14,10 +14,10 @@ use Rattle.answer.specs.Outcomes.{Outcome, done, refused}
 use Rattle.answer.proofs.Outcomes.{onward→, fitting→}
 use Rattle.table.specs.Rows.{Rows, edges, at, Size, Code}
 use Rattle.table.specs.Paths.{Closed}
-use Rattle.table.specs.Window.{Window, NoLater}
-use Rattle.table.specs.Search.{window}
-use Rattle.table.proofs.Window.{works-sound, works-complete}
-use Rattle.table.proofs.WindowLeast.{Chosen, window-least}
+use Rattle.windows.specs.Window.{Window, NoLater}
+use Rattle.windows.specs.Search.{window}
+use Rattle.windows.proofs.Window.{works-sound, works-complete}
+use Rattle.windows.proofs.WindowLeast.{Chosen, window-least}
 use Rattle.record.specs.Layout.{pack}
 use Rattle.record.specs.Parse.{parse, packInto}
 use Rattle.graph.specs.Arcs.{out}

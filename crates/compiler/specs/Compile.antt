@@ -11,7 +11,7 @@ use Rattle.laws.specs.Lists.{sum}
 use Rattle.answer.specs.declared.Refusal.the-variants.{NoCode, TooHeavy, TooManyEdges, NoWindow}
 use Rattle.answer.specs.Outcomes.{Outcome, done, unless, onward}
 use Rattle.table.specs.Rows.{Rows, Code}
-use Rattle.table.specs.Search.{window}
+use Rattle.windows.specs.Search.{window}
 use Rattle.record.specs.Parse.{packInto}
 use Rattle.graph.specs.Arcs.{Arc, Work, power}
 use Rattle.graph.specs.Weights.{Enough, weights}

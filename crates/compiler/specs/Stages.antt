@@ -11,7 +11,7 @@ use Rattle.answer.specs.declared.Refusal.the-variants.{NoWindow}
 use Rattle.answer.specs.Outcomes.{Outcome, done, unless, onward, fitting}
 use Rattle.table.specs.declared.Table.{Table}
 use Rattle.table.specs.Rows.{Code}
-use Rattle.table.specs.Search.{window}
+use Rattle.windows.specs.Search.{window}
 use Rattle.graph.specs.declared.Graph.{Graph}
 use Rattle.graph.specs.Value.{workIn, Fits}
 use Rattle.compiler.specs.Jobs.{Job}

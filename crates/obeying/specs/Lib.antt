@@ -1,1 +1,3 @@
+pub mod Obeys
+pub mod Accepted
 pub mod Obeying

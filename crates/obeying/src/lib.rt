@@ -4,7 +4,7 @@ ghost use mathlib.Core.Path.{_≡_};
 ghost use Prim.Native.Nat.{_≤_, _<_};
 ghost use Rattle.laws.specs.Lists.{range, all};
 ghost use Rattle.table.specs.Value.{codeIn};
-ghost use Rattle.table.specs.Obeys.{obeys};
+ghost use Rattle.obeying.specs.Obeys.{obeys};
 ghost use Rattle.obeying.specs.Obeying.{stateAfter, pairAfter, Queue, Grown};
 ghost use Rattle.obeying.specs.Obeying.{findsAt, Followed, Followable};
 use constraint::power;

@@ -11,8 +11,8 @@ use borrow.Author.Tests.{leb-true, leb-false, eqb-true, eqb-false}
 use Rattle.answer.specs.declared.Refusal.the-variants.{Field, Length, Disobeys, WindowFails}
 use Rattle.answer.specs.Outcomes.{Outcome, done, unless}
 use Rattle.bits.specs.Fields.{bitsOf}
-use Rattle.table.specs.Works.{works}
-use Rattle.table.specs.Obeys.{obeys}
+use Rattle.windows.specs.Works.{works}
+use Rattle.obeying.specs.Obeys.{obeys}
 use Rattle.record.specs.Layout.{size}
 use Rattle.record.specs.Parse.{goodHead, parse}
 use Rattle.record.specs.Checks.{restGood}

@@ -25,8 +25,8 @@ use Rattle.record.specs.Parse.{goodHead, goodFields, goodTarget, filler,
 use Rattle.record.specs.Checks.{codeAt, restGood, fieldsChecked, Judgeable, outcomeIn, verdictOf, checkedOnly}
 use Rattle.record.proofs.RecordAgain.{nexts-good, length-nextsOf}
 use Rattle.record.proofs.RecordReading.{below-bytes, ranges-of, parse-fields}
-use Rattle.table.specs.Works.{works}
-use Rattle.table.specs.Obeys.{obeys}
+use Rattle.windows.specs.Works.{works}
+use Rattle.obeying.specs.Obeys.{obeys}
 use Rattle.answer.specs.declared.Refusal.{Refusal}
 use Rattle.answer.specs.declared.Answer.the-variants.{Done, Refused}
 use Rattle.record.specs.declared.Reading.{Reading}

@@ -14,8 +14,8 @@ use Rattle.answer.specs.Outcomes.{done, unless}
 use Rattle.laws.specs.Lists.{all, sum}
 use Rattle.laws.proofs.Tests.{and→, →and}
 use Rattle.table.specs.Rows.{Rows, Code}
-use Rattle.table.specs.Works.{works}
-use Rattle.table.specs.Obeys.{obeys}
+use Rattle.windows.specs.Works.{works}
+use Rattle.obeying.specs.Obeys.{obeys}
 use Rattle.bits.specs.Fields.{read, write, Fits, bitsOf}
 use Rattle.laws.specs.Sums.{Below}
 use Rattle.bits.proofs.Fields.{below-write, length-write, fits-read, write-read, read-back, fits-bytes}

@@ -16,7 +16,7 @@ use Rattle.laws.specs.Lists.{if_then_else_, all}
 use Rattle.laws.proofs.Tests.{and→, →and}
 use Rattle.constraint.specs.Walking.{Constraint, none}
 use Rattle.table.specs.Rows.{Edge, Rows, Code}
-use Rattle.table.specs.Works.{works}
+use Rattle.windows.specs.Works.{works}
 use Rattle.bits.specs.Fields.{read, write, bitsOf}
 use Rattle.bits.proofs.Fields.{regroup, read-back, length-read}
 use Rattle.table.specs.Formed.{Head, head, goodState, goodNext, goodEdge, goodRow, formed, Formed, Ranges}
@@ -24,7 +24,7 @@ use Rattle.record.specs.Layout.{header, headOf, size, widths, present, s
 use Rattle.record.specs.Layout.{pack, opened, nextsOf, edgesOf, rowsOf, codeOf}
 use Rattle.record.specs.Parse.{goodHead, goodField, goodFields, goodTarget, filler, goodRest, judged, checked}
 use Rattle.record.specs.Parse.{parsed, parse}
-use Rattle.table.specs.Obeys.{obeys}
+use Rattle.obeying.specs.Obeys.{obeys}
 use Rattle.table.proofs.Formed.{formed→}
 use Rattle.record.proofs.RecordFits.{sum-widths, fits-values}
 use Rattle.answer.proofs.Outcomes.{unless-true}

@@ -12,8 +12,8 @@ use Rattle.answer.specs.declared.Refusal.the-variants.{Field, Length, Disobeys,
 use Rattle.answer.specs.Outcomes.{Outcome, done, refused}
 use Rattle.bits.specs.Fields.{read, bitsOf}
 use Rattle.table.specs.Rows.{Code}
-use Rattle.table.specs.Works.{works}
-use Rattle.table.specs.Obeys.{obeys}
+use Rattle.windows.specs.Works.{works}
+use Rattle.obeying.specs.Obeys.{obeys}
 use Rattle.table.specs.Formed.{Head}
 use Rattle.record.specs.Layout.{header, headOf, size}
 use Rattle.record.specs.Parse.{goodHead}

@@ -10,10 +10,10 @@ use Rattle.answer.specs.declared.Refusal.the-variants.{NoCode}
 use Rattle.answer.specs.Outcomes.{Outcome, done, refused, onward}
 use Rattle.constraint.specs.Walking.{Constraint, runLength}
 use Rattle.table.specs.Rows.{edge, Rows, Code}
-use Rattle.table.specs.Works.{works}
-use Rattle.table.specs.Search.{sizes, window}
-use Rattle.table.specs.Obeys.{obeys}
-use Rattle.table.specs.Accepted.{accepted}
+use Rattle.windows.specs.Works.{works}
+use Rattle.windows.specs.Search.{sizes, window}
+use Rattle.obeying.specs.Obeys.{obeys}
+use Rattle.obeying.specs.Accepted.{accepted}
 use Rattle.record.specs.Layout.{pack}
 use Rattle.record.specs.Parse.{parse, packInto}
 use Rattle.codec.specs.Answers.{encoded, decoded, encodeUnder, decodeUnder}

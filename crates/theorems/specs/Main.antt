@@ -14,9 +14,9 @@ use Rattle.answer.specs.declared.Refusal.the-variants.{NoCode, NoWindow}
 use Rattle.answer.specs.Outcomes.{done, refused}
 use Rattle.table.specs.Rows.{Size, Code}
 use Rattle.table.specs.Paths.{Blocks, recording}
-use Rattle.table.specs.Window.{Window, NoLater}
+use Rattle.windows.specs.Window.{Window, NoLater}
 use Rattle.table.specs.Formed.{formed}
-use Rattle.table.specs.Accepted.{Accepted}
+use Rattle.obeying.specs.Accepted.{Accepted}
 use Rattle.record.specs.Layout.{pack}
 use Rattle.record.specs.Parse.{parse, judged}
 use Rattle.record.proofs.RecordWrite.{parse-pack}

@@ -9,13 +9,13 @@ use native.Mathlib.Decide.{decLt}
 use lib.Dec.{T}
 use Rattle.laws.specs.Lists.{iterate}
 use Rattle.table.specs.Rows.{Rows, Size}
-use Rattle.table.specs.Works.{into, reversed, works}
+use Rattle.windows.specs.Works.{into, reversed, works}
 use Rattle.table.specs.Paths.{Closed}
-use Rattle.table.specs.Window.{NoLater}
-use Rattle.table.specs.Search.{noSize, window, hits, pasts, empty}
-use Rattle.table.proofs.Search.{works-by-hits}
-use Rattle.table.proofs.WindowLeast.{window-least}
-use Rattle.table.proofs.WindowOnly.{window-only, window-none}
+use Rattle.windows.specs.Window.{NoLater}
+use Rattle.windows.specs.Search.{noSize, window, hits, pasts, empty}
+use Rattle.windows.proofs.Search.{works-by-hits}
+use Rattle.windows.proofs.WindowLeast.{window-least}
+use Rattle.windows.proofs.WindowOnly.{window-only, window-none}
 use Rattle.windows.specs.Steps.{size, Leading, Room}
 use Rattle.windows.proofs.PastSets.{pasts-rest}
 

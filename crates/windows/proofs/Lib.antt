@@ -1,3 +1,11 @@
+pub mod Same
+pub mod Complete
+pub mod Window
+pub mod WindowGrows
+pub mod WindowLeast
+pub mod WindowOnly
+pub mod Clashes
+pub mod Search
 pub mod Joins
 pub mod PairSets
 pub mod TwoEdges

@@ -13,10 +13,10 @@ use lib.ListN.{length}
 use Rattle.laws.proofs.Tests.{T→true}
 use Rattle.table.specs.Rows.{Rows}
 use Rattle.table.specs.Paths.{Closed}
-use Rattle.table.specs.Works.{works}
-use Rattle.table.specs.Search.{hits, pasts}
-use Rattle.table.proofs.Search.{works-by-hits}
-use Rattle.table.proofs.WindowGrows.{works-grows}
+use Rattle.windows.specs.Works.{works}
+use Rattle.windows.specs.Search.{hits, pasts}
+use Rattle.windows.proofs.Search.{works-by-hits}
+use Rattle.windows.proofs.WindowGrows.{works-grows}
 use Rattle.windows.specs.Steps.{size, Emptied}
 
 module _ (t : Rows) (c : Closed t) (p : 0 < length t) (m : ℕ) where

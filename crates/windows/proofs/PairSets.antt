@@ -10,8 +10,8 @@ use Rattle.laws.specs.Lists.{range}
 use Rattle.laws.specs.Sets.{member, Pairs, has, grid}
 use Rattle.laws.proofs.Tests.{map-range-at}
 use Rattle.table.specs.Rows.{Rows}
-use Rattle.table.specs.Works.{meet, into, entering, reversed}
-use Rattle.table.proofs.Same.{has-into}
+use Rattle.windows.specs.Works.{meet, into, entering, reversed}
+use Rattle.windows.proofs.Same.{has-into}
 use Rattle.table.proofs.EqualGrids.{map-same, grid-same, has-grid}
 use Rattle.windows.specs.PairSets.{pairsIn}
 

@@ -16,10 +16,10 @@ use Rattle.laws.proofs.Grids.{grid→, →grid}
 use Rattle.laws.proofs.Settle.{iterate-suc}
 use Rattle.table.specs.Rows.{Rows, edges, at}
 use Rattle.table.specs.Paths.{Closed}
-use Rattle.table.specs.Works.{into, reversed, allPairs, startPair, past, started}
-use Rattle.table.specs.Search.{union, starts, pasts}
-use Rattle.table.proofs.Same.{has-all, onward}
-use Rattle.table.proofs.Works.{back-one}
+use Rattle.windows.specs.Works.{into, reversed, allPairs, startPair, past, started}
+use Rattle.windows.specs.Search.{union, starts, pasts}
+use Rattle.windows.proofs.Same.{has-all, onward}
+use Rattle.windows.proofs.Complete.{back-one}
 use Rattle.table.proofs.EqualGrids.{grid-same, has-grid}
 use Rattle.windows.specs.Steps.{withWord}
 use Rattle.windows.proofs.SetLaws.{all-grid}

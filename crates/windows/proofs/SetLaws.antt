@@ -15,8 +15,8 @@ use Rattle.laws.specs.Lists.{if_then_else_, from, range}
 use Rattle.laws.specs.Sets.{member, has, grid}
 use Rattle.laws.proofs.Tests.{and→, →and, bool-eq, all-below→, →all-below}
 use Rattle.table.specs.Rows.{Rows}
-use Rattle.table.specs.Works.{into, reversed, allPairs, startPair}
-use Rattle.table.specs.Search.{empty}
+use Rattle.windows.specs.Works.{into, reversed, allPairs, startPair}
+use Rattle.windows.specs.Search.{empty}
 use Rattle.table.specs.Marks.{some}
 use Rattle.table.proofs.Marks.{found, some-at, none-at, put-member}
 use Rattle.table.proofs.EqualGrids.{has-grid}

@@ -14,8 +14,8 @@ use Rattle.laws.specs.Lists.{iterate}
 use Rattle.laws.specs.Sets.{Pairs}
 use Rattle.laws.proofs.Settle.{iterate-suc, iterate-fixed}
 use Rattle.table.specs.Rows.{Rows}
-use Rattle.table.specs.Works.{into, reversed}
-use Rattle.table.specs.Search.{empty}
+use Rattle.windows.specs.Works.{into, reversed}
+use Rattle.windows.specs.Search.{empty}
 use Rattle.windows.specs.PairSets.{pairsIn}
 use Rattle.windows.specs.Steps.{Emptied}
 

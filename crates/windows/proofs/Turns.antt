@@ -8,7 +8,7 @@ use native.Mathlib.Omega.{arith}
 use Rattle.laws.specs.Sets.{Pairs}
 use Rattle.table.specs.Rows.{Rows, Size}
 use Rattle.table.specs.Paths.{Closed}
-use Rattle.table.specs.Search.{window, pasts}
+use Rattle.windows.specs.Search.{window, pasts}
 use Rattle.windows.specs.Steps.{withWord, Leading}
 use Rattle.windows.proofs.PastSets.{pasts-more}
 use Rattle.windows.proofs.Leading.{lead-done, lead-rest}

@@ -11,13 +11,13 @@ use lib.ListN.{length}
 use Rattle.laws.specs.Sets.{member, Pairs, has, grid}
 use Rattle.laws.proofs.Tests.{and→, →and, bool-eq, T→true}
 use Rattle.table.specs.Rows.{edges, at}
-use Rattle.table.specs.Works.{into, reversed}
-use Rattle.table.specs.Search.{hits}
+use Rattle.windows.specs.Works.{into, reversed}
+use Rattle.windows.specs.Search.{hits}
 use Rattle.table.specs.Marks.{some}
 use Rattle.table.specs.Edges.{Arrays, Fits, rowsOf, places, isEdge, wordOf, nextOf, bears}
-use Rattle.table.proofs.Same.{onward}
-use Rattle.table.proofs.Works.{back-one}
-use Rattle.table.proofs.Clashes.{Hit, hits→, →hits}
+use Rattle.windows.proofs.Same.{onward}
+use Rattle.windows.proofs.Complete.{back-one}
+use Rattle.windows.proofs.Clashes.{Hit, hits→, →hits}
 use Rattle.table.proofs.Marks.{found, some-at}
 use Rattle.table.proofs.RowsOf.{
   length-rows,

@@ -1,2 +1,5 @@
+pub mod Window
+pub mod Works
+pub mod Search
 pub mod PairSets
 pub mod Steps

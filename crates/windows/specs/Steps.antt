@@ -10,9 +10,9 @@ use lib.Dec.{T}
 use Rattle.laws.specs.Lists.{iterate}
 use Rattle.laws.specs.Sets.{Pairs}
 use Rattle.table.specs.Rows.{Rows, Size}
-use Rattle.table.specs.Works.{into, reversed, startPair, works}
-use Rattle.table.specs.Window.{NoLater}
-use Rattle.table.specs.Search.{noSize, union, empty}
+use Rattle.windows.specs.Works.{into, reversed, startPair, works}
+use Rattle.windows.specs.Window.{NoLater}
+use Rattle.windows.specs.Search.{noSize, union, empty}
 use Rattle.windows.specs.declared.least.Found.{Found}
 use Rattle.windows.specs.declared.least.Found.the-variants.{None, Window}
 

@@ -3,7 +3,7 @@ ghost use mathlib.Core.Path.{_≡_};
 ghost use mathlib.Core.Logic.{_⊎_};
 ghost use Prim.Native.Nat.{_+_, _≤_, _<_};
 ghost use Rattle.table.specs.Value.{Ready, rowsIn};
-ghost use Rattle.table.specs.Search.{noSize, window, pasts};
+ghost use Rattle.windows.specs.Search.{noSize, window, pasts};
 ghost use Rattle.table.specs.Edges.{arrays, rowsOf, Linked};
 ghost use Rattle.windows.specs.PairSets.{pairsIn, Long};
 ghost use Rattle.windows.specs.Steps.{size, withWord, Leading, Room, foundSize};

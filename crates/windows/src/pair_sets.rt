@@ -8,7 +8,7 @@ ghost use Rattle.laws.specs.Lists.{if_then_else_};
 ghost use Rattle.laws.specs.Sets.{member};
 ghost use Rattle.table.specs.Marks.{some};
 ghost use Rattle.table.specs.Rows.{Rows};
-ghost use Rattle.table.specs.Search.{empty};
+ghost use Rattle.windows.specs.Search.{empty};
 ghost use Rattle.windows.specs.PairSets.{pairsIn, Long, holdsAt, differsAt};
 
 // Takes every pair out of the set.

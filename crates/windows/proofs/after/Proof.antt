@@ -4,7 +4,7 @@ use mathlib.Core.Path.{_≡_, sym, ap, _∙_}
 use native.Mathlib.Omega.{arith}
 use denote.Ref.{now}
 use Rattle.table.specs.Paths.{Closed}
-use Rattle.table.specs.Search.{pasts}
+use Rattle.windows.specs.Search.{pasts}
 use Rattle.table.specs.Edges.{Arrays, arrays, rowsOf}
 use Rattle.table.proofs.RowsOf.{closed-rows}
 use Rattle.windows.specs.PairSets.{pairsIn, Long}

@@ -1,6 +1,6 @@
 -- The chains of the table's edges serve the test.
 use mathlib.Core.Path.{ap, _∙_}
-use Rattle.table.specs.Works.{works}
+use Rattle.windows.specs.Works.{works}
 use Rattle.table.specs.Edges.{arrays, rowsOf}
 use Rattle.table.proofs.RowsOf.{fits-lent}
 use Rattle.windows.specs.Steps.{size}

@@ -6,7 +6,7 @@ use denote.Ref.{now}
 use lib.ListN.{length}
 use Rattle.table.specs.Rows.{Size}
 use Rattle.table.specs.Paths.{Closed}
-use Rattle.table.specs.Search.{hits, pasts}
+use Rattle.windows.specs.Search.{hits, pasts}
 use Rattle.table.specs.Edges.{Arrays, arrays, rowsOf}
 use Rattle.table.proofs.RowsOf.{length-rows, closed-rows}
 use Rattle.windows.specs.Steps.{size, Emptied}

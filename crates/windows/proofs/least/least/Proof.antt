@@ -6,7 +6,7 @@ use Prim.Native.Nat.{_+_, _-_, _≤_, _<_}
 use native.Mathlib.Omega.{arith}
 use denote.Ref.{now}
 use lib.ListN.{length-replicate}
-use Rattle.table.specs.Search.{window, pasts}
+use Rattle.windows.specs.Search.{window, pasts}
 use Rattle.table.specs.Edges.{Arrays, arrays, rowsOf}
 use Rattle.table.proofs.RowsOf.{length-rows, closed-rows}
 use Rattle.windows.specs.PairSets.{pairsIn, Long}

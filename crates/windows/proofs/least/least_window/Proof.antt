@@ -1,6 +1,6 @@
 -- The chains of the table's edges serve the search; memory 16 is its mark for none.
 use mathlib.Core.Path.{_≡_, sym, ap, _∙_}
-use Rattle.table.specs.Search.{window}
+use Rattle.windows.specs.Search.{window}
 use Rattle.table.specs.Value.{rowsIn}
 use Rattle.table.specs.Edges.{arrays, rowsOf}
 use Rattle.table.proofs.RowsOf.{fits-lent}
