@@ -27,7 +27,7 @@ use Rattle.record.specs.Layout.{pack}
 use Rattle.record.specs.Parse.{parse}
 use Rattle.record.proofs.RecordWrite.{parse-pack-good}
 use Rattle.graph.specs.Arcs.{Reads}
-use Rattle.graph.proofs.TableOf.{Tabled}
+use Rattle.finish.proofs.TableOf.{Tabled}
 use Rattle.compiler.specs.Jobs.{Job, Allowed}
 use Rattle.compiler.specs.Compile.{ways, componentOf, startOf, finishedOf, tableFor, code, compile}
 use Rattle.compiler.proofs.Compiled.{live-some, states-few, table-coded}

@@ -23,7 +23,7 @@ use Rattle.graph.specs.declared.Graph.{Graph}
 use Rattle.graph.specs.declared.NextGraph.{NextGraph}
 use Rattle.finish.specs.declared.finish_table.TableRows.{TableRows}
 use Rattle.graph.specs.Splitting.{crowded}
-use Rattle.graph.specs.TableOf.{tableOf}
+use Rattle.finish.specs.TableOf.{tableOf}
 use Rattle.splitting.specs.SplitParts.{SplitAllInto}
 use Rattle.finish.specs.TableParts.{TableIn, rowsOfTable}
 use Rattle.compiler.specs.declared.JobValue.{JobValue}

@@ -20,14 +20,14 @@ use Rattle.graph.specs.Splitting.{splitAll}
 use Rattle.constraint.specs.Walking.{Constraint, Well}
 use Rattle.table.specs.Rows.{Code}
 use Rattle.graph.specs.Component.{both, within, renamed, weighs, live, componentStates, componentGraph}
-use Rattle.graph.specs.TableOf.{tableStates, tableOf}
+use Rattle.finish.specs.TableOf.{tableStates, tableOf}
 use Rattle.graph.proofs.Weights.{weights-length, weights-enough, enough-total}
 use Rattle.laws.proofs.Elems.{each-elem, →elem-filter, elem-range, at-index, tot-filter-le}
 use Rattle.graph.proofs.Found.{started-inv, start-C, in-both, v′-length}
 use Rattle.graph.proofs.Power.{power-distinct, power-reads, power-inside}
 use Rattle.graph.proofs.Roots.{Rooted, splits-rooted}
 use Rattle.graph.proofs.Loop.{states-le, splitted-end, splitted-full}
-use Rattle.graph.proofs.TableOf.{Tabled, tabled, reached-first}
+use Rattle.finish.proofs.TableOf.{Tabled, tabled, reached-first}
 
 module _ (c : Constraint) (well : Well c) (n q cap : ℕ) (hn : 0 < n) where
   abbrev g : List Arc

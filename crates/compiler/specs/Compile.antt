@@ -17,7 +17,7 @@ use Rattle.graph.specs.Arcs.{Arc, Work, power}
 use Rattle.graph.specs.Weights.{Enough, weights}
 use Rattle.graph.specs.Component.{componentStates, componentGraph}
 use Rattle.graph.specs.Splitting.{crowded, splitAll}
-use Rattle.graph.specs.TableOf.{tableOf}
+use Rattle.finish.specs.TableOf.{tableOf}
 use Rattle.compiler.specs.Jobs.{Job, readJob, readRunLength}
 
 -- "Let n = 2^p."

@@ -24,14 +24,14 @@ use Rattle.graph.specs.declared.Graph.{Graph}
 use Rattle.graph.specs.Arcs.{Arc, leaves, enters, out}
 use Rattle.graph.specs.Splitting.{sort}
 use Rattle.graph.specs.Component.{reachings, reaches}
-use Rattle.graph.specs.TableOf.{row, firstEdges}
+use Rattle.finish.specs.TableOf.{row, firstEdges}
 use Rattle.graph.specs.Invariant.{Inside, Stays}
 use Rattle.graph.specs.Value.{arcsIn, weightAt, weightsIn, workIn}
 use Rattle.order.specs.EdgeKeys.{arcOf, keysFrom, admitted, firstKeys}
 use Rattle.finish.specs.TableParts.{Finished, enteredBy}
 use Rattle.graph.proofs.Reach.{Reaching, reaches-is, reach-trans, reach-edge}
 use Rattle.graph.proofs.Candidates.{each-sort}
-use Rattle.graph.proofs.TableOf.{union-each}
+use Rattle.finish.proofs.TableOf.{union-each}
 use Rattle.graph.proofs.CodeLists.{length-map-range}
 use Rattle.graph.proofs.CodeMaps.{filter-same, map-take}
 use Rattle.order.proofs.CodeOrder.{sort-keys, keys-small, weights-small}

@@ -26,7 +26,7 @@ use Rattle.finish.specs.declared.finish_table.TableRows.{TableRows}
 use Rattle.graph.specs.Arcs.{out}
 use Rattle.graph.specs.Splitting.{sort}
 use Rattle.graph.specs.Component.{reachings, reaches}
-use Rattle.graph.specs.TableOf.{row, firstEdges, tableStates, named, tableRow, tableOf}
+use Rattle.finish.specs.TableOf.{row, firstEdges, tableStates, named, tableRow, tableOf}
 use Rattle.graph.specs.Value.{arcsIn, weightAt, weightsIn, workIn}
 use Rattle.order.specs.EdgeKeys.{arcOf, keysFrom, admitted, firstKeys, keysIn}
 use Rattle.finish.specs.TableParts.{Finished, rank, rowEdge, TableIn, RowPut}

@@ -1,3 +1,4 @@
+pub mod TableOf
 pub mod CodeMarks
 pub mod CodeClosure
 pub mod CodeRank

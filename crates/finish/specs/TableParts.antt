@@ -15,7 +15,7 @@ use Rattle.graph.specs.declared.Graph.{Graph}
 use Rattle.finish.specs.declared.finish_table.TableRows.{TableRows}
 use Rattle.graph.specs.Arcs.{out}
 use Rattle.graph.specs.Value.{arcsIn, workIn, Fits}
-use Rattle.graph.specs.TableOf.{tableOf}
+use Rattle.finish.specs.TableOf.{tableOf}
 
 -- a graph of which every state has n edges, as splitting leaves it
 pub record Finished (n : ℕ) (g : Graph) : Type 0 where

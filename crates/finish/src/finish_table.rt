@@ -10,7 +10,7 @@ ghost use lib.ListN.{length, getD, take};
 ghost use Rattle.laws.specs.Lists.{any};
 ghost use Rattle.laws.specs.Sets.{member};
 ghost use Rattle.graph.specs.Component.{reachings, reaches};
-ghost use Rattle.graph.specs.TableOf.{firstEdges};
+ghost use Rattle.finish.specs.TableOf.{firstEdges};
 ghost use Rattle.graph.specs.Value.{workIn};
 ghost use Rattle.order.specs.EdgeKeys.{keysIn, firstKeys};
 ghost use Rattle.finish.specs.TableParts.{Finished, Open, enteredBy, rank, TableIn, RowPut};

@@ -21,7 +21,6 @@ pub mod PartedBack
 pub mod Split
 pub mod Loop
 pub mod Roots
-pub mod TableOf
 pub mod CodeLists
 pub mod CodeFind
 pub mod CodeMaps

@@ -2,6 +2,5 @@ pub mod Arcs
 pub mod Weights
 pub mod Component
 pub mod Splitting
-pub mod TableOf
 pub mod Invariant
 pub mod Value

@@ -17,7 +17,7 @@ use Rattle.graph.specs.declared.Graph.{Graph}
 use Rattle.graph.specs.declared.NextGraph.{NextGraph}
 use Rattle.graph.specs.Arcs.{Work}
 use Rattle.graph.specs.Splitting.{unfinished, crowded, goesOn, split}
-use Rattle.graph.specs.TableOf.{tableOf}
+use Rattle.finish.specs.TableOf.{tableOf}
 use Rattle.graph.specs.Value.{arcAt, arcsIn, weightAt, weightsIn, workIn}
 use Rattle.graph.proofs.CodeLists.{length-map-range}
 use Rattle.graph.proofs.Split.{split-inv, split-length}

@@ -12,7 +12,7 @@ use Rattle.answer.specs.Outcomes.{Outcome, done, refused}
 use Rattle.graph.specs.Arcs.{Work}
 use Rattle.graph.specs.Component.{componentStates}
 use Rattle.graph.specs.Splitting.{crowded, splitAll}
-use Rattle.graph.specs.TableOf.{tableOf}
+use Rattle.finish.specs.TableOf.{tableOf}
 use Rattle.compiler.specs.Jobs.{Job, readJob, readRunLength}
 use Rattle.compiler.specs.Compile.{ways, graphOf, weightsOf, componentOf, compile}
 use Rattle.views.specs.Reasons.{refusalLine}

@@ -6,7 +6,7 @@ use native.Mathlib.Omega.{arith}
 use lib.ListN.{getD, length-replicate}
 use Rattle.laws.specs.Sets.{member}
 use Rattle.graph.specs.Component.{reachings, reaches}
-use Rattle.graph.specs.TableOf.{firstEdges}
+use Rattle.finish.specs.TableOf.{firstEdges}
 use Rattle.graph.specs.Value.{workIn}
 use Rattle.finish.specs.TableParts.{Finished, rank}
 use Rattle.finish.proofs.CodeRank.{rank-small}

@@ -12,16 +12,16 @@ use Rattle.laws.specs.Lists.{if_then_else_, from, range, filter, concat, elem, 
 use Rattle.laws.proofs.Tests.{getD-map-lt}
 use Rattle.laws.specs.Sums.{Each}
 use Rattle.laws.proofs.Sums.{each-map, each-always, each-both, each-front, each-back, each-filter, each-take}
 use Rattle.graph.proofs.Arcs.{length-sort}
 use Rattle.graph.specs.Invariant.{Inside}
 use Rattle.graph.specs.Arcs.{Arc, arc, Work, leaves, out}
 use Rattle.graph.specs.Splitting.{sort}
 use Rattle.graph.specs.Component.{reachings, reaches}
 use Rattle.table.specs.Rows.{Edge, edge, Rows, edges, at}
-use Rattle.graph.specs.TableOf.{row, tableStates, named, tableOf}
+use Rattle.finish.specs.TableOf.{row, tableStates, named, tableOf}
 use Rattle.laws.proofs.Anys.{each-union, each-range}
 use Rattle.graph.proofs.Candidates.{each-sort, length-take-le}
 use Rattle.graph.proofs.Reach.{reaches-is, reach-trans, reach-edge}
 use Rattle.laws.proofs.Elems.{each-elem, elem-each, elem-filter, →elem-filter, each-at, elem-range, index-lt}
 use Rattle.laws.proofs.Elems.{at-index}
 
