@@ -76,7 +76,7 @@ module _ (i start len : ℕ) (v : Verdict) (t : Table) (o : Outcome Code) where
 -- ---- the lines of all records
 pub no-lines : (s B : List ℕ) → Added (linesTo s 0) 0 B B 0
 unfolding linesTo
-no-lines s B = record { written = sym (take-nil (length B)); counts = (omega arith, refl); kept = refl }
+no-lines s B = record { written = sym (take-nil (length B)); counts = (omega arith, refl); kept = refl; behind = refl }
 
 module _ (s B C D : List ℕ) (i at r : ℕ) where
   pub lines-more : Added (linesTo s i) 0 B C at → Added (recordText s i) at C D r → Added (linesTo s (i + 1)) 0 B D r

@@ -8,7 +8,7 @@ use Prim.Native.Char.{code}
 use Prim.Native.String.{String, [] as []ˢ, _∷_ as _∷ˢ_}
 use Prim.Native.Nat.{ℕ, zero, suc, _/_, min, max}
 use lib.Dec.{ltb}
-use lib.ListN.{length, take}
+use lib.ListN.{length, take, drop}
 use Rattle.laws.specs.Lists.{if_then_else_}
 use Rattle.io.specs.Counts.{Counts}
 use Rattle.io.specs.Digits.{digits}
@@ -32,8 +32,9 @@ unfoldable pub hex : ℕ → ℕ → List ℕ
 hex w n = digits 16 (max (min (max w 1) 16) (size 16 16 n)) n
 
 -- the bytes B became C, as many: the first r of them are the first `at` of B and behind these the text, as far as
--- there is room
+-- there is room, and the bytes from r on stay
 pub record Added (text : List ℕ) (at : ℕ) (B C : List ℕ) (r : ℕ) : Type 0 where
   pub written : take r C ≡ take (length B) (take at B ++ text)
   pub counts : Counts r C
   pub kept : length C ≡ length B
+  pub behind : drop r C ≡ drop r B

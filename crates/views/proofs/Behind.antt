@@ -26,6 +26,7 @@ begun {C = C} {r = r} p = record {
       ∙ take-all (length C) (take r C) (omega (arith, p .counts .0, p .counts .1)));
   counts = p .counts;
   kept = refl;
+  behind = refl;
 }
 
 -- ---- plurals
