@@ -1,6 +1,6 @@
 -- Reading a stretch of a recording: the block that the reading rule gives is the block that was recorded.
 -- In order: Reads, reads-length, reads-same, reads-append, reads-take, reads-drop, alongAll→, →alongAll, reads-end,
--- able→, →able, one→, →one, stretch, at-place.
+-- able→, →able, one→, →one, stretch, at-place, one-reading.
 -- Assumes nothing.
 use mathlib.Core.Path.{_≡_, refl, sym, ap, subst, subst₂, _∙_}
 use mathlib.Core.Bool.{Bool, true, _&&_}
@@ -215,3 +215,19 @@ at-place g c S ds W k s n i r l agree =
     (subst₂ (λ a b. Reads g (ends g s (take k ds)) a b) (drop-cons ds k 0 (rw (reads-length g s ds W r) l))
     (drop-cons W k 0 l) (reads-drop g k s ds W r))
     (rw (length-take-le k W (omega arith), length-drop) agree) n i
+
+-- two data that the rule can read behind the same words are one, if all paths from S agree there
+pub one-reading : (g : Rows) → Closed g → (S : List Bool) (pre ws : List ℕ) (w : ℕ)
+    → ((t u : ℕ) → T (member S t) → T (member S u) → AgreeSame g (length pre) (length ws) t u)
+    → (d e : ℕ) → T (elem d (readings g (alongAll g S pre) w (able g ws)))
+    → T (elem e (readings g (alongAll g S pre) w (able g ws))) → d ≡ e
+unfolding Reading
+one-reading g c S pre ws w agree d e h k = go (readings→ g (alongAll g S pre) w ws e k)
+  where
+    go : Reading g (alongAll g S pre) w ws e → d ≡ e
+    go (t, vs, n, m, a, b, r) = behind (alongAll→ g pre S t m)
+      where
+        behind : (s : ℕ) × (us : List ℕ) × T (member S s) × Reads g s us pre × (ends g s us ≡ t) → d ≡ e
+        behind (s, us, i, q, p) =
+            other g c S us vs e pre ws w s q (subst (λ u. Reads g u (e ∷ vs) (w ∷ ws)) (sym p) (a, b, r))
+            (λ u l. agree u s l i) d (readings→ g (alongAll g S pre) w ws d h)
