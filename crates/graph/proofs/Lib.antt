@@ -26,3 +26,6 @@ pub mod CodeFind
 pub mod CodeMaps
 pub mod CodeUpTo
 pub mod CodeValue
+pub mod Firsts
+pub mod Passed
+pub mod Reachable

@@ -1,5 +1,5 @@
 -- The first state of the component is the lowest state that all reachable states reach back.
--- In order: start-first.
+-- In order: all-of; start-first.
 -- Assumes nothing.
 use mathlib.Core.Path.{_≡_, refl}
 use mathlib.Core.Bool.{Bool, true, false, _||_}
@@ -32,7 +32,7 @@ first-head p q d (x ∷ l) t h u = go (p x) (q x) t (h .0) u refl (λ t u. first
     go false true t k u e f = absurd (k tt)
     go false false t k u e f = f t u
 
-all-of : (p : ℕ → Bool) (l : List ℕ) → Each (λ x. T (p x)) l → T (all p l)
+pub all-of : (p : ℕ → Bool) (l : List ℕ) → Each (λ x. T (p x)) l → T (all p l)
 all-of p [] h = tt
 all-of p (x ∷ l) h = →and (p x) (all p l) (h .0) (all-of p l (h .1))
 

@@ -4,3 +4,5 @@ pub mod Component
 pub mod Splitting
 pub mod Invariant
 pub mod Value
+pub mod Rule
+pub mod Reachable

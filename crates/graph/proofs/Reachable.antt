@@ -1,0 +1,123 @@
+-- The component by its meaning: the lowest state that all states reachable from it reach back, and what it reaches.
+-- In order: first-filter; reach→, →reach, live-reach; good→, →good; weight→, →weight, lowest; component-is.
+-- Assumes nothing.
+use mathlib.Core.Path.{_≡_, refl, sym, subst}
+use mathlib.Core.Bool.{Bool, true, false, _&&_}
+use mathlib.Core.List.{List, [], _∷_}
+use Prim.Native.Nat.{ℕ, _<_, zero-le}
+use native.Mathlib.Omega.{arith}
+use lib.Dec.{T, lt→ltb, ltb→lt}
+use lib.ListN.{length, getD}
+use Rattle.laws.specs.Lists.{if_then_else_, range, filter, any, first, elem}
+use Rattle.laws.specs.Sums.{Each}
+use Rattle.laws.proofs.Tests.{and→, →and, imp→, →imp}
+use Rattle.laws.proofs.Sums.{each-map, each-always, each-both, each-filter}
+use Rattle.laws.proofs.Anys.{any-filter}
+use Rattle.laws.proofs.Elems.{each-elem, elem-each, elem-filter, →elem-filter, elem-range, all-each}
+use Rattle.graph.specs.Arcs.{Arc}
+use Rattle.graph.specs.Component.{reachings, reaches, returns, returning, both, within, weighs, live}
+use Rattle.graph.specs.Component.{componentStates}
+use Rattle.graph.specs.Invariant.{Inside, Stays}
+use Rattle.graph.specs.Reachable.{Reachable, ReachedBack, IsComponent}
+use Rattle.graph.proofs.Reach.{reaches-is, reach-trans, reach-edge}
+use Rattle.graph.proofs.Component.{good-some}
+use Rattle.graph.proofs.Found.{inside-l, in-K, s-is}
+use Rattle.graph.proofs.Start.{all-of, start-first}
+use Rattle.graph.proofs.Firsts.{first-least}
+
+-- the first that passes p, of those that pass q
+first-filter : (p q : ℕ → Bool) (d : ℕ) (l : List ℕ) → first p d (filter q l) ≡ first (λ x. q x && p x) d l
+first-filter p q d [] = refl
+first-filter p q d (x ∷ l) = go (q x) (first-filter p q d l)
+  where
+    go : (b : Bool) → first p d (filter q l) ≡ first (λ x. q x && p x) d l
+        → first p d (if b then x ∷ filter q l else filter q l)
+        ≡ (if b && p x then x else first (λ x. q x && p x) d l)
+    go true e = rw e refl
+    go false e = e
+
+module _ (v : List ℕ) (g : List Arc) (i : Each (Inside (length v)) g) (z : ℕ) (ez : T (elem z (live v))) where
+  abbrev K : ℕ
+  K = length v
+
+  abbrev L : List ℕ
+  L = live v
+
+  abbrev gl : List Arc
+  gl = within (live v) g
+
+  abbrev reach : ℕ → ℕ → Bool
+  reach = reaches (reachings (length v) (within (live v) g))
+
+  abbrev good : ℕ → Bool
+  good = returning (reachings (length v) (within (live v) g)) (live v)
+
+  lt : (x : ℕ) → T (elem x L) → x < K
+  lt x t = elem-each (λ x. x < K) x L t (in-K v g i z ez)
+
+  -- the tests say what they mean
+  reach→ : (s t : ℕ) → t < K → T (reach s t) → Reachable gl s t
+  reach→ s t h u Q c q = reaches-is K gl .sound t h Q c s u q
+
+  →reach : (s t : ℕ) → s < K → Reachable gl s t → T (reach s t)
+  →reach s t h r = r (reach s) closed (reaches-is K gl .self s h)
+    where
+      closed : Each (Stays (reach s)) gl
+      closed =
+          each-map _ (Stays (reach s))
+          (λ e h a. reach-trans K gl reach (reaches-is K gl) (inside-l v g i z ez) s (e .source) (e .target)
+          (h .0 .0) (h .0 .1) a (h .1)) gl
+          (each-both (Inside K) _ gl (inside-l v g i z ez)
+          (reach-edge K gl reach (reaches-is K gl) (inside-l v g i z ez)))
+
+  -- what a state of weight above 0 reaches has weight above 0
+  live-reach : (s t : ℕ) → T (elem s L) → Reachable gl s t → T (elem t L)
+  live-reach s t h r = r (λ x. elem x L) closed h
+    where
+      closed : Each (Stays (λ x. elem x L)) gl
+      closed = each-filter (Stays (λ x. elem x L)) (both L) g
+          (each-always _ (λ e t a. and→ (elem (e .source) L) (elem (e .target) L) t .1) g)
+
+  good→ : (u : ℕ) → T (elem u L) → T (good u) → ReachedBack gl u
+  good→ u h a t r =
+      reach→ t u (lt u h) (imp→ (reach u t) (reach t u)
+      (elem-each (λ t. T (returns reach u t)) t L (live-reach u t h r) (all-each (returns reach u) L a))
+      (→reach u t (lt u h) r))
+
+  →good : (u : ℕ) → T (elem u L) → ReachedBack gl u → T (good u)
+  →good u h b = all-of (returns reach u) L
+      (each-map (λ t. T (elem t L)) (λ t. T (returns reach u t))
+      (λ t k. →imp (reach u t) (reach t u) (λ a. →reach t u (lt t k) (b t (reach→ u t (lt t k) a)))) L (each-elem L))
+
+  abbrev s : ℕ
+  s = first good 0 L
+
+  weight→ : (u : ℕ) → T (elem u L) → 0 < getD v u 0
+  weight→ u h = ltb→lt 0 (getD v u 0) (elem-filter (weighs v) u (range K) h .0)
+
+  →weight : (u : ℕ) → u < K → 0 < getD v u 0 → T (elem u L)
+  →weight u h w = →elem-filter (weighs v) u (range K) (elem-range K u h) (lt→ltb 0 (getD v u 0) w)
+
+  lowest : (u : ℕ) → u < s → 0 < getD v u 0 → ReachedBack gl u → ⊥
+  lowest u h w b =
+      let k : u < K = omega (arith, lt s (s-is v g i z ez .1)) in
+      let e = first-filter good (weighs v) 0 (range K) in
+      first-least (λ x. weighs v x && good x) 0 0 K
+      (subst T (any-filter good (weighs v) (range K))
+      (good-some K L gl reach (reaches-is K gl) (inside-l v g i z ez) (in-K v g i z ez) z ez))
+      u zero-le (subst (λ x. u < x) e h)
+      (→and (weighs v u) (good u) (lt→ltb 0 (getD v u 0) w) (→good u (→weight u k w) b))
+
+  pub component-is : IsComponent v (within (live v) g) (getD (componentStates v g) 0 0) (componentStates v g)
+  unfolding componentStates
+  component-is =
+      subst (λ s. IsComponent v gl s (componentStates v g)) (sym (start-first v g i z ez)) (record {
+        live = weight→ s (s-is v g i z ez .1);
+        back = good→ s (s-is v g i z ez .1) (s-is v g i z ez .0);
+        lowest = lowest;
+        states = λ t. (
+          (λ h. let (a, b) = elem-filter (reach s) t L h in reach→ s t (lt t b) a),
+          (λ r. →elem-filter (reach s) t L (live-reach s t (s-is v g i z ez .1) r)
+              (→reach s t (lt s (s-is v g i z ez .1)) r)),
+        );
+      })
