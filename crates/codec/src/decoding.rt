@@ -5,7 +5,7 @@ ghost use Prim.Native.Nat.{_+_, _-_, _≤_, _<_};
 ghost use lib.ListN.{length, drop};
 ghost use Rattle.laws.specs.Lists.{range};
 ghost use Rattle.answer.specs.Outcomes.{answerOf, outputOf};
-ghost use Rattle.table.specs.Edges.{arrays, rowsOf};
+ghost use Rattle.table.specs.Edges.{borrowed, rowsOf};
 ghost use Rattle.reading.specs.Reading.{block};
 ghost use Rattle.runs.specs.EdgeRuns.{Laid};
 ghost use Rattle.reading.specs.BlockParts.{under};
@@ -37,11 +37,11 @@ fn read_blocks(
     out: &mut [u8],
 )
     requires { ⌜
-        Laid (arrays states n (now word) (now next)) (now start) (now order) × (count + a ≤ length (now words))
+        Laid (borrowed states n word next) (now start) (now order) × (count + a ≤ length (now words))
         × (count ≤ length (now out)) ⌝ }
     ensures written { λ r. ⌜
         now (out .exit)
-        ≡ map (block (under (rowsOf (arrays states n (now (word .entry)) (now (next .entry)))) m a)
+        ≡ map (block (under (rowsOf (borrowed states n (word .entry) (next .entry))) m a)
         (now (words .entry))) (range count) ++ drop count (now (out .entry)) ⌝ }
 {
     let mut i = 0;

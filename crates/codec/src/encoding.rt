@@ -7,7 +7,7 @@ ghost use lib.ListN.{length, take, drop, replicate};
 ghost use Rattle.laws.specs.Sums.{Below};
 ghost use Rattle.answer.specs.Outcomes.{answerOf, outputOf};
 ghost use Rattle.table.specs.Paths.{ends, spells};
-ghost use Rattle.table.specs.Edges.{arrays, rowsOf, Fits};
+ghost use Rattle.table.specs.Edges.{borrowed, rowsOf, Fits};
 ghost use Rattle.codec.specs.Answers.{encodeUnder};
 ghost use Rattle.codec.specs.With.{encodedWith};
 use crate::bytes::first_bad;
@@ -29,14 +29,14 @@ fn write_blocks(
     out: &mut [u8],
 ) -> usize
     requires { ⌜
-        Fits (arrays states n (now word) (now next)) × Below n (now blocks)
+        Fits (borrowed states n word next) × Below n (now blocks)
         × (length (now blocks) ≤ length (now out)) ⌝ }
     ensures answer { λ r. ⌜
-        (r ≡ ends (rowsOf (arrays states n (now (word .entry)) (now (next .entry)))) 0 (now (blocks .entry)))
+        (r ≡ ends (rowsOf (borrowed states n (word .entry) (next .entry))) 0 (now (blocks .entry)))
         × (r < states) ⌝ }
     ensures written { λ r. ⌜
         now (out .exit)
-        ≡ spells (rowsOf (arrays states n (now (word .entry)) (now (next .entry)))) 0 (now (blocks .entry))
+        ≡ spells (rowsOf (borrowed states n (word .entry) (next .entry))) 0 (now (blocks .entry))
         ++ drop (length (now (blocks .entry))) (now (out .entry)) ⌝ }
 {
     let mut s = 0;
@@ -62,12 +62,12 @@ fn write_closing(
     out: &mut [u8],
 )
     requires { ⌜
-        Fits (arrays states n (now word) (now next)) × (0 < n) × (state < states) × (at ≤ end)
+        Fits (borrowed states n word next) × (0 < n) × (state < states) × (at ≤ end)
         × (end ≤ length (now out)) ⌝ }
     ensures written { λ r. ⌜
         now (out .exit)
         ≡ (take at (now (out .entry))
-        ++ spells (rowsOf (arrays states n (now (word .entry)) (now (next .entry)))) state (replicate (end - at) 0))
+        ++ spells (rowsOf (borrowed states n (word .entry) (next .entry))) state (replicate (end - at) 0))
         ++ drop end (now (out .entry)) ⌝ }
 {
     let mut s = state;

@@ -3,7 +3,7 @@
 ghost use mathlib.Core.Path.{_≡_};
 ghost use Prim.Native.Nat.{_+_, _-_, _≤_, _<_};
 ghost use lib.ListN.{length, getD};
-ghost use Rattle.table.specs.Edges.{arrays, rowsOf};
+ghost use Rattle.table.specs.Edges.{borrowed, rowsOf};
 ghost use Rattle.reading.specs.Reading.{readings, mark, past, block};
 ghost use Rattle.runs.specs.EdgeRuns.{Laid};
 ghost use Rattle.stepping.specs.StateSets.{statesIn};
@@ -36,9 +36,9 @@ fn datum_by(
     ahead: &[bool; 128],
     w: u8,
 ) -> u8
-    requires { ⌜ Laid (arrays states n (now word) (now next)) (now start) (now order) ⌝ }
+    requires { ⌜ Laid (borrowed states n word next) (now start) (now order) ⌝ }
     ensures answer { λ r. ⌜
-        r ≡ getD (readings (rowsOf (arrays states n (now (word .entry)) (now (next .entry))))
+        r ≡ getD (readings (rowsOf (borrowed states n (word .entry) (next .entry)))
         (statesIn states (now (past .entry))) w (statesIn states (now (ahead .entry)))) 0 mark ⌝ }
 {
     let mut datum: u8 = 255;
@@ -78,10 +78,10 @@ fn past_set(
     out: &mut [bool; 128],
 )
     requires { ⌜
-        Laid (arrays states n (now word) (now next)) (now start) (now order) × (i ≤ length (now words)) ⌝ }
+        Laid (borrowed states n word next) (now start) (now order) × (i ≤ length (now words)) ⌝ }
     ensures written { λ r. ⌜
         statesIn states (now (out .exit))
-        ≡ past (under (rowsOf (arrays states n (now (word .entry)) (now (next .entry)))) m 0)
+        ≡ past (under (rowsOf (borrowed states n (word .entry) (next .entry))) m 0)
         (now (words .entry)) i ⌝ }
 {
     let from = less(i, m);
@@ -132,9 +132,9 @@ pub fn read_block(
     a: usize,
 ) -> u8
     requires { ⌜
-        Laid (arrays states n (now word) (now next)) (now start) (now order) × (i + a < length (now words)) ⌝ }
+        Laid (borrowed states n word next) (now start) (now order) × (i + a < length (now words)) ⌝ }
     ensures answer { λ r. ⌜
-        r ≡ block (under (rowsOf (arrays states n (now (word .entry)) (now (next .entry)))) m a)
+        r ≡ block (under (rowsOf (borrowed states n (word .entry) (next .entry))) m a)
         (now (words .entry)) i ⌝ }
 {
     let mut past = [false; 128];

@@ -2,7 +2,7 @@
 ghost use mathlib.Core.Path.{_≡_};
 ghost use Prim.Native.Nat.{ℕ, _+_, _≤_, _<_};
 ghost use lib.ListN.{length, getD};
-ghost use Rattle.table.specs.Edges.{arrays, places, Fits, Linked};
+ghost use Rattle.table.specs.Edges.{borrowed, places, Fits, Linked};
 ghost use Rattle.runs.specs.EdgeRuns.{count, Run, Laid};
 use table::chains::chain;
 
@@ -26,15 +26,15 @@ fn lay_word(
     order: &mut [u16; 2048],
 ) -> usize
     requires { ⌜
-        Linked (arrays states n (now word) (now next)) (now head) (now link) × (w < 256)
-        × (at + count (arrays states n (now word) (now next)) w (places (arrays states n (now word) (now next))) ≤ 2048)
+        Linked (borrowed states n word next) (now head) (now link) × (w < 256)
+        × (at + count (borrowed states n word next) w (places (borrowed states n word next)) ≤ 2048)
         × (length (now order) ≡ 2048) ⌝ }
     ensures answer { λ r. ⌜
-        r ≡ at + count (arrays states n (now (word .entry)) (now (next .entry))) w
-        (places (arrays states n (now (word .entry)) (now (next .entry)))) ⌝ }
+        r ≡ at + count (borrowed states n (word .entry) (next .entry)) w
+        (places (borrowed states n (word .entry) (next .entry))) ⌝ }
     ensures written { λ r. ⌜
         (length (now (order .exit)) ≡ 2048)
-        × Run (arrays states n (now (word .entry)) (now (next .entry))) w (now (order .exit)) at r 0 ⌝ }
+        × Run (borrowed states n (word .entry) (next .entry)) w (now (order .exit)) at r 0 ⌝ }
     ensures kept { λ r. ⌜
         ((j : ℕ) → j < at → getD (now (order .exit)) j 0 ≡ getD (now (order .entry)) j 0) ⌝ }
 {
@@ -58,9 +58,9 @@ fn lay_all(
     head: &[u16; 256],
     link: &[u16; 2048],
 ) -> Runs
-    requires { ⌜ Linked (arrays states n (now word) (now next)) (now head) (now link) ⌝ }
+    requires { ⌜ Linked (borrowed states n word next) (now head) (now link) ⌝ }
     ensures answer { λ r. ⌜
-        Laid (arrays states n (now (word .entry)) (now (next .entry))) (r .start) (r .order) ⌝ }
+        Laid (borrowed states n (word .entry) (next .entry)) (r .start) (r .order) ⌝ }
 {
     let mut start = [0u16; 257];
     let mut order = [0u16; 2048];
@@ -79,9 +79,9 @@ fn lay_all(
 
 // The runs of all words.
 pub fn lay(states: usize, n: usize, word: &[u8; 2048], next: &[u8; 2048]) -> Runs
-    requires { ⌜ Fits (arrays states n (now word) (now next)) ⌝ }
+    requires { ⌜ Fits (borrowed states n word next) ⌝ }
     ensures answer { λ r. ⌜
-        Laid (arrays states n (now (word .entry)) (now (next .entry))) (r .start) (r .order) ⌝ }
+        Laid (borrowed states n (word .entry) (next .entry)) (r .start) (r .order) ⌝ }
 {
     let c = chain(states, n, word, next);
     let head = c.head;

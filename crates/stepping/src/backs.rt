@@ -3,7 +3,7 @@ ghost use mathlib.Core.Path.{_≡_};
 ghost use Prim.Native.Nat.{_-_, _%_, _≤_};
 ghost use lib.ListN.{length};
 ghost use lib.Seq.{slice};
-ghost use Rattle.table.specs.Edges.{arrays, rowsOf};
+ghost use Rattle.table.specs.Edges.{borrowed, rowsOf};
 ghost use Rattle.stepping.specs.StateSets.{back, able};
 ghost use Rattle.runs.specs.EdgeRuns.{Laid};
 ghost use Rattle.stepping.specs.StateSets.{statesIn};
@@ -21,10 +21,10 @@ fn back_by(
     w: u8,
     out: &mut [bool; 128],
 )
-    requires { ⌜ Laid (arrays states n (now word) (now next)) (now start) (now order) ⌝ }
+    requires { ⌜ Laid (borrowed states n word next) (now start) (now order) ⌝ }
     ensures written { λ r. ⌜
         statesIn states (now (out .exit))
-        ≡ back (rowsOf (arrays states n (now (word .entry)) (now (next .entry))))
+        ≡ back (rowsOf (borrowed states n (word .entry) (next .entry)))
         (statesIn states (now (set .entry))) w ⌝ }
 {
     *out = [false; 128];
@@ -55,12 +55,12 @@ fn back_odd(
     out: &mut [bool; 128],
 ) -> usize
     requires { ⌜
-        Laid (arrays states n (now word) (now next)) (now start) (now order) × (from ≤ to)
+        Laid (borrowed states n word next) (now start) (now order) × (from ≤ to)
         × (to ≤ length (now words)) ⌝ }
     ensures answer { λ r. ⌜ (from ≤ r) × (r ≤ to) × ((r - from) % 2 ≡ 0) ⌝ }
     ensures written { λ r. ⌜
         statesIn states (now (out .exit))
-        ≡ able (rowsOf (arrays states n (now (word .entry)) (now (next .entry))))
+        ≡ able (rowsOf (borrowed states n (word .entry) (next .entry)))
         (slice r to (now (words .entry))) ⌝ }
 {
     if (to - from) % 2 == 0 {
@@ -95,11 +95,11 @@ pub fn readers(
     out: &mut [bool; 128],
 )
     requires { ⌜
-        Laid (arrays states n (now word) (now next)) (now start) (now order) × (from ≤ to)
+        Laid (borrowed states n word next) (now start) (now order) × (from ≤ to)
         × (to ≤ length (now words)) ⌝ }
     ensures written { λ r. ⌜
         statesIn states (now (out .exit))
-        ≡ able (rowsOf (arrays states n (now (word .entry)) (now (next .entry))))
+        ≡ able (rowsOf (borrowed states n (word .entry) (next .entry)))
         (slice from to (now (words .entry))) ⌝ }
 {
     let mut spare = [false; 128];

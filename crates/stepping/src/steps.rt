@@ -3,7 +3,7 @@ ghost use mathlib.Core.Path.{_≡_};
 ghost use Prim.Native.Nat.{_-_, _%_, _≤_};
 ghost use lib.ListN.{length};
 ghost use lib.Seq.{slice};
-ghost use Rattle.table.specs.Edges.{arrays, rowsOf};
+ghost use Rattle.table.specs.Edges.{borrowed, rowsOf};
 ghost use Rattle.stepping.specs.StateSets.{along, alongAll};
 ghost use Rattle.runs.specs.EdgeRuns.{Laid};
 ghost use Rattle.stepping.specs.StateSets.{statesIn};
@@ -23,10 +23,10 @@ fn step_by(
     w: u8,
     out: &mut [bool; 128],
 )
-    requires { ⌜ Laid (arrays states n (now word) (now next)) (now start) (now order) ⌝ }
+    requires { ⌜ Laid (borrowed states n word next) (now start) (now order) ⌝ }
     ensures written { λ r. ⌜
         statesIn states (now (out .exit))
-        ≡ along (rowsOf (arrays states n (now (word .entry)) (now (next .entry))))
+        ≡ along (rowsOf (borrowed states n (word .entry) (next .entry)))
         (statesIn states (now (set .entry))) w ⌝ }
 {
     *out = [false; 128];
@@ -58,13 +58,13 @@ fn step_odd(
     out: &mut [bool; 128],
 ) -> usize
     requires { ⌜
-        Laid (arrays states n (now word) (now next)) (now start) (now order) × (from ≤ to)
+        Laid (borrowed states n word next) (now start) (now order) × (from ≤ to)
         × (to ≤ length (now words)) ⌝ }
     ensures answer { λ r. ⌜ (r ≤ to) × ((to - r) % 2 ≡ 0) ⌝ }
     ensures written { λ r. ⌜
-        alongAll (rowsOf (arrays states n (now (word .entry)) (now (next .entry))))
+        alongAll (rowsOf (borrowed states n (word .entry) (next .entry)))
         (statesIn states (now (set .entry))) (slice from to (now (words .entry)))
-        ≡ alongAll (rowsOf (arrays states n (now (word .entry)) (now (next .entry))))
+        ≡ alongAll (rowsOf (borrowed states n (word .entry) (next .entry)))
         (statesIn states (now (out .exit))) (slice r to (now (words .entry))) ⌝ }
 {
     if (to - from) % 2 == 0 {
@@ -90,11 +90,11 @@ pub fn step_all(
     out: &mut [bool; 128],
 )
     requires { ⌜
-        Laid (arrays states n (now word) (now next)) (now start) (now order) × (from ≤ to)
+        Laid (borrowed states n word next) (now start) (now order) × (from ≤ to)
         × (to ≤ length (now words)) ⌝ }
     ensures written { λ r. ⌜
         statesIn states (now (out .exit))
-        ≡ alongAll (rowsOf (arrays states n (now (word .entry)) (now (next .entry))))
+        ≡ alongAll (rowsOf (borrowed states n (word .entry) (next .entry)))
         (statesIn states (now (set .entry))) (slice from to (now (words .entry))) ⌝ }
 {
     let mut spare = [false; 128];

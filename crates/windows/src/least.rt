@@ -4,11 +4,11 @@ ghost use mathlib.Core.Logic.{_⊎_};
 ghost use Prim.Native.Nat.{_+_, _≤_, _<_};
 ghost use Rattle.table.specs.Value.{Ready, rowsIn};
 ghost use Rattle.windows.specs.Search.{noSize, window, pasts};
-ghost use Rattle.table.specs.Edges.{arrays, rowsOf, Linked};
+ghost use Rattle.table.specs.Edges.{borrowed, rowsOf, Linked};
 ghost use Rattle.windows.specs.PairSets.{pairsIn, Long};
 ghost use Rattle.windows.specs.Steps.{size, withWord, Leading, Room, foundSize};
-use crate::emptied;
-use crate::more;
+use crate::extend_memory;
+use crate::lookahead_needed;
 use crate::pairs::clashes;
 use table::Table;
 use table::chains::chain;
@@ -37,7 +37,7 @@ fn no_window() -> Best
 }
 
 // The most lookahead with which memory m can be better than the best so far.
-fn room(best: Best, m: usize) -> usize
+fn lookahead_limit(best: Best, m: usize) -> usize
     requires { ⌜ (m ≤ 15) × (best .memory ≤ 16) × (best .lookahead ≤ 16) × (m ≤ best .memory + best .lookahead) ⌝ }
     ensures answer { λ r. ⌜ Room (size (best .memory) (best .lookahead)) m r ⌝ }
 {
@@ -49,7 +49,7 @@ fn room(best: Best, m: usize) -> usize
 }
 
 // The best window with memory up to m.
-fn better(
+fn try_memory(
     states: usize,
     n: usize,
     word: &[u8; 2048],
@@ -63,19 +63,19 @@ fn better(
     spare: &mut [bool; 16384],
 ) -> Best
     requires { ⌜
-        Linked (arrays states n (now word) (now next)) (now head) (now link) × (m ≤ 15)
+        Linked (borrowed states n word next) (now head) (now link) × (m ≤ 15)
         × (m ≤ best .memory + best .lookahead)
-        × (pairsIn states (now past) ≡ pasts (rowsOf (arrays states n (now word) (now next))) m)
-        × Leading (rowsOf (arrays states n (now word) (now next))) m (size (best .memory) (best .lookahead))
+        × (pairsIn states (now past) ≡ pasts (rowsOf (borrowed states n word next)) m)
+        × Leading (rowsOf (borrowed states n word next)) m (size (best .memory) (best .lookahead))
         × Long (now set) × Long (now spare) ⌝ }
     ensures answer { λ r. ⌜
-        Leading (rowsOf (arrays states n (now (word .entry)) (now (next .entry)))) (m + 1)
+        Leading (rowsOf (borrowed states n (word .entry) (next .entry))) (m + 1)
         (size (r .memory) (r .lookahead)) ⌝ }
     ensures kept { λ r. ⌜ Long (now (set .exit)) × Long (now (spare .exit)) ⌝ }
 {
     clashes(states, n, word, next, head, link, past, set);
-    let most = room(best, m);
-    let a = emptied(states, n, word, next, head, link, most, set, spare);
+    let most = lookahead_limit(best, m);
+    let a = lookahead_needed(states, n, word, next, head, link, most, set, spare);
     if a <= most {
         return Best {
             memory: m,
@@ -113,20 +113,20 @@ fn stop_at(
     spare: &mut [bool; 16384],
 ) -> usize
     requires { ⌜
-        Linked (arrays states n (now word) (now next)) (now head) (now link) × Long (now past) × Long (now spare) ⌝ }
+        Linked (borrowed states n word next) (now head) (now link) × Long (now past) × Long (now spare) ⌝ }
     ensures answer { λ r. ⌜
         ((r ≡ last) ⊎ ((r ≡ 0) × (m < last)
         × (pairsIn states (now (past .exit)) ≡ pairsIn states (now (past .entry))))) ⌝ }
     ensures written { λ r. ⌜
         (m < last → pairsIn states (now (past .exit))
-        ≡ withWord (rowsOf (arrays states n (now (word .entry)) (now (next .entry))))
+        ≡ withWord (rowsOf (borrowed states n (word .entry) (next .entry)))
         (pairsIn states (now (past .entry)))) ⌝ }
     ensures kept { λ r. ⌜ Long (now (past .exit)) × Long (now (spare .exit)) ⌝ }
 {
     if last <= m {
         return last;
     }
-    if more(states, n, word, next, head, link, past, spare) {
+    if extend_memory(states, n, word, next, head, link, past, spare) {
         return 0;
     }
     last
@@ -141,9 +141,9 @@ fn least(
     head: &[u16; 256],
     link: &[u16; 2048],
 ) -> Best
-    requires { ⌜ Linked (arrays states n (now word) (now next)) (now head) (now link) ⌝ }
+    requires { ⌜ Linked (borrowed states n word next) (now head) (now link) ⌝ }
     ensures answer { λ r. ⌜
-        window (rowsOf (arrays states n (now (word .entry)) (now (next .entry)))) ≡ size (r .memory) (r .lookahead) ⌝ }
+        window (rowsOf (borrowed states n (word .entry) (next .entry))) ≡ size (r .memory) (r .lookahead) ⌝ }
 {
     let mut past = [true; 16384];
     let mut set = [false; 16384];
@@ -152,7 +152,7 @@ fn least(
     let mut stop: usize = 16;
     let mut m = 0;
     while m < stop {
-        let b = better(
+        let b = try_memory(
             states,
             n,
             word,

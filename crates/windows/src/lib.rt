@@ -5,7 +5,7 @@ ghost use Prim.Native.Nat.{_≤_};
 ghost use Rattle.table.specs.Value.{Ready, rowsIn};
 ghost use Rattle.windows.specs.Works.{works, allPairs};
 ghost use Rattle.windows.specs.Search.{pasts};
-ghost use Rattle.table.specs.Edges.{arrays, rowsOf, Linked};
+ghost use Rattle.table.specs.Edges.{borrowed, rowsOf, Linked};
 ghost use Rattle.windows.specs.PairSets.{pairsIn, Long};
 ghost use Rattle.windows.specs.Steps.{size, withWord, Emptied};
 use crate::pair_sets::copy;
@@ -22,7 +22,7 @@ mod pair_sets;
 mod pairs;
 
 // Steps the pairs whose next edges must agree by one word of memory more; whether they stay the same.
-fn more(
+fn extend_memory(
     states: usize,
     n: usize,
     word: &[u8; 2048],
@@ -33,11 +33,11 @@ fn more(
     spare: &mut [bool; 16384],
 ) -> bool
     requires { ⌜
-        Linked (arrays states n (now word) (now next)) (now head) (now link) × Long (now past) × Long (now spare) ⌝ }
+        Linked (borrowed states n word next) (now head) (now link) × Long (now past) × Long (now spare) ⌝ }
     ensures answer { λ r. ⌜ (r ≡ true → pairsIn states (now (past .exit)) ≡ pairsIn states (now (past .entry))) ⌝ }
     ensures written { λ r. ⌜
         pairsIn states (now (past .exit))
-        ≡ withWord (rowsOf (arrays states n (now (word .entry)) (now (next .entry))))
+        ≡ withWord (rowsOf (borrowed states n (word .entry) (next .entry)))
         (pairsIn states (now (past .entry))) ⌝ }
     ensures kept { λ r. ⌜ Long (now (past .exit)) × Long (now (spare .exit)) ⌝ }
 {
@@ -51,7 +51,7 @@ fn more(
 }
 
 // Steps all pairs to those whose next edges must agree under memory m.
-fn after(
+fn pairs_after(
     states: usize,
     n: usize,
     word: &[u8; 2048],
@@ -63,16 +63,16 @@ fn after(
     spare: &mut [bool; 16384],
 )
     requires { ⌜
-        Linked (arrays states n (now word) (now next)) (now head) (now link) × Long (now past) × Long (now spare)
-        × (pairsIn states (now past) ≡ allPairs (rowsOf (arrays states n (now word) (now next)))) ⌝ }
+        Linked (borrowed states n word next) (now head) (now link) × Long (now past) × Long (now spare)
+        × (pairsIn states (now past) ≡ allPairs (rowsOf (borrowed states n word next))) ⌝ }
     ensures written { λ r. ⌜
         pairsIn states (now (past .exit))
-        ≡ pasts (rowsOf (arrays states n (now (word .entry)) (now (next .entry)))) m ⌝ }
+        ≡ pasts (rowsOf (borrowed states n (word .entry) (next .entry))) m ⌝ }
     ensures kept { λ r. ⌜ Long (now (past .exit)) × Long (now (spare .exit)) ⌝ }
 {
     let mut i = 0;
     while i < m {
-        if more(states, n, word, next, head, link, past, spare) {
+        if extend_memory(states, n, word, next, head, link, past, spare) {
             return;
         }
         i += 1;
@@ -81,7 +81,7 @@ fn after(
 
 // The number of words after which no pair of the set is left, or one more than `most`. A set that a word leads to
 // itself stays.
-fn emptied(
+fn lookahead_needed(
     states: usize,
     n: usize,
     word: &[u8; 2048],
@@ -93,10 +93,10 @@ fn emptied(
     spare: &mut [bool; 16384],
 ) -> usize
     requires { ⌜
-        Linked (arrays states n (now word) (now next)) (now head) (now link) × (most ≤ 15) × Long (now set)
+        Linked (borrowed states n word next) (now head) (now link) × (most ≤ 15) × Long (now set)
         × Long (now spare) ⌝ }
     ensures answer { λ r. ⌜
-        Emptied (rowsOf (arrays states n (now (word .entry)) (now (next .entry)))) (pairsIn states (now (set .entry)))
+        Emptied (rowsOf (borrowed states n (word .entry) (next .entry))) (pairsIn states (now (set .entry)))
         most r ⌝ }
     ensures kept { λ r. ⌜ Long (now (set .exit)) × Long (now (spare .exit)) ⌝ }
 {
@@ -129,13 +129,13 @@ fn works_by(
     memory: usize,
     lookahead: usize,
 ) -> bool
-    requires { ⌜ Linked (arrays states n (now word) (now next)) (now head) (now link) × (lookahead ≤ 15) ⌝ }
+    requires { ⌜ Linked (borrowed states n word next) (now head) (now link) × (lookahead ≤ 15) ⌝ }
     ensures answer { λ r. ⌜
-        r ≡ works (rowsOf (arrays states n (now (word .entry)) (now (next .entry)))) (size memory lookahead) ⌝ }
+        r ≡ works (rowsOf (borrowed states n (word .entry) (next .entry))) (size memory lookahead) ⌝ }
 {
     let mut past = [true; 16384];
     let mut hits = [false; 16384];
-    after(
+    pairs_after(
         states,
         n,
         word,
@@ -147,7 +147,7 @@ fn works_by(
         &mut hits,
     );
     clashes(states, n, word, next, head, link, &past, &mut hits);
-    emptied(
+    lookahead_needed(
         states,
         n,
         word,

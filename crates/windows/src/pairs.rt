@@ -6,7 +6,7 @@ ghost use Rattle.laws.specs.Sets.{member};
 ghost use Rattle.windows.specs.Works.{into, reversed};
 ghost use Rattle.windows.specs.Search.{hits};
 ghost use Rattle.table.specs.Marks.{some, Marked};
-ghost use Rattle.table.specs.Edges.{arrays, rowsOf, isEdge, Linked};
+ghost use Rattle.table.specs.Edges.{borrowed, rowsOf, isEdge, Linked};
 ghost use Rattle.windows.specs.PairSets.{pairsIn, Long, counts, joins, leftOut, joinsAny};
 use crate::pair_sets::clear;
 use table::chains::wide;
@@ -36,11 +36,11 @@ fn mark_edge(
     out: &mut [bool; 16384],
 )
     requires { ⌜
-        Linked (arrays states n (now word) (now next)) (now head) (now link) × (i < states * 16)
-        × (isEdge (arrays states n (now word) (now next)) i ≡ true) × Long (now out) ⌝ }
+        Linked (borrowed states n word next) (now head) (now link) × (i < states * 16)
+        × (isEdge (borrowed states n word next) i ≡ true) × Long (now out) ⌝ }
     ensures written { λ r. ⌜
         Marked (now (out .entry))
-        (joins (arrays states n (now (word .entry)) (now (next .entry))) (now (pairs .entry)) k i) (states * 16)
+        (joins (borrowed states n (word .entry) (next .entry)) (now (pairs .entry)) k i) (states * 16)
         (now (out .exit)) ⌝ }
 {
     let x = i / 16;
@@ -67,7 +67,7 @@ fn left_out(apart: bool, i: usize) -> usize
 }
 
 // Puts into `out` where two edges with one word, and with different data if `apart`, lead from the pairs.
-fn joined(
+fn step_pairs(
     states: usize,
     n: usize,
     word: &[u8; 2048],
@@ -78,10 +78,10 @@ fn joined(
     apart: bool,
     out: &mut [bool; 16384],
 )
-    requires { ⌜ Linked (arrays states n (now word) (now next)) (now head) (now link) × Long (now out) ⌝ }
+    requires { ⌜ Linked (borrowed states n word next) (now head) (now link) × Long (now out) ⌝ }
     ensures written { λ r. ⌜
         Long (now (out .exit)) × ((z : ℕ) → z < states * 128 → member (now (out .exit)) z ≡ some
-        (joinsAny (arrays states n (now (word .entry)) (now (next .entry))) (now (pairs .entry)) apart z)
+        (joinsAny (borrowed states n (word .entry) (next .entry)) (now (pairs .entry)) apart z)
         (states * 16)) ⌝ }
 {
     clear(states, out);
@@ -116,14 +116,14 @@ pub fn forward(
     pairs: &[bool; 16384],
     out: &mut [bool; 16384],
 )
-    requires { ⌜ Linked (arrays states n (now word) (now next)) (now head) (now link) × Long (now out) ⌝ }
+    requires { ⌜ Linked (borrowed states n word next) (now head) (now link) × Long (now out) ⌝ }
     ensures written { λ r. ⌜
         Long (now (out .exit))
         × (pairsIn states (now (out .exit))
-        ≡ into (reversed (rowsOf (arrays states n (now (word .entry)) (now (next .entry)))))
+        ≡ into (reversed (rowsOf (borrowed states n (word .entry) (next .entry))))
         (pairsIn states (now (pairs .entry)))) ⌝ }
 {
-    joined(states, n, word, next, head, link, pairs, false, out);
+    step_pairs(states, n, word, next, head, link, pairs, false, out);
 }
 
 // Puts into `out` the pairs that a clash leads to from the pairs.
@@ -137,12 +137,12 @@ pub fn clashes(
     pairs: &[bool; 16384],
     out: &mut [bool; 16384],
 )
-    requires { ⌜ Linked (arrays states n (now word) (now next)) (now head) (now link) × Long (now out) ⌝ }
+    requires { ⌜ Linked (borrowed states n word next) (now head) (now link) × Long (now out) ⌝ }
     ensures written { λ r. ⌜
         Long (now (out .exit))
         × (pairsIn states (now (out .exit))
-        ≡ hits (rowsOf (arrays states n (now (word .entry)) (now (next .entry))))
+        ≡ hits (rowsOf (borrowed states n (word .entry) (next .entry)))
         (pairsIn states (now (pairs .entry)))) ⌝ }
 {
-    joined(states, n, word, next, head, link, pairs, true, out);
+    step_pairs(states, n, word, next, head, link, pairs, true, out);
 }

@@ -17,8 +17,8 @@ use Rattle.windows.proofs.works_by.Tie as tie
 abbrev table : tie.Start → Arrays
 table s = arrays (s .args .states) (s .args .n) (now (s .args .word)) (now (s .args .next))
 
-after-requires : tie.Need-after-requires
-after-requires c κs =
+pairs-after-requires : tie.Need-pairs-after-requires
+pairs-after-requires c κs =
     let s = c .before .before in
     let few = s .pre .0 .fits .few in (
       s .pre .0,
@@ -30,14 +30,14 @@ after-requires c κs =
 clashes-requires : tie.Need-clashes-requires
 clashes-requires c κs =
     let a = c .before .before in
-    (a .before .before .before .pre .0, a .after .ensures .1 .1)
+    (a .before .before .before .pre .0, a .pairs-after .ensures .1 .1)
 
-emptied-requires : tie.Need-emptied-requires
-emptied-requires c κs =
+lookahead-needed-requires : tie.Need-lookahead-needed-requires
+lookahead-needed-requires c κs =
     let k = c .before .before in
     let a = k .before .before .before in
     let s = a .before .before .before in
-    (s .pre .0, s .pre .1, k .clashes .ensures .0, a .after .ensures .1 .0)
+    (s .pre .0, s .pre .1, k .clashes .ensures .0, a .pairs-after .ensures .1 .0)
 
 returns : tie.Need-returns
 returns c =
@@ -47,9 +47,9 @@ returns c =
     let t = table s in
     let g = s .pre .0 .fits in
     works-emptied (rowsOf t) (closed-rows t g) (rw (length-rows t) (g .some)) (s .args .memory) (s .args .lookahead)
-    (c .emptied .result)
-    (subst (λ H. Emptied (rowsOf t) H (s .args .lookahead) (c .emptied .result))
-    (k .clashes .ensures .1 ∙ ap (hits (rowsOf t)) (a .after .ensures .0)) (c .emptied .ensures .0))
+    (c .lookahead-needed .result)
+    (subst (λ H. Emptied (rowsOf t) H (s .args .lookahead) (c .lookahead-needed .result))
+    (k .clashes .ensures .1 ∙ ap (hits (rowsOf t)) (a .pairs-after .ensures .0)) (c .lookahead-needed .ensures .0))
 
 pub works-by-spec : {M : Type 1} → statement M
-works-by-spec = tie.close (tie.spec after-requires clashes-requires emptied-requires returns)
+works-by-spec = tie.close (tie.spec pairs-after-requires clashes-requires lookahead-needed-requires returns)

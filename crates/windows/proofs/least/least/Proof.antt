@@ -55,8 +55,8 @@ loop-holds c =
       length-replicate 16384 false,
     )
 
-better-requires : tie.Need-better-requires Inv-loop μ-loop
-better-requires c κs =
+try-memory-requires : tie.Need-try-memory-requires Inv-loop μ-loop
+try-memory-requires c κs =
     let i = c .before .before .before in
     let v = i .before .loop .inv in
     let k = v .2 (i .loop-test .taken) in
@@ -68,13 +68,13 @@ add-m c = search needs
 stop-of-requires : tie.Need-stop-of-requires Inv-loop μ-loop
 stop-of-requires c κs =
     let a = c .before .before .before .before .before in
-    lead-small (rowsOf (table (a .before .before))) (a .loop .m + 1) _ (omega arith) (c .better .ensures .0)
+    lead-small (rowsOf (table (a .before .before))) (a .loop .m + 1) _ (omega arith) (c .try-memory .ensures .0)
 
 stop-at-requires : tie.Need-stop-at-requires Inv-loop μ-loop
 stop-at-requires c κs =
     let b = c .before .before .before in
     let a = b .before .before .before .before .before in
-    (a .before .before .pre, a .loop .inv .4, b .better .ensures .1 .1)
+    (a .before .before .pre, a .loop .inv .4, b .try-memory .ensures .1 .1)
 
 loop-less : tie.Need-loop-less Inv-loop μ-loop
 loop-less c = search needs
@@ -89,16 +89,16 @@ loop-again c =
     let t = table s in
     let k = l .inv .2 (i .loop-test .taken) in
     let e = o .stop-of .ensures in
-    let z = size (b .better .result .memory) (b .better .result .lookahead) in
+    let z = size (b .try-memory .result .memory) (b .try-memory .result .lookahead) in
     let go = turn (rowsOf t) (closed-rows t (s .pre .fits)) (l .m) z (o .stop-of .result) (c .stop-at .result)
-    (pairsIn (s .args .states) (l .past)) _ (omega arith) (b .better .ensures .0) (k .1) (e .0) (e .1) (e .2)
+    (pairsIn (s .args .states) (l .past)) _ (omega arith) (b .try-memory .ensures .0) (k .1) (e .0) (e .1) (e .2)
     (c .stop-at .ensures .1 .0) (c .stop-at .ensures .0) in (
       omega arith,
       go .0,
       go .1,
       go .2,
       c .stop-at .ensures .1 .1 .0,
-      b .better .ensures .1 .0,
+      b .try-memory .ensures .1 .0,
       c .stop-at .ensures .1 .1 .1,
     )
 
@@ -113,7 +113,7 @@ least-spec =
     μ-loop
     no-window-requires
     loop-holds
-    better-requires
+    try-memory-requires
     add-m
     stop-of-requires
     stop-at-requires

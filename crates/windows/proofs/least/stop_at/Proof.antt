@@ -9,19 +9,19 @@ use Rattle.windows.proofs.least.stop_at.Tie as tie
 returns : tie.Need-returns
 returns c = (inl refl, ((λ l. absurd (omega (arith, c .if1 .taken))), (c .before .pre .1, c .before .pre .2)))
 
-more-requires : tie.Need-more-requires
-more-requires c κs = search needs
+extend-memory-requires : tie.Need-extend-memory-requires
+extend-memory-requires c κs = search needs
 
 returns-2 : tie.Need-returns-2
 returns-2 c =
     let m = c .before in
-    let e = m .more .ensures in
+    let e = m .extend-memory .ensures in
     (inr (refl, m .before .before .before .if1 .left, e .0 (c .if2 .taken)), ((λ l. e .1 .0), e .1 .1))
 
 returns-3 : tie.Need-returns-3
 returns-3 c =
-    let e = c .before .more .ensures in
+    let e = c .before .extend-memory .ensures in
     (inl refl, ((λ l. e .1 .0), e .1 .1))
 
 pub stop-at-spec : {M : Type 1} → statement M
-stop-at-spec = tie.close (tie.spec returns more-requires returns-2 returns-3)
+stop-at-spec = tie.close (tie.spec returns extend-memory-requires returns-2 returns-3)

@@ -6,8 +6,8 @@ use Rattle.table.specs.Edges.{Arrays, arrays, rowsOf}
 use Rattle.table.proofs.RowsOf.{length-rows}
 use Rattle.windows.proofs.SetLaws.{start-put, same-pairs}
 use borrow.Author.Needs.{needs}
-use Rattle.windows.proofs.more.Statement.{statement}
-use Rattle.windows.proofs.more.Tie as tie
+use Rattle.windows.proofs.extend_memory.Statement.{statement}
+use Rattle.windows.proofs.extend_memory.Tie as tie
 
 abbrev table : tie.Start → Arrays
 table s = arrays (s .args .states) (s .args .n) (now (s .args .word)) (now (s .args .next))
@@ -48,8 +48,8 @@ returns-2 c =
       (c .copy .ensures .1 ∙ put .0, (c .copy .ensures .0, put .1)),
     )
 
-pub more-spec : {M : Type 1} → statement M
-more-spec =
+pub extend-memory-spec : {M : Type 1} → statement M
+extend-memory-spec =
     tie.close
     (tie.spec
     forward-requires

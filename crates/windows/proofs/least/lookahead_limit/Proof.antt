@@ -3,8 +3,8 @@ use mathlib.Core.Path.{refl}
 use mathlib.Core.Logic.{inl, inr}
 use native.Mathlib.Omega.{arith}
 use borrow.Author.Needs.{needs}
-use Rattle.windows.proofs.least.room.Statement.{statement}
-use Rattle.windows.proofs.least.room.Tie as tie
+use Rattle.windows.proofs.least.lookahead_limit.Statement.{statement}
+use Rattle.windows.proofs.least.lookahead_limit.Tie as tie
 
 add-left : tie.Need-add-left
 add-left c = search needs
@@ -18,5 +18,5 @@ returns c = record { small = omega arith; fits = omega arith; most = inr (omega 
 returns-2 : tie.Need-returns-2
 returns-2 c = record { small = omega arith; fits = omega arith; most = inl refl }
 
-pub room-spec : {M : Type 1} → statement M
-room-spec = tie.close (tie.spec add-left sub-left returns returns-2)
+pub lookahead-limit-spec : {M : Type 1} → statement M
+lookahead-limit-spec = tie.close (tie.spec add-left sub-left returns returns-2)

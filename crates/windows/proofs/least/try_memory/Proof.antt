@@ -13,8 +13,8 @@ use Rattle.windows.specs.Steps.{size, Emptied}
 use Rattle.windows.proofs.Lookahead.{fails-sooner, works-there}
 use Rattle.windows.proofs.Leading.{lead-small, lead-take, lead-skip}
 use borrow.Author.Needs.{needs}
-use Rattle.windows.proofs.least.better.Statement.{statement}
-use Rattle.windows.proofs.least.better.Tie as tie
+use Rattle.windows.proofs.least.try_memory.Statement.{statement}
+use Rattle.windows.proofs.least.try_memory.Tie as tie
 
 abbrev table : tie.Start → Arrays
 table s = arrays (s .args .states) (s .args .n) (now (s .args .word)) (now (s .args .next))
@@ -28,33 +28,33 @@ closed s = closed-rows (table s) (s .pre .0 .fits)
 some : (s : tie.Start) → 0 < length (rowsOf (table s))
 some s = rw (length-rows (table s)) (s .pre .0 .fits .some)
 
-abbrev start : tie.After-emptied → tie.Start
+abbrev start : tie.After-lookahead-needed → tie.Start
 start c = c .before .before .before .before .before .before
 
 -- the steps taken are those of the pairs of a clash for memory m
-gone : (c : tie.After-emptied)
+gone : (c : tie.After-lookahead-needed)
     → Emptied (rowsOf (table (start c))) (hits (rowsOf (table (start c))) (pasts (rowsOf (table (start c)))
-    (start c .args .m))) (c .before .before .before .room .result) (c .emptied .result)
+    (start c .args .m))) (c .before .before .before .lookahead-limit .result) (c .lookahead-needed .result)
 gone c =
     let r = c .before .before .before in
     let t = rowsOf (table (start c)) in
-    subst (λ H. Emptied t H (r .room .result) (c .emptied .result))
-    (r .before .clashes .ensures .1 ∙ ap (hits t) (start c .pre .3)) (c .emptied .ensures .0)
+    subst (λ H. Emptied t H (r .lookahead-limit .result) (c .lookahead-needed .result))
+    (r .before .clashes .ensures .1 ∙ ap (hits t) (start c .pre .3)) (c .lookahead-needed .ensures .0)
 
 clashes-requires : tie.Need-clashes-requires
 clashes-requires c κs = (c .before .pre .0, c .before .pre .5)
 
-room-requires : tie.Need-room-requires
-room-requires c κs =
+lookahead-limit-requires : tie.Need-lookahead-limit-requires
+lookahead-limit-requires c κs =
     let s = c .before .before in
     let b = lead-small (rowsOf (table s)) (s .args .m) (best s) (omega (arith, s .pre .1)) (s .pre .4) in
     (s .pre .1, b .0, b .1, s .pre .2)
 
-emptied-requires : tie.Need-emptied-requires
-emptied-requires c κs =
+lookahead-needed-requires : tie.Need-lookahead-needed-requires
+lookahead-needed-requires c κs =
     let r = c .before .before in
     let s = r .before .before .before in
-    (s .pre .0, r .room .ensures .small, r .before .clashes .ensures .0, s .pre .6)
+    (s .pre .0, r .lookahead-limit .ensures .small, r .before .clashes .ensures .0, s .pre .6)
 
 returns : tie.Need-returns
 returns c =
@@ -63,10 +63,10 @@ returns c =
     let s = start e in
     let t = rowsOf (table s) in
     let m = s .args .m in (
-      lead-take t m (best s) (s .pre .1) (s .pre .4) (r .room .result) (r .room .ensures) (e .emptied .result)
+      lead-take t m (best s) (s .pre .1) (s .pre .4) (r .lookahead-limit .result) (r .lookahead-limit .ensures) (e .lookahead-needed .result)
           (c .if1 .taken) (works-there t (closed s) (some s) m _ _ (gone e) (c .if1 .taken))
           (fails-sooner t (closed s) (some s) m _ _ (gone e)),
-      e .emptied .ensures .1,
+      e .lookahead-needed .ensures .1,
     )
 
 returns-2 : tie.Need-returns-2
@@ -76,11 +76,11 @@ returns-2 c =
     let s = start e in
     let t = rowsOf (table s) in
     let m = s .args .m in (
-      lead-skip t m (best s) (s .pre .1) (s .pre .4) (r .room .result) (r .room .ensures)
+      lead-skip t m (best s) (s .pre .1) (s .pre .4) (r .lookahead-limit .result) (r .lookahead-limit .ensures)
           (λ k l. fails-sooner t (closed s) (some s) m _ _ (gone e) k (omega (arith, c .if1 .left))),
-      e .emptied .ensures .1,
+      e .lookahead-needed .ensures .1,
     )
 
-pub better-spec : {M : Type 1} → statement M
-better-spec =
-    tie.close (tie.spec clashes-requires room-requires emptied-requires returns returns-2)
+pub try-memory-spec : {M : Type 1} → statement M
+try-memory-spec =
+    tie.close (tie.spec clashes-requires lookahead-limit-requires lookahead-needed-requires returns returns-2)

@@ -16,8 +16,8 @@ use Rattle.windows.proofs.Steps.{
   stepped-rest,
 }
 use borrow.Author.Needs.{needs}
-use Rattle.windows.proofs.emptied.Statement.{statement}
-use Rattle.windows.proofs.emptied.Tie as tie
+use Rattle.windows.proofs.lookahead_needed.Statement.{statement}
+use Rattle.windows.proofs.lookahead_needed.Tie as tie
 
 abbrev Inv-loop : tie.InvT-loop
 Inv-loop states n word next head link most set₀ spare₀ k₀ set spare k =
@@ -118,8 +118,8 @@ returns-4 c =
       (l .inv .1, l .inv .2),
     )
 
-pub emptied-spec : {M : Type 1} → statement M
-emptied-spec =
+pub lookahead-needed-spec : {M : Type 1} → statement M
+lookahead-needed-spec =
     tie.close
     (tie.spec
     Inv-loop

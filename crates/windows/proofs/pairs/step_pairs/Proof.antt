@@ -13,8 +13,8 @@ use Rattle.table.proofs.Marks.{mark-none, mark-skip, mark-row}
 use Rattle.windows.specs.PairSets.{Long, joins, joinsAny}
 use Rattle.windows.proofs.Joins.{turn-taken, turn-left}
 use borrow.Author.Needs.{needs}
-use Rattle.windows.proofs.pairs.joined.Statement.{statement}
-use Rattle.windows.proofs.pairs.joined.Tie as tie
+use Rattle.windows.proofs.pairs.step_pairs.Statement.{statement}
+use Rattle.windows.proofs.pairs.step_pairs.Tie as tie
 
 abbrev Inv-loop : tie.InvT-loop
 Inv-loop states n word next head link pairs apart out₀ i₀ out i =
@@ -86,8 +86,8 @@ returns c =
       λ z h. l .inv .4 .holds z ∙ ap₂ (λ b k. b || some (f z) k) (l .inv .3 z h) e,
     )
 
-pub joined-spec : {M : Type 1} → statement M
-joined-spec =
+pub step-pairs-spec : {M : Type 1} → statement M
+step-pairs-spec =
     tie.close
     (tie.spec
     Inv-loop

@@ -11,8 +11,8 @@ use Rattle.windows.specs.PairSets.{pairsIn, Long}
 use Rattle.windows.specs.Steps.{withWord}
 use Rattle.windows.proofs.PastSets.{pasts-none, pasts-more, pasts-rest}
 use borrow.Author.Needs.{needs}
-use Rattle.windows.proofs.after.Statement.{statement}
-use Rattle.windows.proofs.after.Tie as tie
+use Rattle.windows.proofs.pairs_after.Statement.{statement}
+use Rattle.windows.proofs.pairs_after.Tie as tie
 
 abbrev Inv-loop : tie.InvT-loop
 Inv-loop states n word next head link m past₀ spare₀ i₀ past spare i =
@@ -30,13 +30,13 @@ closed s = closed-rows (table s) (s .pre .0 .fits)
 loop-holds : tie.Need-loop-holds Inv-loop μ-loop
 loop-holds c = (omega arith, c .pre .3 ∙ sym (pasts-none (rowsOf (table c))), c .pre .1, c .pre .2)
 
-more-requires : tie.Need-more-requires Inv-loop μ-loop
-more-requires c κs =
+extend-memory-requires : tie.Need-extend-memory-requires Inv-loop μ-loop
+extend-memory-requires c κs =
     let l = c .before .before .before .loop in
     (c .before .before .before .before .pre .0, l .inv .2, l .inv .3)
 
 -- the pairs after the turn
-stepped : (c : tie.After-more Inv-loop μ-loop)
+stepped : (c : tie.After-extend-memory Inv-loop μ-loop)
     → let l = c .before .before .before .before .loop in
     let s = c .before .before .before .before .before in
     withWord (rowsOf (table s)) (pairsIn (s .args .states) (l .past)) ≡ pasts (rowsOf (table s)) (l .i + 1)
@@ -47,7 +47,7 @@ stepped c =
 
 returns : tie.Need-returns Inv-loop μ-loop
 returns c =
-    let e = c .before .more .ensures in
+    let e = c .before .extend-memory .ensures in
     let l = c .before .before .before .before .before .loop in
     let s = c .before .before .before .before .before .before in
     let t = rowsOf (table s) in
@@ -67,7 +67,7 @@ loop-less c = search needs
 
 loop-again : tie.Need-loop-again Inv-loop μ-loop
 loop-again c =
-    let e = c .before .more .ensures in
+    let e = c .before .extend-memory .ensures in
     (omega arith, e .1 .0 ∙ stepped (c .before), e .1 .1 .0, e .1 .1 .1)
 
 returns-2 : tie.Need-returns-2 Inv-loop μ-loop
@@ -77,14 +77,14 @@ returns-2 c =
     let e : l .i ≡ s .args .m = omega arith in
     (l .inv .1 ∙ ap (pasts (rowsOf (table s))) e, (l .inv .2, l .inv .3))
 
-pub after-spec : {M : Type 1} → statement M
-after-spec =
+pub pairs-after-spec : {M : Type 1} → statement M
+pairs-after-spec =
     tie.close
     (tie.spec
     Inv-loop
     μ-loop
     loop-holds
-    more-requires
+    extend-memory-requires
     returns
     add-i
     loop-less
