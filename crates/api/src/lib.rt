@@ -3,7 +3,7 @@ ghost use mathlib.Core.Path.{_≡_};
 ghost use Prim.Native.Nat.{ℕ, _≤_, min};
 ghost use Rattle.answer.specs.Outcomes.{answerOf, outputOf};
 ghost use lib.ListN.{length};
-ghost use Rattle.record.specs.Checks.{checkedOnly};
+ghost use Rattle.checker.specs.Parse.{checkedOnly};
 ghost use Rattle.codec.specs.Answers.{encodeUnder, decodeUnder};
 ghost use Rattle.compiler.specs.Compile.{compileJob, compileRunLength};
 ghost use Rattle.compiler.specs.Listing.{listInto};
@@ -50,7 +50,7 @@ fn set_word(a: SetAnswer) -> u64
 pub extern "C" fn sbc_check(bytes: &[u8]) -> u64
     ensures answer { λ r. ⌜ r ≡ wordOf (answerOf (checkedOnly (now (bytes .entry)))) ⌝ }
 {
-    word(record::loading::check(bytes))
+    word(checker::check(bytes))
 }
 
 // Whether a set of records is good: 8 with number 0 for no bytes at all; then, record by record, 8 if its length or

@@ -12,7 +12,7 @@ use Rattle.table.specs.Value.{codeIn, Ready}
 use Rattle.table.proofs.ReadyTables.{→ready}
 use Rattle.record.specs.declared.Reading.{Reading}
 use Rattle.record.specs.declared.Verdict.the-variants.{Read, Bad}
-use Rattle.record.specs.Parse.{parse}
+use Rattle.checker.specs.Parse.{parse}
 use Rattle.record.specs.Checks.{outcomeIn, verdictOf}
 use Rattle.codec.specs.Answers.{encoded, decoded, encodeUnder, decodeUnder}
 use Rattle.codec.specs.With.{encodedWith, decodedWith}

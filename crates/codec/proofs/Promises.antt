@@ -15,8 +15,8 @@ use Rattle.windows.specs.Window.{Window}
 use Rattle.table.specs.Formed.{Formed}
 use Rattle.table.proofs.Formed.{formed→}
 use Rattle.obeying.proofs.Accepted.{sound}
-use Rattle.record.specs.Parse.{parse}
-use Rattle.record.proofs.Accepted.{parse-exact}
+use Rattle.checker.specs.Parse.{parse}
+use Rattle.checker.proofs.Accepted.{parse-exact}
 use Rattle.reading.specs.Reading.{mark, decode}
 use Rattle.codec.specs.Answers.{encoded, decoded, encodeUnder, decodeUnder}
 use Rattle.codec.specs.Damage.{StandsClear, Recording}

@@ -11,7 +11,7 @@ use Rattle.answer.specs.declared.Refusal.the-variants.{BadByte, TooFewWords, Sh
 use Rattle.answer.specs.Outcomes.{Outcome, done, unless, onward}
 use Rattle.table.specs.Rows.{Code}
 use Rattle.table.specs.Paths.{recording}
-use Rattle.record.specs.Parse.{parse}
+use Rattle.checker.specs.Parse.{parse}
 use Rattle.reading.specs.Reading.{decode}
 
 -- "the place of the first bad byte, counted from 0": the first that is not below n, or the length where there is none

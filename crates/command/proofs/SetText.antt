@@ -20,7 +20,7 @@ use Rattle.table.specs.Rows.{Code}
 use Rattle.table.specs.Value.{codeIn, rowIn}
 use Rattle.record.specs.declared.Verdict.{Verdict}
 use Rattle.record.specs.declared.Verdict.the-variants.{Read, Bad}
-use Rattle.record.specs.Parse.{parse}
+use Rattle.checker.specs.Parse.{parse}
 use Rattle.record.specs.Checks.{verdictOf}
 use Rattle.sets.specs.declared.Place.{Place}
 use Rattle.sets.specs.declared.Place.the-variants.{At, Nowhere}

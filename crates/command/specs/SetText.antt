@@ -9,7 +9,7 @@ use Rattle.text.specs.Texts.{bytes}
 use Rattle.text.specs.Words.{told}
 use Rattle.answer.specs.Outcomes.{Outcome, done, refused}
 use Rattle.table.specs.Rows.{Code}
-use Rattle.record.specs.Parse.{parse}
+use Rattle.checker.specs.Parse.{parse}
 use Rattle.sets.specs.declared.Place.{Place}
 use Rattle.sets.specs.declared.Place.the-variants.{At, Nowhere}
 use Rattle.sets.specs.Offsets.{recordPlace}

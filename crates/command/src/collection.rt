@@ -4,7 +4,7 @@ ghost use mathlib.Core.List.{_++_};
 ghost use Prim.Native.Nat.{_+_, _≤_};
 ghost use lib.ListN.{length, take, drop};
 ghost use Rattle.text.specs.Texts.{Added};
-ghost use Rattle.record.specs.Parse.{parse};
+ghost use Rattle.checker.specs.Parse.{parse};
 ghost use Rattle.command.specs.SetText.{placeText, kindText, recordLine, recordText, linesTo, setText};
 use crate::Status;
 use crate::arguments::Action;
@@ -56,7 +56,7 @@ fn put_record_at(out: &mut [u8], at: usize, i: usize, start: usize, bytes: &[u8]
         Added (recordLine i start (length (now (bytes .entry))) (parse (now (bytes .entry)))) at (now (out .entry))
         (now (out .exit)) e ⌝ }
 {
-    let r = record::loading::load(bytes);
+    let r = checker::load(bytes);
     let v = r.verdict;
     let t = r.table;
     match v {

@@ -49,7 +49,7 @@ fn view_record(a: Action, as_what: View) -> Status {
         return Status::Failed;
     }
     let n = l.size;
-    let r = record::loading::load(&bytes[..n]);
+    let r = checker::load(&bytes[..n]);
     let v = r.verdict;
     let t = r.table;
     match v {

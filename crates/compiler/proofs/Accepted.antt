@@ -24,8 +24,8 @@ use Rattle.table.specs.Formed.{head, inRange, goodState, goodNext, goodEdge, go
 use Rattle.windows.proofs.WindowLeast.{window-least, Chosen}
 use Rattle.obeying.proofs.AnyClosure.{obeys-by}
 use Rattle.record.specs.Layout.{pack}
-use Rattle.record.specs.Parse.{parse}
-use Rattle.record.proofs.RecordWrite.{parse-pack-good}
+use Rattle.checker.specs.Parse.{parse}
+use Rattle.checker.proofs.Parse.{parse-pack-good}
 use Rattle.graph.specs.Arcs.{Reads}
 use Rattle.finish.proofs.TableOf.{Tabled}
 use Rattle.compiler.specs.Jobs.{Job, Allowed}

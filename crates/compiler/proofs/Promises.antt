@@ -19,7 +19,8 @@ use Rattle.windows.specs.Search.{window}
 use Rattle.windows.proofs.Window.{works-sound, works-complete}
 use Rattle.windows.proofs.WindowLeast.{Chosen, window-least}
 use Rattle.record.specs.Layout.{pack}
-use Rattle.record.specs.Parse.{parse, packInto}
+use Rattle.record.specs.Parse.{packInto}
+use Rattle.checker.specs.Parse.{parse}
 use Rattle.graph.specs.Arcs.{out}
 use Rattle.graph.proofs.Loop.{states-le, splitted-end, splitted-full}
 use Rattle.compiler.specs.Jobs.{Job, readJob, readRunLength, Allowed}

@@ -5,7 +5,6 @@ pub mod RecordRead
 pub mod RecordBytes
 pub mod RecordPlaces
 pub mod RecordPuts
-pub mod Accepted
 pub mod Sizes
 pub mod Alls
 pub mod Fills
@@ -13,8 +12,6 @@ pub mod RecordChecks
 pub mod RecordTables
 pub mod RecordReady
 pub mod RecordReading
-pub mod RecordFollow
-pub mod Reasons
 pub mod RecordParts
 pub mod Runs
 pub mod RecordRuns

@@ -1,5 +1,5 @@
--- Bytes that `parse` accepts are the record of the code that it gives: a record is canonical.
--- In order: Checked, parse-good.
+-- Bytes whose fields pass their checks are the record of the code that they name: a record is canonical.
+-- In order: Checked, fields-good.
 -- Assumes nothing.
 use mathlib.Core.Path.{_≡_, refl, sym, ap, ap₂, subst, _∙_}
 use mathlib.Core.Bool.{_&&_}
@@ -9,23 +9,22 @@ use native.Mathlib.Nat.{le-refl}
 use native.Mathlib.Omega.{arith}
 use lib.Dec.{T, ltb, leb, eqb, eqb→eq, le→leb, lt→ltb}
 use lib.ListN.{length, drop, replicate}
-use Rattle.answer.specs.declared.Refusal.the-variants.{Field, Length, Disobeys, WindowFails}
+use Rattle.answer.specs.declared.Refusal.the-variants.{Field, Length}
 use Rattle.answer.specs.Outcomes.{done, unless}
 use Rattle.laws.specs.Lists.{all, sum}
 use Rattle.laws.proofs.Tests.{and→, →and}
 use Rattle.table.specs.Rows.{Rows, Code}
-use Rattle.windows.specs.Works.{works}
-use Rattle.obeying.specs.Obeys.{obeys}
 use Rattle.bits.specs.Fields.{read, write, Fits, bitsOf}
 use Rattle.laws.specs.Sums.{Below}
 use Rattle.bits.proofs.Fields.{below-write, length-write, fits-read, write-read, read-back, fits-bytes}
 use Rattle.table.specs.Formed.{Head, head, inRange, goodNext, goodRow, formed}
 use Rattle.record.specs.Layout.{header, headOf, size, fill, widths, values, pack, nextsOf, rowsOf, codeOf}
-use Rattle.record.specs.Parse.{goodHead, goodFields, goodTarget, filler, goodRest, judged, parsed, parse}
+use Rattle.record.specs.Parse.{goodHead, goodFields, goodTarget, filler, goodRest}
+use Rattle.record.specs.Checks.{fieldsGood, fieldsChecked}
 use Rattle.record.proofs.RecordAgain.{nexts-again, nexts-good, rows-good, length-nextsOf, length-rowsOf}
 use Rattle.record.proofs.RecordAgain.{tail-again, head-again}
 use Rattle.record.proofs.RecordFits.{sum-widths}
-use Rattle.answer.proofs.Outcomes.{unless→}
+use Rattle.answer.proofs.Outcomes.{done-inj, unless→}
 
 -- seven fields in front and the others behind
 module _ (p q s m a k z : ℕ) (t : List ℕ)
@@ -111,32 +110,25 @@ module _ (xs : List ℕ) (bytes : Below 256 xs) where
 
   pub record Checked (c : Code) : Type 0 where
     pub formed : T (formed c)
-    pub obeys : T (obeys c)
-    pub works : T (works (c .table) (c .window))
     pub canonical : pack c ≡ xs
 
-  -- what parse accepts is the record of a code that passes every check
-  pub parse-good : (c : Code) → parse xs ≡ done c → Checked c
-  unfolding parse
-  parse-good c e =
+  -- bytes whose fields are good are the record of a code with its fields in range
+  pub fields-good : (c : Code) → fieldsChecked xs ≡ done c → Checked c
+  unfolding fieldsChecked
+  fields-good c e =
       let bs = bitsOf xs in
       let h = headOf (read header bs) in
       let vs = read (widths h) bs in
       let d = codeOf h vs in
-      let (t₀, e₀) = unless→ Length (leb 4 (length xs)) (parsed (length xs) h bs) c e in
+      let (t₀, e₀) = unless→ Length (leb 4 (length xs)) (fieldsGood (length xs) h bs) c e in
       let (t₁, e₁) = unless→ Field (goodHead h)
-      (unless Length (eqb (length xs) (size h)) (unless Field (goodRest h vs d) (judged d))) c e₀ in
-      let (t₂, e₂) = unless→ Length (eqb (length xs) (size h)) (unless Field (goodRest h vs d) (judged d)) c e₁ in
-      let (t₃, e₃) = unless→ Field (goodRest h vs d) (judged d) c e₂ in
-      let (t₄, e₄) = unless→ Disobeys (obeys d) (unless WindowFails (works (d .table) (d .window)) (done d)) c e₃ in
-      let (t₅, e₅) = unless→ WindowFails (works (d .table) (d .window)) (done d) c e₄ in
+      (unless Length (eqb (length xs) (size h)) (unless Field (goodRest h vs d) (done d))) c e₀ in
+      let (t₂, e₂) = unless→ Length (eqb (length xs) (size h)) (unless Field (goodRest h vs d) (done d)) c e₁ in
+      let (t₃, e₃) = unless→ Field (goodRest h vs d) (done d) c e₂ in
       let l : length xs ≡ size h = eqb→eq (length xs) (size h) t₂ in
-      let same : d ≡ c = cc in
       let f = fits-again h l in
-      subst Checked same (record {
+      subst Checked (done-inj d c e₃) (record {
         formed = formed-again _ _ _ _ _ _ _ _ f t₃ t₁;
-        obeys = t₄;
-        works = t₅;
         canonical =
             packed-again h vs l refl (values-again _ _ _ _ _ _ _ _ f t₃);
       })

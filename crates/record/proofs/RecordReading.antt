@@ -1,7 +1,6 @@
--- A record read check by check: the header's numbers are in range, and the whole chain of checks is the reading
--- followed by the two checks of the table.
--- In order: below-bytes, ranges-of, ranges-in; parse-fields; checked-short, checked-front, checked-length,
--- checked-rest, checked-good.
+-- A record read check by check: the header's numbers are in range, and what each check comes to.
+-- In order: below-bytes, ranges-of, ranges-in; checked-short, checked-front, checked-length, checked-rest,
+-- checked-good.
 -- Assumes nothing.
 use mathlib.Core.Path.{_≡_, refl, sym, ap, subst, _∙_}
 use mathlib.Core.Bool.{Bool, true, false, _&&_}
@@ -14,12 +13,12 @@ use Rattle.laws.specs.Sums.{Below}
 use Rattle.laws.proofs.Tests.{and→}
 use Rattle.answer.specs.declared.Refusal.{Refusal}
 use Rattle.answer.specs.declared.Refusal.the-variants.{Field, Length}
-use Rattle.answer.specs.Outcomes.{Outcome, done, refused, unless, onward}
+use Rattle.answer.specs.Outcomes.{Outcome, done, refused, unless}
 use Rattle.bits.specs.Fields.{read, bitsOf}
 use Rattle.bits.proofs.Fields.{read-at, below-write}
 use Rattle.table.specs.Formed.{Head, Ranges}
 use Rattle.record.specs.Layout.{header, headOf, size}
-use Rattle.record.specs.Parse.{goodHead, judged, parse}
+use Rattle.record.specs.Parse.{goodHead}
 use Rattle.record.specs.Checks.{codeAt, restGood, fieldsGood, fieldsChecked}
 use Rattle.record.proofs.RecordReady.{field-lt}
 
@@ -57,30 +56,11 @@ pub ranges-in : (xs : List ℕ) (h : Head) → h ≡ headOf (read header (bitsOf
 ranges-in xs h e g =
     subst Ranges (sym e) (ranges-of (bitsOf xs) (below-bytes xs) (subst T (sym (ap goodHead (sym e) ∙ g)) tt))
 
-unless-onward : {A B : Type 0} (r : Refusal) (b : Bool) (x : Outcome A) (f : A → Outcome B)
-    → onward (unless r b x) f ≡ unless r b (onward x f)
-unless-onward r true x f = refl
-unless-onward r false x f = refl
-
 unless-no : {A : Type 0} (r : Refusal) (b : Bool) (x : Outcome A) → b ≡ false → unless r b x ≡ refused r
 unless-no r b x e = ap (λ c. unless r c x) e
 
 unless-yes : {A : Type 0} (r : Refusal) (b : Bool) (x : Outcome A) → b ≡ true → unless r b x ≡ x
 unless-yes r b x e = ap (λ c. unless r c x) e
-
--- the checks of the fields, and then those of the table
-pub parse-fields : (xs : List ℕ) → parse xs ≡ onward (fieldsChecked xs) judged
-unfolding parse fieldsChecked
-parse-fields xs =
-    let bs = bitsOf xs in
-    let h = headOf (read header bs) in
-    let c = done (codeAt h bs) in
-    let rest = unless Field (restGood h bs) c in
-    let sized = unless Length (eqb (length xs) (size h)) rest in
-    sym (unless-onward Length (leb 4 (length xs)) (fieldsGood (length xs) h bs) judged
-    ∙ ap (unless Length (leb 4 (length xs))) (unless-onward Field (goodHead h) sized judged
-    ∙ ap (unless Field (goodHead h)) (unless-onward Length (eqb (length xs) (size h)) rest judged
-    ∙ ap (unless Length (eqb (length xs) (size h))) (unless-onward Field (restGood h bs) c judged))))
 
 -- ---- the outcome at each return of the code
 module _ (xs : List ℕ) where

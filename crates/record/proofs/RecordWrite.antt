@@ -1,5 +1,5 @@
 -- A code with its fields in range, written as a record and read again, is the same code.
--- In order: code-back, length-pack, bits-pack, parse-pack, parse-pack-good.
+-- In order: code-back, length-pack, bits-pack, fields-pack.
 -- Assumes nothing.
 use mathlib.Core.Path.{_≡_, refl, sym, ap, ap₂, subst, _∙_}
 use mathlib.Core.Bool.{Bool, true, false, _&&_, _||_}
@@ -10,21 +10,19 @@ use native.Mathlib.Omega.{arith}
 use lib.Dec.{T, ltb, leb, eqb, eqb→eq, eqb-refl, le→leb, lt→ltb}
 use lib.ListN.{length, getD, take, drop, replicate, length-append, length-replicate}
 use lib.Seq.{drop-at}
-use Rattle.answer.specs.declared.Refusal.the-variants.{Field, Length, Disobeys, WindowFails}
-use Rattle.answer.specs.Outcomes.{done, unless}
+use Rattle.answer.specs.declared.Refusal.the-variants.{Field, Length}
+use Rattle.answer.specs.Outcomes.{Outcome, done, unless}
 use Rattle.laws.specs.Lists.{if_then_else_, all}
 use Rattle.laws.proofs.Tests.{and→, →and}
 use Rattle.constraint.specs.Walking.{Constraint, none}
 use Rattle.table.specs.Rows.{Edge, Rows, Code}
-use Rattle.windows.specs.Works.{works}
 use Rattle.bits.specs.Fields.{read, write, bitsOf}
 use Rattle.bits.proofs.Fields.{regroup, read-back, length-read}
 use Rattle.table.specs.Formed.{Head, head, goodState, goodNext, goodEdge, goodRow, formed, Formed, Ranges}
 use Rattle.record.specs.Layout.{header, headOf, size, widths, present, shown, nexts, pairs, rows, values}
 use Rattle.record.specs.Layout.{pack, opened, nextsOf, edgesOf, rowsOf, codeOf}
-use Rattle.record.specs.Parse.{goodHead, goodField, goodFields, goodTarget, filler, goodRest, judged, checked}
-use Rattle.record.specs.Parse.{parsed, parse}
-use Rattle.obeying.specs.Obeys.{obeys}
+use Rattle.record.specs.Parse.{goodHead, goodField, goodFields, goodTarget, filler, goodRest}
+use Rattle.record.specs.Checks.{fieldsGood, fieldsChecked}
 use Rattle.table.proofs.Formed.{formed→}
 use Rattle.record.proofs.RecordFits.{sum-widths, fits-values}
 use Rattle.answer.proofs.Outcomes.{unless-true}
@@ -175,32 +173,28 @@ head-back c f =
 
 passed : (l : ℕ) (h : Head) (bs vs : List ℕ) (c : Code) → read (widths h) bs ≡ vs → codeOf h vs ≡ c → T (goodHead h)
     → l ≡ size h → T (goodRest h vs c)
-    → parsed l h bs ≡ judged c
+    → fieldsGood l h bs ≡ done c
 passed l h bs vs c e e' t₁ t₂ t₃ =
-    ap (λ vs. checked l h vs (codeOf h vs)) e ∙ ap (checked l h vs) e'
-    ∙ unless-true Field (goodHead h) (unless Length (eqb l (size h)) (unless Field (goodRest h vs c) (judged c))) t₁
-    ∙ unless-true Length (eqb l (size h)) (unless Field (goodRest h vs c) (judged c))
+    ap (λ vs. checked vs (codeOf h vs)) e ∙ ap (checked vs) e'
+    ∙ unless-true Field (goodHead h) (unless Length (eqb l (size h)) (unless Field (goodRest h vs c) (done c))) t₁
+    ∙ unless-true Length (eqb l (size h)) (unless Field (goodRest h vs c) (done c))
     (subst (λ n. T (eqb l n)) t₂ (eqb-refl l))
-    ∙ unless-true Field (goodRest h vs c) (judged c) t₃
+    ∙ unless-true Field (goodRest h vs c) (done c) t₃
+  where
+    checked : List ℕ → Code → Outcome Code
+    checked vs c = unless Field (goodHead h) (unless Length (eqb l (size h)) (unless Field (goodRest h vs c) (done c)))
 
--- a code with its fields in range, packed and parsed, is judged as it stands
-pub parse-pack : (c : Code) → T (formed c) → parse (pack c) ≡ judged c
-unfolding parse
-parse-pack c t =
+-- a code with its fields in range, packed and read, is the code
+pub fields-pack : (c : Code) → T (formed c) → fieldsChecked (pack c) ≡ done c
+unfolding fieldsChecked
+fields-pack c t =
     let f = formed→ c t in
     let l = length-pack c in
     unless-true Length (leb 4 (length (pack c)))
-    (parsed (length (pack c)) (headOf (read header (bitsOf (pack c)))) (bitsOf (pack c)))
+    (fieldsGood (length (pack c)) (headOf (read header (bitsOf (pack c)))) (bitsOf (pack c)))
     (rw l (le→leb 4 (size (head c)) (omega (arith, f .range .k₁))))
-    ∙ ap (λ n. parsed n (headOf (read header (bitsOf (pack c)))) (bitsOf (pack c))) l
-    ∙ ap (λ bs. parsed (size (head c)) (headOf (read header bs)) bs) (bits-pack c f)
-    ∙ ap (λ h. parsed (size (head c)) h (write (widths (head c)) (values c))) (head-back c f)
+    ∙ ap (λ n. fieldsGood n (headOf (read header (bitsOf (pack c)))) (bitsOf (pack c))) l
+    ∙ ap (λ bs. fieldsGood (size (head c)) (headOf (read header bs)) bs) (bits-pack c f)
+    ∙ ap (λ h. fieldsGood (size (head c)) h (write (widths (head c)) (values c))) (head-back c f)
     ∙ passed (size (head c)) (head c) (write (widths (head c)) (values c)) (values c) c (fields-back c f)
     (code-back c f) (head-good (head c) (f .range)) refl (rest-good c f)
-
--- so an accepted code comes back
-pub parse-pack-good : (c : Code) → T (formed c) → T (obeys c) → T (works (c .table) (c .window))
-    → parse (pack c) ≡ done c
-parse-pack-good c t u v =
-    parse-pack c t ∙ unless-true Disobeys (obeys c) (unless WindowFails (works (c .table) (c .window)) (done c)) u
-    ∙ unless-true WindowFails (works (c .table) (c .window)) (done c) v

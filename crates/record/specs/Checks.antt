@@ -1,27 +1,24 @@
 -- A record's fields read and checked, before the two checks of the table: "8 below four bytes, header by 7, 8, the
 -- rest by 7"; and what values of the code's structs stand for.
--- In order: headIn; codeAt, restGood, fieldsGood, fieldsChecked; verdictOf, outcomeIn; Judgeable, what the two
--- checks of the table need; checkedOnly, what the checker answers.
+-- In order: headIn; codeAt, restGood, fieldsGood, fieldsChecked; verdictOf, outcomeIn.
 -- Assumes nothing.
 use mathlib.Core.Bool.{Bool}
-use mathlib.Core.List.{List, []}
-use Prim.Native.Nat.{ℕ, _≤_}
+use mathlib.Core.List.{List}
+use Prim.Native.Nat.{ℕ}
 use lib.Dec.{leb, eqb}
 use lib.ListN.{length}
 use Rattle.answer.specs.declared.Refusal.the-variants.{Field, Length}
-use Rattle.answer.specs.Outcomes.{Outcome, done, refused, unless, onward}
+use Rattle.answer.specs.Outcomes.{Outcome, done, refused, unless}
 use Rattle.bits.specs.Fields.{read, bitsOf}
 use Rattle.table.specs.Rows.{Code}
 use Rattle.table.specs.Formed.{Head}
-use Rattle.table.specs.declared.Table.{Table}
 use Rattle.table.specs.Value.{codeIn}
-use Rattle.obeying.specs.Obeying.{Followable}
 use Rattle.record.specs.declared.Front.{Front}
 use Rattle.record.specs.declared.Verdict.{Verdict}
 use Rattle.record.specs.declared.Verdict.the-variants.{Read, Bad}
 use Rattle.record.specs.declared.Reading.{Reading}
 use Rattle.record.specs.Layout.{header, headOf, size, widths, codeOf}
-use Rattle.record.specs.Parse.{goodHead, goodRest, parse}
+use Rattle.record.specs.Parse.{goodHead, goodRest}
 
 -- the numbers in front
 abbrev pub headIn : Front → Head
@@ -46,7 +43,8 @@ restGood h bs = goodRest h (read (widths h) bs) (codeAt h bs)
 -- l bytes with the header h and the bits bs: "header by 7, 8, the rest by 7"
 abbrev pub fieldsGood : ℕ → Head → List ℕ → Outcome Code
 fieldsGood l h bs =
-    unless Field (goodHead h) (unless Length (eqb l (size h)) (unless Field (restGood h bs) (done (codeAt h bs))))
+    let vs = read (widths h) bs in let c = codeOf h vs in
+    unless Field (goodHead h) (unless Length (eqb l (size h)) (unless Field (goodRest h vs c) (done c)))
 
 -- the code that the bytes' fields name, or the refusal: "8 below four bytes" first
 unfoldable pub fieldsChecked : List ℕ → Outcome Code
@@ -62,12 +60,3 @@ verdictOf (Bad r) c = refused r
 -- what a reading comes to
 abbrev pub outcomeIn : Reading → Outcome Code
 outcomeIn r = verdictOf (r .verdict) (codeIn (r .table))
-
--- a table whose fields are in range: its constraint can be followed, and its lookahead is at most 15
-pub record Judgeable (t : Table) : Type 0 where
-  pub follow : Followable t
-  pub ahead : t .lookahead ≤ 15
-
--- the checker's outcome: a record that is accepted gives no bytes
-unfoldable pub checkedOnly : List ℕ → Outcome (List ℕ)
-checkedOnly xs = onward (parse xs) (λ c. done [])

@@ -1,22 +1,16 @@
--- A record read, with its refusals: "Record: 8 below four bytes, header by 7, 8, the rest by 7, 9, 10."
--- In order: goodHead; goodField, goodFields, goodTarget, filler, goodRest; judged, checked, parsed, parse; packInto,
--- a record into lent bytes.
+-- The tests of a record's fields, and a record written into lent bytes.
+-- In order: goodHead; goodField, goodFields, goodTarget, filler, goodRest; packInto.
 -- Assumes nothing.
 use mathlib.Core.Bool.{Bool, true, _&&_}
 use mathlib.Core.List.{List}
 use Prim.Native.Nat.{ℕ, zero, suc, _*_, _^_}
 use lib.Dec.{ltb, leb, eqb}
-use lib.ListN.{length, getD, drop}
+use lib.ListN.{getD, drop}
 use Rattle.laws.specs.Lists.{if_then_else_, all}
-use Rattle.answer.specs.declared.Refusal.{Refusal}
-use Rattle.answer.specs.declared.Refusal.the-variants.{Field, Length, Disobeys, WindowFails}
-use Rattle.answer.specs.Outcomes.{Outcome, done, unless, fitting}
-use Rattle.bits.specs.Fields.{read, bitsOf}
+use Rattle.answer.specs.Outcomes.{Outcome, fitting}
 use Rattle.table.specs.Rows.{Edge, Code}
-use Rattle.windows.specs.Works.{works}
-use Rattle.obeying.specs.Obeys.{obeys}
 use Rattle.table.specs.Formed.{Head}
-use Rattle.record.specs.Layout.{header, headOf, size, widths, codeOf, pack}
+use Rattle.record.specs.Layout.{pack}
 
 -- what the widths of the header's fields leave open: p 1 to 4, q 1 to 8, and a start that is a constraint state
 abbrev pub goodHead : Head → Bool
@@ -45,25 +39,6 @@ abbrev pub goodRest : Head → List ℕ → Code → Bool
 goodRest h vs c =
     goodFields (h .count) (h .count) (drop 7 vs)
     && (all (all (goodTarget (h .states))) (c .table) && eqb (filler h vs) 0)
-
--- a code whose fields are in range: "9, 10"
-abbrev pub judged : Code → Outcome Code
-judged c = unless Disobeys (obeys c) (unless WindowFails (works (c .table) (c .window)) (done c))
-
--- l bytes with the header h and the fields vs, which name the code c: "header by 7, 8, the rest by 7"
-abbrev pub checked : ℕ → Head → List ℕ → Code → Outcome Code
-checked l h vs c =
-    unless Field (goodHead h) (unless Length (eqb l (size h)) (unless Field (goodRest h vs c) (judged c)))
-
--- l bytes with the header h and the bits bs
-abbrev pub parsed : ℕ → Head → List ℕ → Outcome Code
-parsed l h bs = let vs = read (widths h) bs in checked l h vs (codeOf h vs)
-
--- the code that bytes hold, or the refusal: "8 below four bytes" first
-unfoldable pub parse : List ℕ → Outcome Code
-parse xs =
-    unless Length (leb 4 (length xs))
-    (let bs = bitsOf xs in parsed (length xs) (headOf (read header bs)) bs)
 
 -- the record of a code in lent bytes, with 13 where they are too few
 unfoldable pub packInto : Code → ℕ → Outcome (List ℕ)

@@ -12,7 +12,7 @@ use lib.ListN.{length, getD, take, drop}
 use Rattle.answer.specs.declared.Refusal.the-variants.{Length}
 use Rattle.answer.specs.Outcomes.{Outcome, done}
 use Rattle.table.specs.Rows.{Code}
-use Rattle.record.specs.Parse.{parse}
+use Rattle.checker.specs.Parse.{parse}
 use Rattle.sets.specs.declared.Place.the-variants.{At}
 use Rattle.sets.specs.Sets.{Walk, codes, stopped, next, walked, readSet}
 use Rattle.sets.specs.Offsets.{lengthAt, endAt, placeAt, offsetOf, recordPlace}

@@ -18,9 +18,9 @@ use Rattle.table.specs.Rows.{Code}
 use Rattle.laws.specs.Sums.{Below}
 use Rattle.laws.proofs.Lists.{below-take, below-drop}
 use Rattle.record.specs.Layout.{pack}
-use Rattle.record.specs.Parse.{parse}
+use Rattle.checker.specs.Parse.{parse}
 use Rattle.answer.specs.Outcomes.{Outcome, done, refused}
-use Rattle.record.proofs.RecordRead.{parse-good}
+use Rattle.checker.proofs.Parse.{parse-good}
 use Rattle.sets.specs.Sets.{Walk, codes, stopped, also, next, walked, readSet, framed, writeSet, Readable}
 use Rattle.answer.specs.declared.Refusal.the-variants.{Length}
 

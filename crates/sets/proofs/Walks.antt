@@ -20,8 +20,7 @@ use Rattle.answer.specs.declared.Answer.{Answer}
 use Rattle.answer.specs.declared.Answer.the-variants.{Done, Refused}
 use Rattle.answer.specs.Outcomes.{Outcome, done, refused, onward, answerOf}
 use Rattle.table.specs.Rows.{Code}
-use Rattle.record.specs.Parse.{parse}
-use Rattle.record.specs.Checks.{checkedOnly}
+use Rattle.checker.specs.Parse.{parse, checkedOnly}
 use Rattle.sets.specs.declared.SetAnswer.{SetAnswer}
 use Rattle.sets.specs.declared.SetAnswer.the-variants.{Good, Bad}
 use Rattle.sets.specs.declared.walking.Step.{Step}

@@ -10,7 +10,7 @@ use Rattle.answer.specs.declared.Refusal.the-variants.{Length}
 use Rattle.answer.specs.Outcomes.{Outcome, done, refused}
 use Rattle.answer.specs.Refusals.{numberOf}
 use Rattle.table.specs.Rows.{Code}
-use Rattle.record.specs.Parse.{parse}
+use Rattle.checker.specs.Parse.{parse}
 use Rattle.sets.specs.declared.SetAnswer.{SetAnswer}
 use Rattle.sets.specs.declared.SetAnswer.the-variants.{Good, Bad}
 use Rattle.sets.specs.declared.walking.Step.{Step}

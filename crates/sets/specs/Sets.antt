@@ -12,7 +12,7 @@ use Rattle.answer.specs.declared.Refusal.the-variants.{Length}
 use Rattle.answer.specs.Outcomes.{Outcome, done, refused}
 use Rattle.table.specs.Rows.{Code}
 use Rattle.record.specs.Layout.{pack}
-use Rattle.record.specs.Parse.{parse}
+use Rattle.checker.specs.Parse.{parse}
 
 -- what a walk comes to: the codes of all records, or "the first bad one [..] with its number from 0 and its refusal"
 pub data Walk : Type 0 where

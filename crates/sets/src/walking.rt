@@ -9,7 +9,7 @@ use super::read;
 use answer::Answer;
 use answer::Refusal;
 use answer::refusal_number;
-use record::loading::check;
+use checker::check;
 
 // One step of the walk: a good record that ends at an offset; or the refusal that ends the walk.
 pub enum Step {

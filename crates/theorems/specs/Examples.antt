@@ -15,7 +15,9 @@ use Rattle.windows.specs.Search.{sizes, window}
 use Rattle.obeying.specs.Obeys.{obeys}
 use Rattle.obeying.specs.Accepted.{accepted}
 use Rattle.record.specs.Layout.{pack}
-use Rattle.record.specs.Parse.{parse, packInto}
+use Rattle.record.specs.Parse.{packInto}
+use Rattle.record.specs.Checks.{fieldsChecked}
+use Rattle.checker.specs.Parse.{parse}
 use Rattle.codec.specs.Answers.{encoded, decoded, encodeUnder, decodeUnder}
 use Rattle.graph.specs.Arcs.{power}
 use Rattle.graph.specs.Weights.{weights}
@@ -123,8 +125,8 @@ pub record Examples : Type 0 where
 
 -- they hold
 pub examples : Examples
-unfolding readJob readRunLength compile compileRunLength packInto pack parse encoded decoded encodeUnder
-    decodeUnder works sizes window obeys power weights componentStates componentGraph split splits
+unfolding readJob readRunLength compile compileRunLength packInto pack fieldsChecked parse encoded decoded
+    encodeUnder decodeUnder works sizes window obeys power weights componentStates componentGraph split splits
     splitAll tableStates tableOf
 examples = record {
   e1-weights = refl;

@@ -18,12 +18,11 @@ use Rattle.windows.specs.Window.{Window, NoLater}
 use Rattle.table.specs.Formed.{formed}
 use Rattle.obeying.specs.Accepted.{Accepted}
 use Rattle.record.specs.Layout.{pack}
-use Rattle.record.specs.Parse.{parse, judged}
-use Rattle.record.proofs.RecordWrite.{parse-pack}
-use Rattle.record.specs.Checks.{checkedOnly}
-use Rattle.record.specs.Reasons.{Reason}
-use Rattle.record.proofs.Reasons.{reason}
-use Rattle.record.proofs.Accepted.{check-exact, parse-canonical}
+use Rattle.checker.specs.Parse.{parse, judged, checkedOnly}
+use Rattle.checker.proofs.Parse.{parse-pack}
+use Rattle.checker.specs.Reasons.{Reason}
+use Rattle.checker.proofs.Reasons.{reason}
+use Rattle.checker.proofs.Accepted.{check-exact, parse-canonical}
 use Rattle.reading.specs.Reading.{mark, block}
 use Rattle.codec.specs.Answers.{encodeUnder, decodeUnder}
 use Rattle.codec.specs.Damage.{StandsClear, Recording}

@@ -14,8 +14,7 @@ use Rattle.answer.specs.declared.Answer.{Answer}
 use Rattle.answer.specs.Answers.{answerNumber, answerValue}
 use Rattle.answer.specs.Outcomes.{Outcome, done, refused, onward, fitting, answerOf, outputOf}
 use Rattle.table.specs.Rows.{Code}
-use Rattle.record.specs.Parse.{parse}
-use Rattle.record.specs.Checks.{checkedOnly}
+use Rattle.checker.specs.Parse.{parse, checkedOnly}
 use Rattle.codec.specs.Answers.{encodeUnder, decodeUnder}
 use Rattle.compiler.specs.Compile.{compileJob, compileRunLength}
 use Rattle.compiler.specs.Listing.{listingOf}

@@ -11,7 +11,7 @@ use lib.ListN.{length, getD, replicate}
 use Rattle.laws.specs.Lists.{if_then_else_}
 use Rattle.answer.specs.Answers.{answerNumber, answerValue}
 use Rattle.answer.specs.Outcomes.{Outcome, fitting, answerOf, outputOf}
-use Rattle.record.specs.Checks.{checkedOnly}
+use Rattle.checker.specs.Parse.{checkedOnly}
 use Rattle.codec.specs.Answers.{encodeUnder, decodeUnder}
 use Rattle.compiler.specs.Compile.{compileJob, compileRunLength}
 use Rattle.compiler.specs.Listing.{listingOf}

@@ -2,7 +2,7 @@
 -- Assumes nothing.
 use denote.Ref.{now}
 use lib.ListN.{length}
-use Rattle.record.specs.Parse.{parse}
+use Rattle.checker.specs.Parse.{parse}
 use Rattle.text.proofs.Adding.{added-same, added-more}
 use Rattle.command.specs.SetText.{kindText}
 use Rattle.command.proofs.SetText.{line-bad, line-good}

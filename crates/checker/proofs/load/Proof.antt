@@ -3,9 +3,9 @@
 use mathlib.Core.Path.{sym, _∙_}
 use borrow.Author.Needs.{needs}
 use denote.Ref.{now}
-use Rattle.record.proofs.RecordFollow.{judgeable, fields-read, parse-read, parse-bad}
-use Rattle.record.proofs.loading.load.Statement.{statement}
-use Rattle.record.proofs.loading.load.Tie as tie
+use Rattle.checker.proofs.Follow.{judgeable, fields-read, parse-read, parse-bad}
+use Rattle.checker.proofs.load.Statement.{statement}
+use Rattle.checker.proofs.load.Tie as tie
 
 read-requires : tie.Need-read-requires
 read-requires c κs = search needs

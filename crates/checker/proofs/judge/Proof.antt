@@ -4,9 +4,9 @@ use mathlib.Core.Path.{sym, _∙_}
 use borrow.Author.Tests.{not-true, not-false}
 use borrow.Author.Needs.{needs}
 use Rattle.table.specs.Value.{codeIn}
-use Rattle.record.proofs.RecordFollow.{judged-disobeys, judged-fails, judged-good}
-use Rattle.record.proofs.loading.judge.Statement.{statement}
-use Rattle.record.proofs.loading.judge.Tie as tie
+use Rattle.checker.proofs.Follow.{judged-disobeys, judged-fails, judged-good}
+use Rattle.checker.proofs.judge.Statement.{statement}
+use Rattle.checker.proofs.judge.Tie as tie
 
 obeys-requires : tie.Need-obeys-requires
 obeys-requires c κs = c .pre .follow

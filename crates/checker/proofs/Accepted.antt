@@ -15,11 +15,9 @@ use Rattle.obeying.specs.Accepted.{Accepted}
 use Rattle.table.proofs.Formed.{formed→}
 use Rattle.obeying.proofs.Exact.{obeys-exact}
 use Rattle.obeying.proofs.Accepted.{window-exact}
 use Rattle.record.specs.Layout.{pack}
-use Rattle.record.specs.Parse.{parse}
-use Rattle.record.specs.Checks.{checkedOnly}
-use Rattle.record.proofs.RecordWrite.{parse-pack-good}
-use Rattle.record.proofs.RecordRead.{parse-good}
+use Rattle.checker.specs.Parse.{parse, checkedOnly}
+use Rattle.checker.proofs.Parse.{parse-good, parse-pack-good}
 
 pub parse-exact : (xs : List ℕ) → Below 256 xs → (c : Code)
     → (parse xs ≡ done c) ↔ (T (formed c) × (pack c ≡ xs) × Accepted c)

@@ -20,17 +20,18 @@ use Rattle.table.specs.declared.Table.{Table}
 use Rattle.table.specs.Rows.{Code}
 use Rattle.table.specs.Formed.{goodNext}
 use Rattle.table.specs.Value.{codeIn, Ready}
 use Rattle.record.specs.Layout.{header, headOf, size, widths, nextsOf}
-use Rattle.record.specs.Parse.{goodHead, goodFields, goodTarget, filler, judged, parse}
-use Rattle.record.specs.Checks.{codeAt, restGood, fieldsChecked, Judgeable, outcomeIn, verdictOf, checkedOnly}
+use Rattle.record.specs.Parse.{goodHead, goodFields, goodTarget, filler}
+use Rattle.record.specs.Checks.{codeAt, restGood, fieldsChecked, outcomeIn, verdictOf}
 use Rattle.record.proofs.RecordAgain.{nexts-good, length-nextsOf}
-use Rattle.record.proofs.RecordReading.{below-bytes, ranges-of, parse-fields}
+use Rattle.record.proofs.RecordReading.{below-bytes, ranges-of}
+use Rattle.checker.specs.Parse.{judged, parse, checkedOnly, Judgeable}
 use Rattle.windows.specs.Works.{works}
 use Rattle.obeying.specs.Obeys.{obeys}
 use Rattle.answer.specs.declared.Refusal.{Refusal}
 use Rattle.answer.specs.declared.Answer.the-variants.{Done, Refused}
 use Rattle.record.specs.declared.Reading.{Reading}
 use Rattle.record.specs.declared.Verdict.the-variants.{Read, Bad}
 
 pub judgeable : (xs : List ℕ) (t : Table) → Ready t → fieldsChecked xs ≡ done (codeIn t) → Judgeable t
 unfolding fieldsChecked
@@ -88,12 +89,14 @@ fields-read xs r e q = sym e ∙ ap (λ v. verdictOf v (codeIn (r .table))) q
 
 pub parse-read : (xs : List ℕ) (r : Reading) → outcomeIn r ≡ fieldsChecked xs → r .verdict ≡ Read
     → parse xs ≡ judged (codeIn (r .table))
-parse-read xs r e q = parse-fields xs ∙ ap (λ o. onward o judged) (fields-read xs r e q)
+unfolding parse
+parse-read xs r e q = ap (λ o. onward o judged) (fields-read xs r e q)
 
 pub parse-bad : (xs : List ℕ) (r : Reading) (x : Refusal) → outcomeIn r ≡ fieldsChecked xs → r .verdict ≡ Bad x
     → parse xs ≡ refused x
+unfolding parse
 parse-bad xs r x e q =
-    parse-fields xs ∙ ap (λ o. onward o judged) (sym e ∙ ap (λ v. verdictOf v (codeIn (r .table))) q)
+    ap (λ o. onward o judged) (sym e ∙ ap (λ v. verdictOf v (codeIn (r .table))) q)
 
 -- ---- the checker's answer
 pub check-bad : (xs : List ℕ) (r : Reading) (x : Refusal) → outcomeIn r ≡ parse xs → r .verdict ≡ Bad x

@@ -2,9 +2,9 @@
 -- Assumes nothing.
 use borrow.Author.Needs.{needs}
 use denote.Ref.{now}
-use Rattle.record.proofs.RecordFollow.{check-bad, check-read}
-use Rattle.record.proofs.loading.check.Statement.{statement}
-use Rattle.record.proofs.loading.check.Tie as tie
+use Rattle.checker.proofs.Follow.{check-bad, check-read}
+use Rattle.checker.proofs.check.Statement.{statement}
+use Rattle.checker.proofs.check.Tie as tie
 
 load-requires : tie.Need-load-requires
 load-requires c κs = search needs

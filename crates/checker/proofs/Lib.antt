@@ -1,0 +1,4 @@
+pub mod Parse
+pub mod Follow
+pub mod Accepted
+pub mod Reasons
