@@ -2,6 +2,7 @@
 ghost use mathlib.Core.Path.{_≡_};
 ghost use Rattle.answer.specs.Refusals.{numberOf, placeOf};
 ghost use Rattle.answer.specs.Answers.{answerNumber, answerValue};
+pub mod bytes;
 
 // Why a call declines, with a case for each number of document 01's table.
 pub enum Refusal {

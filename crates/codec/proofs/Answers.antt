@@ -1,23 +1,21 @@
 -- Demand 2, second half, of the outcomes of encoding and decoding under a code: round trip, and recordings recognised.
--- In order: firstBad-below, below-firstBad; allBelow-true, allBelow→; words-below; →encoded, encoded→, →decoded,
--- decoded→; returns; recognised-answers.
+-- In order: words-below; →encoded, encoded→, →decoded, decoded→; returns; recognised-answers.
 -- Assumes nothing.
-use mathlib.Core.Path.{_≡_, refl, sym, ap, subst, _∙_}
+use mathlib.Core.Path.{_≡_, sym, ap, subst, _∙_}
 use mathlib.Core.Logic.{_↔_}
-use mathlib.Core.Bool.{Bool, true, false}
-use mathlib.Core.List.{List, [], _∷_, _++_}
-use Prim.Native.Nat.{ℕ, suc, _+_, _-_, _^_, _≤_, _<_}
+use mathlib.Core.List.{List, _++_}
+use Prim.Native.Nat.{ℕ, _+_, _-_, _^_, _≤_}
 use native.Mathlib.Omega.{arith}
-use lib.Dec.{T, ltb, leb, eqb, ltb→lt, le→leb, leb→le, eqb→eq, eqb-refl}
+use lib.Dec.{leb, le→leb, leb→le}
 use lib.Pow.{pow-pos}
 use lib.ListN.{length, replicate}
-use borrow.Author.Tests.{lt-ltb}
-use Rattle.laws.specs.Lists.{if_then_else_}
 use Rattle.laws.specs.Sums.{Below}
 use Rattle.laws.proofs.Lists.{below-append, below-zeros}
-use Rattle.answer.specs.declared.Refusal.the-variants.{BadByte, TooFewWords, ShortOutput}
-use Rattle.answer.specs.Outcomes.{Outcome, done, unless}
-use Rattle.answer.proofs.Outcomes.{done-inj, unless-true, unless→}
+use Rattle.answer.specs.declared.Refusal.the-variants.{TooFewWords, ShortOutput}
+use Rattle.answer.specs.Outcomes.{done, unless}
+use Rattle.answer.specs.FirstBad.{allBelow}
+use Rattle.answer.proofs.FirstBad.{allBelow-true, allBelow→}
+use Rattle.answer.proofs.Outcomes.{unless-true, unless→}
 use Rattle.table.specs.Rows.{Code}
 use Rattle.table.specs.Paths.{Blocks, recording}
 use Rattle.windows.specs.Window.{Window}
@@ -27,33 +25,9 @@ use Rattle.table.proofs.Paths.{length-recording, blocks→path, path-words}
 use Rattle.table.proofs.Shape.{words}
 use Rattle.obeying.proofs.Accepted.{sound}
 use Rattle.reading.specs.Reading.{decode}
-use Rattle.codec.specs.Answers.{firstBad, allBelow, encoded, decoded}
+use Rattle.codec.specs.Answers.{encoded, decoded}
 use Rattle.codec.specs.Damage.{Recording}
 use Rattle.codec.proofs.RoundTrip.{decode-recording}
-
--- ---- the first bad byte
-pub firstBad-below : (n : ℕ) (xs : List ℕ) → Below n xs → firstBad n xs ≡ length xs
-firstBad-below n [] b = refl
-firstBad-below n (x ∷ xs) (a, b) = rw (lt-ltb x n a) (ap suc (firstBad-below n xs b))
-
-pub below-firstBad : (n : ℕ) (xs : List ℕ) → firstBad n xs ≡ length xs → Below n xs
-below-firstBad n [] e = tt
-below-firstBad n (x ∷ xs) e = go (ltb x n) refl e (λ e′. below-firstBad n xs e′)
-  where
-    go : (b : Bool) → ltb x n ≡ b → (if b then suc (firstBad n xs) else 0) ≡ suc (length xs)
-        → (firstBad n xs ≡ length xs → Below n xs) → (x < n) × Below n xs
-    go true t e f = (ltb→lt x n (rw t tt), f (omega arith))
-    go false t e f = absurd (omega arith)
-
-pub allBelow-true : (n : ℕ) (xs result : List ℕ) → Below n xs → allBelow n xs result ≡ done result
-allBelow-true n xs result b =
-    unless-true (BadByte (firstBad n xs)) (eqb (firstBad n xs) (length xs)) (done result)
-    (rw (firstBad-below n xs b) (eqb-refl (length xs)))
-
-pub allBelow→ : (n : ℕ) (xs result ys : List ℕ) → allBelow n xs result ≡ done ys → Below n xs × (result ≡ ys)
-allBelow→ n xs result ys e =
-    let (t, q) = unless→ (BadByte (firstBad n xs)) (eqb (firstBad n xs) (length xs)) (done result) ys e in
-    (below-firstBad n xs (eqb→eq (firstBad n xs) (length xs) t), done-inj result ys q)
 
 -- ---- when encoding and decoding are done
 module _ (c : Code) where

@@ -1,25 +1,26 @@
 -- Encoding and decoding under a table by value, check by check.
--- In order: declined, finished, an outcome as the code answers it; bad-le; encode-7 to encode-done; decode-7 to
+-- In order: declined, finished, an outcome as the code answers it; encode-7 to encode-done; decode-7 to
 -- decode-done.
 -- Assumes nothing.
 use mathlib.Core.Path.{_≡_, sym, ap, _∙_}
-use mathlib.Core.Bool.{Bool, true, false}
-use mathlib.Core.List.{List, [], _∷_, _++_}
-use Prim.Native.Nat.{ℕ, suc, _+_, _-_, _^_, _≤_, _<_}
+use mathlib.Core.Bool.{true, false}
+use mathlib.Core.List.{List, _++_}
+use Prim.Native.Nat.{ℕ, _+_, _-_, _^_, _≤_, _<_}
 use native.Mathlib.Omega.{arith}
-use borrow.Author.Tests.{lt-leb, le-leb, eq-eqb, ne-eqb}
-use lib.Dec.{ltb, leb}
+use borrow.Author.Tests.{lt-leb, le-leb}
+use lib.Dec.{leb}
 use lib.ListN.{length, drop}
-use Rattle.laws.specs.Lists.{if_then_else_}
 use Rattle.answer.specs.declared.Refusal.{Refusal}
 use Rattle.answer.specs.declared.Refusal.the-variants.{Field, BadByte, TooFewWords, ShortOutput}
 use Rattle.answer.specs.declared.Answer.the-variants.{Done, Refused}
 use Rattle.answer.specs.Outcomes.{Outcome, done, refused, unless, answerOf, outputOf}
+use Rattle.answer.specs.FirstBad.{firstBad, allBelow}
+use Rattle.answer.proofs.FirstBad.{bad-le, below-bad, below-done}
 use Rattle.table.specs.declared.Table.{Table}
 use Rattle.table.specs.Paths.{recording}
 use Rattle.table.specs.Value.{codeIn, ready}
 use Rattle.reading.specs.Reading.{decode}
-use Rattle.codec.specs.Answers.{firstBad, allBelow, encoded, decoded}
+use Rattle.codec.specs.Answers.{encoded, decoded}
 use Rattle.codec.specs.With.{encodedWith, decodedWith}
 
 -- ---- an outcome as the code answers it
@@ -31,24 +32,6 @@ pub finished : (o : Outcome (List ℕ)) (xs out out′ : List ℕ) (n : ℕ) →
     → out′ ≡ xs ++ drop n out → (Done n ≡ answerOf o) × (out′ ≡ outputOf o out)
 finished o xs out out′ n e q b =
     (ap Done q ∙ sym (ap answerOf e), b ∙ ap (λ k. xs ++ drop k out) q ∙ sym (ap (λ x. outputOf x out) e))
-
-pub bad-le : (n : ℕ) (xs : List ℕ) → firstBad n xs ≤ length xs
-bad-le n [] = omega arith
-bad-le n (x ∷ xs) = go (ltb x n) (bad-le n xs)
-  where
-    go : (b : Bool) → firstBad n xs ≤ length xs → (if b then suc (firstBad n xs) else 0) ≤ suc (length xs)
-    go true h = omega arith
-    go false h = omega arith
-
--- ---- the check of refusal 11
-module _ (n : ℕ) (xs result : List ℕ) where
-  below-bad : firstBad n xs < length xs → allBelow n xs result ≡ refused (BadByte (firstBad n xs))
-  below-bad h =
-      ap (λ b. unless (BadByte (firstBad n xs)) b (done result))
-      (ne-eqb (firstBad n xs) (length xs) (λ e. omega arith))
-
-  below-done : firstBad n xs ≡ length xs → allBelow n xs result ≡ done result
-  below-done e = ap (λ b. unless (BadByte (firstBad n xs)) b (done result)) (eq-eqb (firstBad n xs) (length xs) e)
 
 -- ---- encoding
 module _ (t : Table) (room : ℕ) (ds : List ℕ) where

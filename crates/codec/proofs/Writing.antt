@@ -1,5 +1,5 @@
 -- Laws of lists that are read and written byte by byte.
--- In order: bad-here, bad-later, bad-end; put-more, one byte more; Writes, the words of a path written so far, with
+-- In order: put-more, one byte more; Writes, the words of a path written so far, with
 -- writes-start, writes-more, writes-end; split-front; recorded, recorded-in, blocks and closing words; map-more, bytes
 -- that a function gives, place by place.
 -- Assumes nothing.
@@ -9,9 +9,8 @@ use Prim.Native.Nat.{ℕ, zero, suc, _+_, _-_, _*_, _^_, _≤_, _<_}
 use native.Mathlib.Nat.{zero-add, add-zero}
 use native.Mathlib.Numerals.{add-one}
 use native.Mathlib.Omega.{arith}
-use borrow.Author.Tests.{lt-ltb, le-ltb}
 use lib.ListN.{length, take, drop, getD, set, length-set, replicate, length-append, length-map}
-use lib.Seq.{take-suc, take-all, take-at, drop-at, drop-cons, drop-drop, drop-length, set-at, append-snoc}
+use lib.Seq.{take-suc, take-all, take-at, drop-at, drop-cons, drop-drop, set-at, append-snoc}
 use lib.Seq.{length-take-le}
 use Rattle.laws.specs.Lists.{from, range}
 use Rattle.laws.proofs.Tests.{length-from}
@@ -22,18 +21,6 @@ use Rattle.table.specs.Value.{codeIn}
 use Rattle.table.specs.Edges.{Arrays, Fits, arrays, edgeOf, rowsOf}
 use Rattle.table.proofs.Paths.{length-spells, spells-append, ends-append}
 use Rattle.table.proofs.RowsOf.{edge-at, place-next}
-use Rattle.codec.specs.Answers.{firstBad}
-
--- ---- the first bad byte
-module _ (n : ℕ) (xs : List ℕ) (i : ℕ) where
-  pub bad-here : i < length xs → n ≤ getD xs i 0 → firstBad n (drop i xs) ≡ 0
-  bad-here h l = rw (drop-cons xs i 0, le-ltb _ _ l)
-
-  pub bad-later : i < length xs → getD xs i 0 < n → firstBad n (drop i xs) ≡ suc (firstBad n (drop (i + 1) xs))
-  bad-later h l = rw (drop-cons xs i 0, lt-ltb _ _ l, add-one)
-
-  pub bad-end : i ≡ length xs → firstBad n (drop i xs) ≡ 0
-  bad-end e = ap (firstBad n) (ap (λ k. drop k xs) e ∙ drop-length xs)
 
 -- ---- one byte more
 pub put-more : (xs out : List ℕ) (i w : ℕ) → length xs ≡ i → i < length out

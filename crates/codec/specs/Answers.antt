@@ -1,27 +1,18 @@
 -- Encoding and decoding with their refusals: "Encode: record, 13, 11. Decode: record, 12, 13, 11."
--- In order: firstBad; encoded and decoded, under a loaded code; encodeUnder and decodeUnder, under a record's bytes.
+-- In order: encoded and decoded, under a loaded code; encodeUnder and decodeUnder, under a record's bytes.
 -- `room` is the length of the output that was lent.
 -- Assumes nothing.
-use mathlib.Core.List.{List, [], _∷_}
-use Prim.Native.Nat.{ℕ, suc, _+_, _-_, _^_}
-use lib.Dec.{ltb, leb, eqb}
+use mathlib.Core.List.{List}
+use Prim.Native.Nat.{ℕ, _+_, _-_, _^_}
+use lib.Dec.{leb}
 use lib.ListN.{length}
-use Rattle.laws.specs.Lists.{if_then_else_}
-use Rattle.answer.specs.declared.Refusal.the-variants.{BadByte, TooFewWords, ShortOutput}
-use Rattle.answer.specs.Outcomes.{Outcome, done, unless, onward}
+use Rattle.answer.specs.declared.Refusal.the-variants.{TooFewWords, ShortOutput}
+use Rattle.answer.specs.Outcomes.{Outcome, unless, onward}
+use Rattle.answer.specs.FirstBad.{allBelow}
 use Rattle.table.specs.Rows.{Code}
 use Rattle.table.specs.Paths.{recording}
 use Rattle.checker.specs.Parse.{parse}
 use Rattle.reading.specs.Reading.{decode}
-
--- "the place of the first bad byte, counted from 0": the first that is not below n, or the length where there is none
-abbrev pub firstBad : ℕ → List ℕ → ℕ
-firstBad n [] = 0
-firstBad n (x ∷ xs) = let r = suc (firstBad n xs) in if ltb x n then r else 0
-
--- "block ≥ 2^p, or word ≥ 2^q": the result, unless a byte is not below n
-abbrev pub allBelow : ℕ → List ℕ → List ℕ → Outcome (List ℕ)
-allBelow n xs result = unless (BadByte (firstBad n xs)) (eqb (firstBad n xs) (length xs)) (done result)
 
 -- the recording of blocks: "13, 11"
 unfoldable pub encoded : Code → ℕ → List ℕ → Outcome (List ℕ)

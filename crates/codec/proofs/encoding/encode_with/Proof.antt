@@ -17,9 +17,9 @@ use Rattle.table.proofs.Paths.{length-recording}
 use Rattle.table.proofs.ReadyTables.{ready→}
 use Rattle.table.proofs.RowsOf.{fits-lent}
 use Rattle.codec.specs.With.{encodedWith}
-use Rattle.codec.proofs.Answers.{below-firstBad}
+use Rattle.answer.proofs.FirstBad.{below-firstBad, bad-le}
 use Rattle.codec.proofs.Writing.{recorded-in}
-use Rattle.codec.proofs.Tabled.{declined, finished, bad-le, encode-7, encode-13, encode-11, encode-done}
+use Rattle.codec.proofs.Tabled.{declined, finished, encode-7, encode-13, encode-11, encode-done}
 use borrow.Author.Needs.{needs}
 use Rattle.codec.proofs.encoding.encode_with.Statement.{statement}
 use Rattle.codec.proofs.encoding.encode_with.Tie as tie

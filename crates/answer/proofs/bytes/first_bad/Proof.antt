@@ -1,7 +1,7 @@
 -- Where the greatest byte is below n, no byte is bad.
 use borrow.Author.Needs.{needs}
-use Rattle.codec.proofs.bytes.first_bad.Statement.{statement}
-use Rattle.codec.proofs.bytes.first_bad.Tie as tie
+use Rattle.answer.proofs.bytes.first_bad.Statement.{statement}
+use Rattle.answer.proofs.bytes.first_bad.Tie as tie
 
 greatest-requires : tie.Need-greatest-requires
 greatest-requires c κs = search needs

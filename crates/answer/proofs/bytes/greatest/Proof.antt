@@ -5,11 +5,11 @@ use native.Mathlib.Nat.{zero-add, add-zero}
 use native.Mathlib.Omega.{arith}
 use denote.Ref.{now}
 use lib.ListN.{length, drop}
-use Rattle.codec.specs.Answers.{firstBad}
-use Rattle.codec.proofs.Writing.{bad-later, bad-end}
+use Rattle.answer.specs.FirstBad.{firstBad}
+use Rattle.answer.proofs.FirstBad.{bad-later, bad-end}
 use borrow.Author.Needs.{needs}
-use Rattle.codec.proofs.bytes.greatest.Statement.{statement}
-use Rattle.codec.proofs.bytes.greatest.Tie as tie
+use Rattle.answer.proofs.bytes.greatest.Statement.{statement}
+use Rattle.answer.proofs.bytes.greatest.Tie as tie
 
 abbrev Inv-loop : tie.InvT-loop
 Inv-loop bytes top₀ i₀ top i =

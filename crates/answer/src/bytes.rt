@@ -2,7 +2,7 @@
 ghost use mathlib.Core.Path.{_≡_};
 ghost use Prim.Native.Nat.{ℕ, _≤_, _<_};
 ghost use lib.ListN.{length};
-ghost use Rattle.codec.specs.Answers.{firstBad};
+ghost use Rattle.answer.specs.FirstBad.{firstBad};
 
 // The larger of two bytes.
 fn larger(a: u8, b: u8) -> u8
