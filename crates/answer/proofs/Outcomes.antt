@@ -1,7 +1,7 @@
 -- Laws of outcomes: what a finished result says of the checks before it.
--- In order: done-inj, refused-not; unless-true, unless-false, unless→; onward→; fitting-true, fitting→.
+-- In order: done-inj, refused-not; unless-true, unless-false, unless→; onward→; said-good, said-bad; fitting-true, fitting→.
 -- Assumes nothing.
-use mathlib.Core.Path.{_≡_, refl, sym, ap, subst}
+use mathlib.Core.Path.{_≡_, refl, sym, ap, subst, _∙_}
 use mathlib.Core.Bool.{Bool, true, false}
 use mathlib.Core.List.{List}
 use Prim.Native.Nat.{ℕ, _≤_}
@@ -9,7 +9,9 @@ use lib.Dec.{T, leb, leb→le, le→leb}
 use lib.ListN.{length}
 use Rattle.answer.specs.declared.Refusal.{Refusal}
 use Rattle.answer.specs.declared.Refusal.the-variants.{ShortOutput}
-use Rattle.answer.specs.Outcomes.{Outcome, done, refused, unless, onward, fitting}
+use Rattle.answer.specs.declared.Verdict.{Verdict}
+use Rattle.answer.specs.declared.Verdict.the-variants.{Good, Bad}
+use Rattle.answer.specs.Outcomes.{Outcome, done, refused, unless, onward, verdictOn, fitting}
 
 -- the result, or the one given
 result : {A : Type 0} → A → Outcome A → A
@@ -47,6 +49,14 @@ pub onward→ : {A B : Type 0} (a : Outcome A) (f : A → Outcome B) (y : B) →
     → (x : A) × (a ≡ done x) × (f x ≡ done y)
 onward→ (done x) f y e = (x, refl, e)
 onward→ (refused r) f y e = absurd (refused-not r y e)
+
+-- ---- what a check said
+module _ {A : Type 0} (v : Verdict) (a : A) (o : Outcome A) (e : verdictOn v a ≡ o) where
+  pub said-good : v ≡ Good → o ≡ done a
+  said-good q = sym e ∙ ap (λ v. verdictOn v a) q
+
+  pub said-bad : (r : Refusal) → v ≡ Bad r → o ≡ refused r
+  said-bad r q = sym e ∙ ap (λ v. verdictOn v a) q
 
 -- ---- the check of the room
 pub fitting-true : (room : ℕ) (xs : List ℕ) → length xs ≤ room → fitting room xs ≡ done xs

@@ -1,7 +1,7 @@
 -- What a call comes to, as the definitions say it: a finished result of any kind, or one refusal chosen by a fixed
 -- order of checks. A call that fills bytes lent for output has a list of bytes as its result.
--- In order: Outcome; unless, one check; onward, what is done with a result; fitting, the check of the room; answerOf,
--- the code's answer; outputOf, the lent bytes after the call.
+-- In order: Outcome; unless, one check; onward, what is done with a result; verdictOn, a value and what was said of
+-- it; fitting, the check of the room; answerOf, the code's answer; outputOf, the lent bytes after the call.
 -- Assumes nothing.
 use mathlib.Core.Bool.{Bool, true, false}
 use mathlib.Core.List.{List, _++_}
@@ -10,6 +10,8 @@ use lib.Dec.{leb}
 use lib.ListN.{length, drop}
 use Rattle.answer.specs.declared.Refusal.{Refusal}
 use Rattle.answer.specs.declared.Refusal.the-variants.{ShortOutput}
+use Rattle.answer.specs.declared.Verdict.{Verdict}
+use Rattle.answer.specs.declared.Verdict.the-variants.{Good, Bad}
 use Rattle.answer.specs.declared.Answer.{Answer}
 use Rattle.answer.specs.declared.Answer.the-variants.{Done, Refused}
 
@@ -27,6 +29,11 @@ unless r false a = refused r
 abbrev pub onward : {A B : Type 0} → Outcome A → (A → Outcome B) → Outcome B
 onward (done a) f = f a
 onward (refused r) f = refused r
+
+-- the value that a check found good, or why the check declines
+abbrev pub verdictOn : {A : Type 0} → Verdict → A → Outcome A
+verdictOn Good a = done a
+verdictOn (Bad r) a = refused r
 
 -- "lent output too short": the bytes, if there is room for them
 abbrev pub fitting : ℕ → List ℕ → Outcome (List ℕ)

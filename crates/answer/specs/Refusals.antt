@@ -1,5 +1,5 @@
 -- The refusals of document 01, "When the workshop declines": what the cases of the code's `Refusal` mean.
--- In order: numberOf, the number of the table; placeOf, the place that the answer names.
+-- In order: numberOf, the number of the table; most, the largest of them; placeOf, the place that the answer names.
 -- Assumes nothing.
 use Prim.Native.Nat.{ℕ}
 use Rattle.answer.specs.declared.Refusal.{Refusal}
@@ -22,6 +22,10 @@ numberOf WindowFails = 10
 numberOf (BadByte place) = 11
 numberOf TooFewWords = 12
 numberOf ShortOutput = 13
+
+-- the largest number of a refusal
+abbrev pub most : ℕ
+most = 13
 
 -- "for 11, the place of the first bad byte, counted from 0"; the others name no place, and 0 stands for it
 abbrev pub placeOf : Refusal → ℕ

@@ -2,6 +2,7 @@
 ghost use mathlib.Core.Path.{_≡_};
 ghost use Rattle.answer.specs.Refusals.{numberOf, placeOf};
 ghost use Rattle.answer.specs.Answers.{answerNumber, answerValue};
+
 pub mod bytes;
 
 // Why a call declines, with a case for each number of document 01's table.
@@ -32,6 +33,12 @@ pub enum Refusal {
     TooFewWords,
     // 13: the output that was lent is too short.
     ShortOutput,
+}
+
+// What a check says of a value that stands beside it: the value is good, or why it is declined.
+pub enum Verdict {
+    Good,
+    Bad(Refusal),
 }
 
 // The answer of a call that writes bytes: how many it wrote, or why it declines.
@@ -65,20 +72,10 @@ pub fn refusal_number(r: Refusal) -> u64
 pub fn refusal_place(r: Refusal) -> usize
     ensures answer { λ i. ⌜ i ≡ placeOf r ⌝ }
 {
-    match r {
-        Refusal::Parameters => 0,
-        Refusal::States => 0,
-        Refusal::NoCode => 0,
-        Refusal::TooHeavy => 0,
-        Refusal::TooManyEdges => 0,
-        Refusal::NoWindow => 0,
-        Refusal::Field => 0,
-        Refusal::Length => 0,
-        Refusal::Disobeys => 0,
-        Refusal::WindowFails => 0,
-        Refusal::BadByte(place) => place,
-        Refusal::TooFewWords => 0,
-        Refusal::ShortOutput => 0,
+    if let Refusal::BadByte(place) = r {
+        place
+    } else {
+        0
     }
 }
 

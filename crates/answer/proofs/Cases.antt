@@ -1,0 +1,53 @@
+-- The cases of `Refusal`, by where they stand in the code's list of them.
+-- In order: tag; number-tag, number-most, most-fits, place-none; others.
+-- Assumes nothing.
+use mathlib.Core.Path.{_≡_, refl, sym, subst}
+use mathlib.Core.List.{List, _++_}
+use Prim.Native.Nat.{ℕ, suc, _-_, _≤_}
+use native.Mathlib.Omega.{arith}
+use denote.Enum.Declared.{tagOf}
+use borrow.Enum.Match.{tag-small}
+use Rattle.laws.specs.Lists.{from}
+use Rattle.answer.specs.declared.Refusal.{Refusal}
+use Rattle.answer.specs.declared.Refusal.the-variants.{Parameters, States, NoCode, TooHeavy, TooManyEdges}
+use Rattle.answer.specs.declared.Refusal.the-variants.{NoWindow, Field, Length, Disobeys, WindowFails}
+use Rattle.answer.specs.declared.Refusal.the-variants.{BadByte, TooFewWords, ShortOutput}
+use Rattle.answer.specs.Refusals.{numberOf, most, placeOf}
+use Rattle.answer.proofs.Refusal.{the-type}
+
+-- where the case of a refusal stands in the list of them
+abbrev pub tag : Refusal → ℕ
+tag r = tagOf the-type r
+
+-- the numbers are in the order of the list, from 1; only 11 names a place
+case : (r : Refusal) → (numberOf r ≡ suc (tag r)) × ((numberOf r ≡ 11 → ⊥) → placeOf r ≡ 0)
+case Parameters = (refl, λ h. refl)
+case States = (refl, λ h. refl)
+case NoCode = (refl, λ h. refl)
+case TooHeavy = (refl, λ h. refl)
+case TooManyEdges = (refl, λ h. refl)
+case NoWindow = (refl, λ h. refl)
+case Field = (refl, λ h. refl)
+case Length = (refl, λ h. refl)
+case Disobeys = (refl, λ h. refl)
+case WindowFails = (refl, λ h. refl)
+case (BadByte place) = (refl, λ h. absurd (h refl))
+case TooFewWords = (refl, λ h. refl)
+case ShortOutput = (refl, λ h. refl)
+
+pub number-tag : (r : Refusal) → numberOf r ≡ suc (tag r)
+number-tag r = case r .0
+
+pub number-most : (r : Refusal) → numberOf r ≤ most
+number-most r = subst (λ n. n ≤ most) (sym (number-tag r)) (tag-small the-type r)
+
+-- a number is a byte
+pub most-fits : most ≤ 255
+most-fits = omega arith
+
+pub place-none : (r : Refusal) → (numberOf r ≡ 11 → ⊥) → placeOf r ≡ 0
+place-none r = case r .1
+
+-- where the cases with no place stand
+abbrev pub others : List ℕ
+others = from 0 10 ++ from 11 (most - 11)
