@@ -1,0 +1,3 @@
+pub mod TextLines
+pub mod Rows
+pub mod Phrases

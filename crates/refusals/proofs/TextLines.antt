@@ -1,0 +1,43 @@
+-- The lines of a text, byte by byte.
+-- In order: end-here, end-on, end-none; drop-least; rest-next.
+-- Assumes nothing.
+use mathlib.Core.Path.{_≡_, refl, sym, ap, _∙_}
+use mathlib.Core.Bool.{cond}
+use mathlib.Core.List.{List}
+use Prim.Native.Nat.{ℕ, suc, _+_, _≤_, _<_, min}
+use native.Mathlib.Nat.{min-eq-left, min-eq-right}
+use native.Mathlib.Numerals.{add-one}
+use native.Mathlib.Omega.{arith}
+use native.Mathlib.Decide.{decLe}
+use borrow.Author.Tests.{eq-eqb, ne-eqb}
+use lib.ListN.{length, getD, drop, drop-of-length-le}
+use lib.Seq.{drop-cons, drop-drop}
+use Rattle.refusals.specs.TextLines.{lineEnd, rest}
+
+module _ (xs : List ℕ) (i : ℕ) where
+  pub end-here : i < length xs → getD xs i 0 ≡ 10 → lineEnd (drop i xs) ≡ 0
+  end-here h e = rw (drop-cons xs i 0, eq-eqb _ _ e)
+
+  pub end-on : i < length xs → (getD xs i 0 ≡ 10 → ⊥) → lineEnd (drop i xs) ≡ suc (lineEnd (drop (i + 1) xs))
+  end-on h e = rw (drop-cons xs i 0, ne-eqb _ _ e, add-one)
+
+  pub end-none : length xs ≤ i → lineEnd (drop i xs) ≡ 0
+  end-none h = ap lineEnd (drop-of-length-le xs h)
+
+drop-least : (k : ℕ) (xs : List ℕ) → drop (min k (length xs)) xs ≡ drop k xs
+drop-least k xs = go (decLe k (length xs))
+  where
+    go : Dec (k ≤ length xs) → drop (min k (length xs)) xs ≡ drop k xs
+    go (yes h) = ap (λ m. drop m xs) (min-eq-left h)
+    go (no h) =
+        let l : length xs ≤ k = omega arith in
+        ap (λ m. drop m xs) (min-eq-right l) ∙ drop-of-length-le xs {i = length xs} (omega arith) ∙ sym (drop-of-length-le xs l)
+
+-- the place behind the line at `from` is where the text without one line more starts
+pub rest-next : (xs : List ℕ) (i from end to : ℕ) → drop from xs ≡ rest i xs → end ≡ from + lineEnd (drop from xs)
+    → to ≡ min (end + 1) (length xs) → drop to xs ≡ rest (i + 1) xs
+rest-next xs i from end to p e f =
+    let k : end + 1 ≡ from + suc (lineEnd (drop from xs)) = omega arith in
+    ap (λ m. drop m xs) f ∙ drop-least (end + 1) xs ∙ ap (λ m. drop m xs) k
+    ∙ sym (drop-drop (suc (lineEnd (drop from xs))) from xs) ∙ ap (λ ys. drop (suc (lineEnd ys)) ys) p
+    ∙ ap (λ m. rest m xs) (sym (add-one i))
