@@ -2,3 +2,4 @@ pub mod Parse
 pub mod Follow
 pub mod Accepted
 pub mod Reasons
+pub mod Meanings

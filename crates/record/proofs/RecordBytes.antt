@@ -1,31 +1,36 @@
 -- A record is bytes, at most 3,864 of them.
--- In order: pack-bytes, size-le.
+-- In order: value-take, read-bytes, pack-bytes; size-le, pack-short.
 -- Assumes nothing.
-use mathlib.Core.Path.{_≡_, sym, subst, _∙_}
-use Prim.Native.Nat.{_+_, _*_, _^_, _≤_}
-use native.Mathlib.Nat.{mul-le-mul, le-refl}
+use mathlib.Core.Path.{_≡_, sym, subst}
+use mathlib.Core.List.{List}
+use Prim.Native.Nat.{ℕ, zero, suc, _+_, _*_, _^_, _≤_, _<_}
+use native.Mathlib.Nat.{mul-le-mul, lt-of-lt-of-le}
 use native.Mathlib.Omega.{arith}
 use lib.Pow.{pow-mono}
-use lib.ListN.{length, replicate}
-use Rattle.laws.specs.Lists.{sum}
-use Rattle.table.specs.Rows.{Code}
-use Rattle.bits.specs.Fields.{write}
+use lib.ListN.{length, take, drop, replicate, length-take}
 use Rattle.laws.specs.Sums.{Below}
-use Rattle.bits.proofs.Fields.{below-write, length-write, fits-read, fits-below}
+use Rattle.laws.proofs.Lists.{below-take, below-drop}
+use Rattle.bits.specs.Fields.{value, read, write}
+use Rattle.bits.proofs.Fields.{value-lt, below-write}
+use Rattle.table.specs.Rows.{Code}
 use Rattle.table.specs.Formed.{Head, head, Ranges, Formed}
 use Rattle.record.specs.Layout.{size, widths, values, pack}
-use Rattle.record.proofs.RecordFits.{fits-values, sum-widths}
+use Rattle.record.proofs.RecordWrite.{length-pack}
 
-pub pack-bytes : (c : Code) → Formed c → Below 256 (pack c)
+-- the number in a field of w bits, where there are as many or fewer
+value-take : (w : ℕ) (bs : List ℕ) → Below 2 bs → value (take w bs) < 2 ^ w
+value-take w bs h =
+    lt-of-lt-of-le (value-lt (take w bs) (below-take 2 w bs h))
+    (pow-mono {i = length (take w bs)} {j = w} (rw (length-take w bs) (omega arith)))
+
+read-bytes : (n : ℕ) (bs : List ℕ) → Below 2 bs → Below 256 (read (replicate n 8) bs)
+read-bytes zero bs h = tt
+read-bytes (suc n) bs h = (value-take 8 bs h, read-bytes n (drop 8 bs) (below-drop 2 8 bs h))
+
+pub pack-bytes : (c : Code) → Below 256 (pack c)
 unfolding pack
-pack-bytes c f =
-    let e : length (write (widths (head c)) (values c)) ≡ sum (replicate (size (head c)) 8) =
-    length-write (widths (head c)) (values c) (fits-values c f) ∙ sum-widths (head c) in
-    fits-below (size (head c)) (pack c)
-    (fits-read (replicate (size (head c)) 8) (write (widths (head c)) (values c))
-    (below-write (widths (head c)) (values c))
-    (subst (λ n. sum (replicate (size (head c)) 8) ≤ n) (sym e)
-    (le-refl (sum (replicate (size (head c)) 8)))))
+pack-bytes c =
+    read-bytes (size (head c)) (write (widths (head c)) (values c)) (below-write (widths (head c)) (values c))
 
 pub size-le : (h : Head) → Ranges h → size h ≤ 3864
 size-le h r =
@@ -34,3 +39,7 @@ size-le h r =
     let b : 2 ^ h .p * (h .q + 7) ≤ 16 * 15 = mul-le-mul a q in
     let d : h .states * (2 ^ h .p * (h .q + 7)) ≤ 128 * (16 * 15) = mul-le-mul (r .s₂) b in
     omega (arith, r .k₂)
+
+-- every record fits in 3,864 bytes
+pub pack-short : (c : Code) → Formed c → length (pack c) ≤ 3864
+pack-short c f = subst (λ n. n ≤ 3864) (sym (length-pack c)) (size-le (head c) (f .range))

@@ -24,6 +24,7 @@ use Rattle.record.specs.Parts.{frontValues, frontBits, nextBits, stateBi
 use Rattle.record.proofs.RecordFits.{sum-widths}
 use Rattle.record.proofs.RecordParts.{length-fields, write-append}
 use Rattle.record.proofs.RecordWrite.{length-pack}
+use Rattle.record.proofs.RecordBytes.{pack-bytes}
 
 -- ---- the constraint
 length-nexts : (c : Constraint) → length {A = ℕ} (repeat (length c) (1 ∷ 4 ∷ 1 ∷ 4 ∷ [])) ≡ length (nexts c)
@@ -154,13 +155,6 @@ module _ (c : Code) (long : length (write (widths (head c)) (values c)) ≡ size
       ap (λ n. write (replicate n 8) (pack c)) (length-pack c)
       ∙ write-read (replicate (size (head c)) 8) W (below-write (widths (head c)) (values c)) filled
 
-  pack-below : Below 256 (pack c)
-  unfolding pack
-  pack-below =
-      fits-below (size (head c)) (pack c) (fits-read (replicate (size (head c)) 8) W
-      (below-write (widths (head c)) (values c))
-      (subst (λ n. sum (replicate (size (head c)) 8) ≤ n) (sym filled) (le-refl (sum (replicate (size (head c)) 8)))))
-
   pub bytes-are : (out new : List ℕ) → Below 256 out → Below 256 new → size (head c) ≤ length out
       → length new ≡ length out → bitsOf new ≡ spliced 0 W (bitsOf out) → new ≡ pack c ++ drop (length (pack c)) out
   bytes-are out new b d h l e =
@@ -170,6 +164,6 @@ module _ (c : Code) (long : length (write (widths (head c)) (values c)) ≡ size
       l ∙ sym (length-append (pack c) (drop k out) ∙ ap (λ n. k + n) (length-drop k out) ∙ omega arith) in
       let lw : k * 8 ≡ 0 + length W = omega arith in
       same-bytes new (pack c ++ drop k out) d
-      (below-append 256 (pack c) (drop k out) pack-below (below-drop 256 k out b)) ln
+      (below-append 256 (pack c) (drop k out) (pack-bytes c) (below-drop 256 k out b)) ln
       (e ∙ sym (bitsOf-append (pack c) (drop k out) ∙ ap₂ _++_ pack-bits
       (sym (drop-bytes k out) ∙ ap (λ n. drop n (bitsOf out)) lw)))

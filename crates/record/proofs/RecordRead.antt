@@ -1,5 +1,5 @@
 -- Bytes whose fields pass their checks are the record of the code that they name: a record is canonical.
--- In order: Checked, fields-good.
+-- In order: fields-again; Checked, fields-good.
 -- Assumes nothing.
 use mathlib.Core.Path.{_≡_, refl, sym, ap, ap₂, subst, _∙_}
 use mathlib.Core.Bool.{_&&_}
@@ -108,6 +108,17 @@ module _ (xs : List ℕ) (bytes : Below 256 xs) where
       fits-read (widths h) (bitsOf xs) (below-write (replicate (length xs) 8) xs)
       (subst (λ n. sum (widths h) ≤ n) lb (le-refl (sum (widths h))))
 
+  -- fields that are in range are those of a code in range, and the bytes are its record
+  pub fields-again : let h = headOf (read header (bitsOf xs)) in let vs = read (widths h) (bitsOf xs) in
+      length xs ≡ size h → T (goodHead h) → T (goodRest h vs (codeOf h vs))
+      → T (formed (codeOf h vs)) × (pack (codeOf h vs) ≡ xs)
+  fields-again l t u =
+      let h = headOf (read header (bitsOf xs)) in
+      let f = fits-again h l in (
+        formed-again _ _ _ _ _ _ _ _ f u t,
+        packed-again h (read (widths h) (bitsOf xs)) l refl (values-again _ _ _ _ _ _ _ _ f u),
+      )
+
   pub record Checked (c : Code) : Type 0 where
     pub formed : T (formed c)
     pub canonical : pack c ≡ xs
@@ -126,9 +137,5 @@ module _ (xs : List ℕ) (bytes : Below 256 xs) where
       let (t₂, e₂) = unless→ Length (eqb (length xs) (size h)) (unless Field (goodRest h vs d) (done d)) c e₁ in
       let (t₃, e₃) = unless→ Field (goodRest h vs d) (done d) c e₂ in
       let l : length xs ≡ size h = eqb→eq (length xs) (size h) t₂ in
-      let f = fits-again h l in
-      subst Checked (done-inj d c e₃) (record {
-        formed = formed-again _ _ _ _ _ _ _ _ f t₃ t₁;
-        canonical =
-            packed-again h vs l refl (values-again _ _ _ _ _ _ _ _ f t₃);
-      })
+      let (f, k) = fields-again l t₁ t₃ in
+      subst Checked (done-inj d c e₃) (record { formed = f; canonical = k })

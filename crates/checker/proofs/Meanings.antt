@@ -1,0 +1,70 @@
+-- Refusals 9 and 10 by their meanings: exactly the records whose fields are in range and whose recordings break the
+-- constraint, or whose window fails.
+-- In order: fails; disobeys-exact, window-fails-exact.
+-- Assumes nothing.
+use mathlib.Core.Path.{_≡_, refl, sym, ap, subst, _∙_}
+use mathlib.Core.Logic.{_↔_}
+use mathlib.Core.Bool.{Bool, true, false}
+use mathlib.Core.List.{List}
+use Prim.Native.Nat.{ℕ}
+use lib.Dec.{T}
+use Rattle.laws.specs.Sums.{Below}
+use Rattle.answer.specs.declared.Refusal.the-variants.{Disobeys, WindowFails}
+use Rattle.answer.specs.Outcomes.{done, refused, unless}
+use Rattle.answer.proofs.Outcomes.{unless-true, unless-false}
+use Rattle.table.specs.Rows.{Code}
+use Rattle.windows.specs.Window.{Window}
+use Rattle.windows.specs.Works.{works}
+use Rattle.obeying.specs.Obeys.{Obeys, obeys}
+use Rattle.table.specs.Formed.{formed}
+use Rattle.table.proofs.Formed.{formed→}
+use Rattle.obeying.proofs.Exact.{obeys-exact}
+use Rattle.obeying.proofs.Accepted.{window-exact}
+use Rattle.record.specs.Layout.{pack}
+use Rattle.checker.specs.Parse.{parse}
+use Rattle.checker.specs.Reasons.{codeFrom, Reason, disobedient, windowless}
+use Rattle.record.proofs.RecordRead.{fields-again}
+use Rattle.checker.proofs.Parse.{parse-pack}
+use Rattle.checker.proofs.Reasons.{reason}
+
+fails : (b : Bool) → (T b → ⊥) → b ≡ false
+fails true f = absurd (f tt)
+fails false f = refl
+
+module _ (xs : List ℕ) (bytes : Below 256 xs) where
+  -- 9: some recording breaks the constraint
+  pub disobeys-exact : (parse xs ≡ refused Disobeys)
+      ↔ ((c : Code) × T (formed c) × (pack c ≡ xs) × (Obeys c → ⊥))
+  disobeys-exact = ((λ e. there (subst (Reason xs) e (reason xs))), here)
+    where
+      there : Reason xs (refused Disobeys) → (c : Code) × T (formed c) × (pack c ≡ xs) × (Obeys c → ⊥)
+      there (disobedient s r e) =
+          let (f, k) = fields-again xs bytes (s .exact) (s .headed) r in
+          (codeFrom xs, f, k, λ o. subst T e (obeys-exact (codeFrom xs) (formed→ (codeFrom xs) f) .1 o))
+
+      here : (c : Code) × T (formed c) × (pack c ≡ xs) × (Obeys c → ⊥) → parse xs ≡ refused Disobeys
+      here (c, f, k, n) =
+          ap parse (sym k) ∙ parse-pack c f
+          ∙ unless-false Disobeys (obeys c) (unless WindowFails (works (c .table) (c .window)) (done c))
+          (fails (obeys c) (λ t. n (obeys-exact c (formed→ c f) .0 t)))
+
+  -- 10: every recording obeys it, and the window fails
+  pub window-fails-exact : (parse xs ≡ refused WindowFails)
+      ↔ ((c : Code) × T (formed c) × (pack c ≡ xs) × Obeys c × (Window (c .table) (c .window) → ⊥))
+  window-fails-exact = ((λ e. there (subst (Reason xs) e (reason xs))), here)
+    where
+      there : Reason xs (refused WindowFails)
+          → (c : Code) × T (formed c) × (pack c ≡ xs) × Obeys c × (Window (c .table) (c .window) → ⊥)
+      there (windowless s r o e) =
+          let (f, k) = fields-again xs bytes (s .exact) (s .headed) r in
+          let c = codeFrom xs in
+          (c, f, k, obeys-exact c (formed→ c f) .0 o, λ w. subst T e (window-exact c (formed→ c f) .1 w))
+
+      here : (c : Code) × T (formed c) × (pack c ≡ xs) × Obeys c × (Window (c .table) (c .window) → ⊥)
+          → parse xs ≡ refused WindowFails
+      here (c, f, k, o, n) =
+          let last = unless WindowFails (works (c .table) (c .window)) (done c) in
+          ap parse (sym k) ∙ parse-pack c f
+          ∙ unless-true Disobeys (obeys c) last (obeys-exact c (formed→ c f) .1 o)
+          ∙ unless-false WindowFails (works (c .table) (c .window)) (done c)
+          (fails (works (c .table) (c .window)) (λ t. n (window-exact c (formed→ c f) .0 t)))
