@@ -1,10 +1,8 @@
 //! Writes the file of test vectors: `vectors FILE [scale]`.
 
 use reference::checksum::Checksum;
-use reference::vectors::file::Walk;
+use reference::vectors::file::{Walk, KINDS};
 use reference::vectors::generate;
-
-const KINDS: [&str; 8] = ["", "compile_job", "compile_run_length", "check", "encode", "decode", "set", "listing"];
 
 fn main() {
     let arguments: Vec<String> = std::env::args().skip(1).collect();
@@ -23,7 +21,7 @@ fn main() {
 
 /// Prints the number of cases of each kind with each refusal, and the longest parts.
 fn report(bytes: &[u8]) {
-    let mut counts = [[0u32; 14]; 8];
+    let mut counts = [[0u32; 256]; KINDS.len()];
     let mut longest = [0; 3];
     for case in Walk(bytes) {
         counts[usize::from(case.kind)][usize::from(case.answer.refusal)] += 1;
@@ -32,7 +30,7 @@ fn report(bytes: &[u8]) {
         }
     }
     for (kind, row) in KINDS.iter().zip(counts).skip(1) {
-        let parts: Vec<String> = (0..14).filter(|r| row[*r] > 0).map(|r| format!("{r}:{}", row[r])).collect();
+        let parts: Vec<String> = (0..256).filter(|r| row[*r] > 0).map(|r| format!("{r}:{}", row[r])).collect();
         println!("{kind} {} ({})", row.iter().sum::<u32>(), parts.join(" "));
     }
     println!("cases {}, bytes {}", counts.iter().flatten().sum::<u32>(), bytes.len());

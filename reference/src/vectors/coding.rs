@@ -7,15 +7,15 @@ use super::random::Random;
 use crate::encode;
 
 pub fn add(file: &mut File, random: &mut Random, pool: &Pool, scale: usize) {
-    for _ in 0..600 * scale {
+    for _ in 0..450 * scale {
         let good = pool.any(random);
         encoding(file, random, good);
     }
-    for _ in 0..2200 * scale {
+    for _ in 0..1050 * scale {
         let good = pool.any(random);
         decoding(file, random, good);
     }
-    for _ in 0..400 * scale {
+    for _ in 0..360 * scale {
         let good = pool.any(random);
         refused(file, random, good);
     }

@@ -2,6 +2,7 @@
 
 use crate::answer::Answer;
 use crate::calls;
+use std::collections::HashSet;
 
 pub const COMPILE_JOB: u8 = 1;
 pub const COMPILE_RUN_LENGTH: u8 = 2;
@@ -10,6 +11,9 @@ pub const ENCODE: u8 = 4;
 pub const DECODE: u8 = 5;
 pub const SET: u8 = 6;
 pub const LISTING: u8 = 7;
+
+/// The kinds by number; those from their count up to 23 are kept for calls to come, and a file has none from 24 on.
+pub const KINDS: [&str; 8] = ["", "compile_job", "compile_run_length", "check", "encode", "decode", "set", "listing"];
 
 /// Room enough for every record.
 pub const RECORD_ROOM: usize = 4096;
@@ -32,16 +36,22 @@ pub fn call(kind: u8, room: usize, first: &[u8], second: &[u8]) -> Answer {
 #[derive(Default)]
 pub struct File {
     bytes: Vec<u8>,
+    inputs: HashSet<Vec<u8>>,
 }
 
 impl File {
-    /// Adds one case with its answer, and hands the answer back.
+    /// Adds one case with its answer, unless it is there already, and hands the answer back.
     pub fn add(&mut self, kind: u8, room: usize, first: &[u8], second: &[u8]) -> Answer {
         let answer = call(kind, room, first, second);
+        let begun = self.bytes.len();
         self.bytes.push(kind);
         self.two(room);
         self.counted(first);
         self.counted(second);
+        if !self.inputs.insert(self.bytes[begun..].to_vec()) {
+            self.bytes.truncate(begun);
+            return answer;
+        }
         self.bytes.push(answer.refusal);
         self.bytes.extend_from_slice(&answer.value.to_be_bytes());
         self.counted(&answer.output);

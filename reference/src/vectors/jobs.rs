@@ -10,11 +10,11 @@ pub fn add(file: &mut File, random: &mut Random, scale: usize) {
         let job = any_run_length(random);
         file.add(COMPILE_RUN_LENGTH, RECORD_ROOM, &job, &[]);
     }
-    for _ in 0..450 * scale {
+    for _ in 0..260 * scale {
         let (job, _) = compiling_run_length(random);
         file.add_exact(COMPILE_RUN_LENGTH, &job, &[]);
     }
-    for _ in 0..1200 * scale {
+    for _ in 0..1000 * scale {
         let job = general(random);
         file.add(COMPILE_JOB, RECORD_ROOM, &job, &[]);
     }

@@ -16,7 +16,7 @@ pub fn add(file: &mut File, random: &mut Random, pool: &Pool, scale: usize) {
         file.check(&good.bytes);
     }
     pool.small.iter().take(12).for_each(|good| every_length(file, &good.bytes));
-    for _ in 0..2000 * scale {
+    for _ in 0..1600 * scale {
         let good = random.pick(&pool.small);
         one_field(file, random, good);
     }
@@ -28,7 +28,7 @@ pub fn add(file: &mut File, random: &mut Random, pool: &Pool, scale: usize) {
         let good = random.pick(&pool.large);
         one_field(file, random, good);
     }
-    for _ in 0..150 * scale {
+    for _ in 0..130 * scale {
         let record = foreign::any(random);
         windows_about(file, &record);
     }
