@@ -1,0 +1,57 @@
+-- When calls under a record are done, and that a loaded table answers as its record does.
+-- In order: encodes, decodes; loaded.
+-- Assumes nothing.
+use mathlib.Core.Path.{_≡_, sym, ap, _∙_}
+use mathlib.Core.List.{List}
+use Prim.Native.Nat.{ℕ, _+_, _-_, _^_, _≤_}
+use lib.Dec.{T}
+use lib.ListN.{length}
+use Rattle.laws.specs.Sums.{Below}
+use Rattle.answer.specs.declared.Refusal.the-variants.{Field}
+use Rattle.answer.specs.Outcomes.{done, onward}
+use Rattle.answer.proofs.Outcomes.{unless-true}
+use Rattle.table.specs.declared.Table.{Table}
+use Rattle.table.specs.Rows.{Code}
+use Rattle.table.specs.Paths.{Blocks, recording}
+use Rattle.table.specs.Value.{codeIn, ready}
+use Rattle.table.proofs.Paths.{length-recording}
+use Rattle.record.specs.Parse.{parse}
+use Rattle.reading.specs.Reading.{decode}
+use Rattle.codec.specs.Answers.{encoded, decoded, encodeUnder, decodeUnder}
+use Rattle.codec.specs.With.{encodedWith, decodedWith}
+use Rattle.codec.proofs.Answers.{→encoded, →decoded}
+use Rattle.codec.proofs.Decoded.{length-decode}
+
+module _ (xs : List ℕ) where
+  -- good blocks and room give the recording: "N blocks give N + a words"
+  pub encodes : (c : Code) → parse xs ≡ done c → (room : ℕ) (ds : List ℕ) → Blocks c ds
+      → length ds + c .window .lookahead ≤ room
+      → (encodeUnder xs room ds ≡ done (recording c ds))
+      × (length (recording c ds) ≡ length ds + c .window .lookahead)
+  unfolding encodeUnder
+  encodes c p room ds b h = (
+    ap (λ o. onward o (λ c. encoded c room ds)) p ∙ →encoded c room ds b h,
+    length-recording c ds,
+  )
+
+  -- a words or more, all good, and room give the blocks: "From W words come W − a blocks"
+  pub decodes : (c : Code) → parse xs ≡ done c → (room : ℕ) (ws : List ℕ) → Below (2 ^ c .q) ws
+      → c .window .lookahead ≤ length ws → length ws - c .window .lookahead ≤ room
+      → (decodeUnder xs room ws ≡ done (decode c ws))
+      × (length (decode c ws) ≡ length ws - c .window .lookahead)
+  unfolding decodeUnder
+  decodes c p room ws b l h = (
+    ap (λ o. onward o (λ c. decoded c room ws)) p ∙ →decoded c room ws l h b,
+    sym (length-decode c ws),
+  )
+
+  -- a table by value whose code the record holds answers as the record does
+  pub loaded : (t : Table) → T (ready t) → parse xs ≡ done (codeIn t) → (room : ℕ) (ys : List ℕ)
+      → (encodedWith t room ys ≡ encodeUnder xs room ys) × (decodedWith t room ys ≡ decodeUnder xs room ys)
+  unfolding encodedWith decodedWith encodeUnder decodeUnder
+  loaded t k p room ys = (
+    unless-true Field (ready t) (encoded (codeIn t) room ys) k
+        ∙ sym (ap (λ o. onward o (λ c. encoded c room ys)) p),
+    unless-true Field (ready t) (decoded (codeIn t) room ys) k
+        ∙ sym (ap (λ o. onward o (λ c. decoded c room ys)) p),
+  )
