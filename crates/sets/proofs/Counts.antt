@@ -1,0 +1,43 @@
+-- A set has at most 255 records, and up to 255 accepted codes are written as bytes.
+-- In order: framed-bytes, set-bytes; set-count.
+-- Assumes nothing.
+use mathlib.Core.Path.{_≡_, sym, subst}
+use mathlib.Core.List.{List, [], _∷_, map}
+use Prim.Native.Nat.{ℕ, _+_, _*_, _/_, _%_, _≤_, _<_}
+use native.Mathlib.Omega.{arith}
+use lib.ListN.{length}
+use Rattle.laws.specs.Lists.{concat}
+use Rattle.laws.specs.Sums.{Below}
+use Rattle.laws.proofs.Lists.{below-append}
+use Rattle.table.specs.Rows.{Code}
+use Rattle.table.proofs.Formed.{formed→}
+use Rattle.record.specs.Layout.{pack}
+use Rattle.record.specs.Parse.{parse}
+use Rattle.record.proofs.RecordRead.{parse-good}
+use Rattle.record.proofs.RecordBytes.{pack-bytes, pack-short}
+use Rattle.answer.specs.Outcomes.{done}
+use Rattle.sets.specs.Sets.{codes, readSet, framed, writeSet, Readable}
+use Rattle.sets.proofs.Sets.{set-canonical}
+
+two-bytes : (n : ℕ) → n ≤ 3864 → (n / 256 < 256) × (n % 256 < 256)
+two-bytes n h = (omega arith, omega arith)
+
+framed-bytes : (cs : List Code) → Readable cs → Below 256 (concat (map framed cs))
+framed-bytes [] r = tt
+framed-bytes (c ∷ cs) (e, r) =
+    let (a, b) = two-bytes (length (pack c))
+    (pack-short c (formed→ c (parse-good (pack c) (pack-bytes c) c e .formed))) in
+    (a, (b, below-append 256 (pack c) (concat (map framed cs)) (pack-bytes c) (framed-bytes cs r)))
+
+-- up to 255 codes that come back from their records are written as bytes
+pub set-bytes : (cs : List Code) → length cs ≤ 255 → Readable cs → Below 256 (writeSet cs)
+unfolding writeSet
+set-bytes cs h r = (omega arith, framed-bytes cs r)
+
+-- a set that the walk accepts has at most 255 records
+pub set-count : (xs : List ℕ) (cs : List Code) → Below 256 xs → readSet xs ≡ codes cs → length cs ≤ 255
+unfolding writeSet
+set-count xs cs b e =
+    let (p, _) = set-canonical xs cs b e in
+    let (h, _) = subst (Below 256) (sym p) b in
+    omega arith
