@@ -15,7 +15,7 @@ use Rattle.table.specs.Rows.{Code}
 use Rattle.table.specs.Paths.{Blocks, recording}
 use Rattle.table.specs.Value.{codeIn, ready}
 use Rattle.table.proofs.Paths.{length-recording}
-use Rattle.record.specs.Parse.{parse}
+use Rattle.checker.specs.Parse.{parse}
 use Rattle.reading.specs.Reading.{decode}
 use Rattle.codec.specs.Answers.{encoded, decoded, encodeUnder, decodeUnder}
 use Rattle.codec.specs.With.{encodedWith, decodedWith}

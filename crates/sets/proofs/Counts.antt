@@ -12,8 +12,8 @@ use Rattle.laws.proofs.Lists.{below-append}
 use Rattle.table.specs.Rows.{Code}
 use Rattle.table.proofs.Formed.{formed→}
 use Rattle.record.specs.Layout.{pack}
-use Rattle.record.specs.Parse.{parse}
-use Rattle.record.proofs.RecordRead.{parse-good}
+use Rattle.checker.specs.Parse.{parse}
+use Rattle.checker.proofs.Parse.{parse-good}
 use Rattle.record.proofs.RecordBytes.{pack-bytes, pack-short}
 use Rattle.answer.specs.Outcomes.{done}
 use Rattle.sets.specs.Sets.{codes, readSet, framed, writeSet, Readable}
