@@ -17,7 +17,7 @@ use Rattle.compiler.specs.Listing.{binary}
 use Rattle.views.specs.Phrases.{counted}
 use Rattle.text.specs.Texts.{bytes}
 use Rattle.text.specs.Words.{told}
-use Rattle.views.specs.Reasons.{refusalLine}
+use Rattle.refusals.specs.Phrases.{refusalLine}
 
 -- numbers, a blank in front of each
 unfoldable pub listed : List ℕ → List ℕ

@@ -15,7 +15,7 @@ use Rattle.graph.specs.Splitting.{crowded, splitAll}
 use Rattle.finish.specs.TableOf.{tableOf}
 use Rattle.compiler.specs.Jobs.{Job, readJob, readRunLength}
 use Rattle.compiler.specs.Compile.{ways, graphOf, weightsOf, componentOf, compile}
-use Rattle.views.specs.Reasons.{refusalLine}
+use Rattle.refusals.specs.Phrases.{refusalLine}
 use Rattle.trace.specs.Lines.{
   weightsLine,
   componentLine,

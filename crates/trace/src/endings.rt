@@ -4,9 +4,9 @@ ghost use Rattle.record.specs.Checks.{outcomeIn};
 ghost use Rattle.trace.specs.Lines.{windowLine, ending};
 use record::Reading;
 use record::Verdict;
+use refusals::put_refusal_line;
 use text::put;
 use views::phrases::put_number;
-use views::refusals::put_refusal;
 
 // The line of a window.
 fn put_window(out: &mut [u8], at: usize, m: usize, a: usize) -> usize
@@ -24,7 +24,7 @@ pub fn put_ending(r: Reading, out: &mut [u8], at: usize) -> usize
     let v = r.verdict;
     let t = r.table;
     match v {
-        Verdict::Bad(x) => put_refusal(out, at, x),
+        Verdict::Bad(x) => put_refusal_line(out, at, x),
         Verdict::Read => put_window(out, at, t.memory, t.lookahead),
     }
 }

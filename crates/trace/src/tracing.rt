@@ -9,8 +9,8 @@ use compiler::compiling::compile;
 use compiler::reading::read_job;
 use compiler::reading::read_run_length;
 use record::Verdict;
+use refusals::put_refusal_line;
 use table::chains::ways;
-use views::refusals::put_refusal;
 
 // The steps, and then what compiling the job comes to.
 fn trace(j: JobValue, out: &mut [u8], at: usize) -> usize
@@ -30,7 +30,7 @@ pub fn trace_job(job: &[u8], out: &mut [u8], at: usize) -> usize
     let v = r.verdict;
     let j = r.job;
     match v {
-        Verdict::Bad(x) => put_refusal(out, at, x),
+        Verdict::Bad(x) => put_refusal_line(out, at, x),
         Verdict::Read => trace(j, out, at),
     }
 }
@@ -43,7 +43,7 @@ pub fn trace_run_length(job: &[u8], out: &mut [u8], at: usize) -> usize
     let v = r.verdict;
     let j = r.job;
     match v {
-        Verdict::Bad(x) => put_refusal(out, at, x),
+        Verdict::Bad(x) => put_refusal_line(out, at, x),
         Verdict::Read => trace(j, out, at),
     }
 }

@@ -2,4 +2,3 @@ pub mod Phrases
 pub mod Shown
 pub mod Drawn
 pub mod ArrowsTo
-pub mod Reasons

@@ -1,5 +1,4 @@
 // What a person reads of a code, as text in lent bytes.
 pub mod drawing;
 pub mod phrases;
-pub mod refusals;
 pub mod showing;

@@ -12,8 +12,8 @@ use Rattle.trace.proofs.endings.put_ending.Tie as tie
 enum-known-v : tie.Need-enum-known-v
 enum-known-v c = search needs
 
-put-refusal-requires : tie.Need-put-refusal-requires
-put-refusal-requires c κs = search needs
+put-refusal-line-requires : tie.Need-put-refusal-line-requires
+put-refusal-line-requires c κs = search needs
 
 enum-told : tie.Need-enum-told
 enum-told c = search needs
@@ -29,7 +29,7 @@ returns c =
     added-same (sym (ap (λ v. ending (verdictOf v
     (codeIn (c .before .before .before .before .before .before .before .before .before .args .r .table))))
     (c .before .before .before .before .before .v .given .1)))
-    (c .before .before .put-refusal .ensures)
+    (c .before .before .put-refusal-line .ensures)
 
 same-length-2 : tie.Need-same-length-2
 same-length-2 c = search needs
@@ -46,7 +46,7 @@ put-ending-spec =
     tie.close
     (tie.spec
     enum-known-v
-    put-refusal-requires
+    put-refusal-line-requires
     enum-told
     put-window-requires
     same-length

@@ -14,8 +14,8 @@ read-run-length-requires c κs = search needs
 enum-known-v : tie.Need-enum-known-v
 enum-known-v c = search needs
 
-put-refusal-requires : tie.Need-put-refusal-requires
-put-refusal-requires c κs = search needs
+put-refusal-line-requires : tie.Need-put-refusal-line-requires
+put-refusal-line-requires c κs = search needs
 
 enum-told : tie.Need-enum-told
 enum-told c = search needs
@@ -25,14 +25,14 @@ trace-requires c κs = c .before .before .before .before .read-run-length .ensur
     (c .before .enum-told .given .1)
 
 same-length : tie.Need-same-length
-same-length c = c .before .before .put-refusal .ensures .kept
+same-length c = c .before .before .put-refusal-line .ensures .kept
 
 returns : tie.Need-returns
 unfolding tracedRunLength
 returns c =
     let k = c .before .before .before .before .before .before .before .before .read-run-length in
     added-same (sym (ap tracing (job-bad (k .result) _ _ (k .ensures .0)
-    (c .before .before .before .before .before .v .given .1)))) (c .before .before .put-refusal .ensures)
+    (c .before .before .before .before .before .v .given .1)))) (c .before .before .put-refusal-line .ensures)
 
 same-length-2 : tie.Need-same-length-2
 same-length-2 c = c .before .before .trace .ensures .kept
@@ -50,7 +50,7 @@ trace-run-length-spec =
     (tie.spec
     read-run-length-requires
     enum-known-v
-    put-refusal-requires
+    put-refusal-line-requires
     enum-told
     trace-requires
     same-length
