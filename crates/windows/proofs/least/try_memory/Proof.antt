@@ -1,7 +1,7 @@
 -- For memory m the least lookahead is found by steps; it is taken if the pairs of a clash are gone in time.
 use mathlib.Core.Path.{ap, subst, _∙_}
 use native.Mathlib.Omega.{arith}
-use Prim.Native.Nat.{_<_}
+use Prim.Native.Nat.{_≤_, _<_}
 use denote.Ref.{now}
 use lib.ListN.{length}
 use Rattle.table.specs.Rows.{Size}
@@ -62,10 +62,13 @@ returns c =
     let r = e .before .before .before in
     let s = start e in
     let t = rowsOf (table s) in
-    let m = s .args .m in (
-      lead-take t m (best s) (s .pre .1) (s .pre .4) (r .lookahead-limit .result) (r .lookahead-limit .ensures) (e .lookahead-needed .result)
-          (c .if1 .taken) (works-there t (closed s) (some s) m _ _ (gone e) (c .if1 .taken))
-          (fails-sooner t (closed s) (some s) m _ _ (gone e)),
+    let m = s .args .m in
+    let most = r .lookahead-limit .result in
+    let a = e .lookahead-needed .result in
+    let h : a ≤ most = omega (arith, c .if1 .taken) in (
+      lead-take t m (best s) (s .pre .1) (s .pre .4) most (r .lookahead-limit .ensures) a h
+          (works-there t (closed s) (some s) m most a (gone e) h)
+          (fails-sooner t (closed s) (some s) m most a (gone e)),
       e .lookahead-needed .ensures .1,
     )
 
