@@ -1,3 +1,3 @@
 pub mod Cases
-pub mod Agreeing
-pub mod Walking
+pub mod Comparing
+pub mod Counting

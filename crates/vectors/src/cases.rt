@@ -1,9 +1,8 @@
 // The cases of the file: where the parts of each stand.
 ghost use mathlib.Core.Path.{_≡_};
-ghost use mathlib.Core.Bool.{Bool, true};
-ghost use Prim.Native.Nat.{_+_, _*_, _≤_, _<_};
-ghost use lib.ListN.{length, getD};
-ghost use Rattle.vectors.specs.Cases.{pair, caseAt, Whole};
+ghost use mathlib.Core.Bool.{true};
+ghost use Prim.Native.Nat.{_≤_, _<_};
+ghost use Rattle.vectors.specs.Cases.{Placed, Whole};
 
 // A case: its kind, the room of its output, where its first input begins and ends (`behind`), where its second input
 // begins and ends (`told`), the refusal and the value that it is to answer, and where its output begins and ends.
@@ -22,7 +21,6 @@ pub struct Case {
 
 // The byte at a place, 0 where there is none.
 fn byte(bytes: &[u8], at: usize) -> usize
-    ensures answer { λ r. ⌜ r ≡ getD (now (bytes .entry)) at 0 ⌝ }
     ensures past { λ r. ⌜ r < 256 ⌝ }
 {
     if at < bytes.len() {
@@ -34,7 +32,6 @@ fn byte(bytes: &[u8], at: usize) -> usize
 // The number of two bytes at a place.
 fn two(bytes: &[u8], at: usize) -> usize
     requires { ⌜ at ≤ 2000000 ⌝ }
-    ensures answer { λ r. ⌜ r ≡ pair (now (bytes .entry)) at ⌝ }
     ensures past { λ r. ⌜ r < 65536 ⌝ }
 {
     byte(bytes, at) * 256 + byte(bytes, at + 1)
@@ -43,8 +40,7 @@ fn two(bytes: &[u8], at: usize) -> usize
 // The case at a place.
 pub fn case_at(bytes: &[u8], at: usize) -> Case
     requires { ⌜ at ≤ 1000000 ⌝ }
-    ensures answer { λ r. ⌜ r ≡ caseAt (now (bytes .entry)) at ⌝ }
-    ensures past { λ r. ⌜ r .room < 65536 ⌝ }
+    ensures placed { λ r. ⌜ Placed r × (at < r .end) ⌝ }
 {
     let first = at + 5;
     let behind = first + two(bytes, at + 3);
@@ -65,16 +61,15 @@ pub fn case_at(bytes: &[u8], at: usize) -> Case
     }
 }
 
-// Whether a whole case stands at a place.
-pub fn is_case(bytes: &[u8], at: usize) -> bool
-    requires { ⌜ at ≤ 1000000 ⌝ }
-    ensures answer { λ r. ⌜ (r ≡ true → Whole (now (bytes .entry)) (caseAt (now (bytes .entry)) at)) ⌝ }
+// Whether a case is one that the file has whole; kinds are from 1 to 23.
+pub fn is_case(bytes: &[u8], c: Case) -> bool
+    requires { ⌜ Placed c ⌝ }
+    ensures answer { λ r. ⌜ (r ≡ true → Whole (now (bytes .entry)) c) ⌝ }
 {
-    let c = case_at(bytes, at);
     if c.kind == 0 {
         return false;
     }
-    if 7 < c.kind {
+    if 24 <= c.kind {
         return false;
     }
     c.end <= bytes.len()

@@ -1,20 +1,19 @@
 // The walk through the file, case by case.
 ghost use mathlib.Core.Path.{_≡_};
 ghost use mathlib.Core.Bool.{true};
-ghost use Prim.Native.Nat.{_+_, _≤_, _<_};
+ghost use Prim.Native.Nat.{_≤_, _<_};
 ghost use lib.ListN.{length};
-ghost use Rattle.vectors.specs.Cases.{caseAt, Whole};
-ghost use Rattle.vectors.specs.Agreeing.{Says};
-ghost use Rattle.vectors.specs.Walking.{CallAgrees, SetCaseAgrees, CaseAgrees, Told};
-ghost use Rattle.vectors.specs.Walking.{nothing, withCase, Few, Walked};
-use crate::calls::agrees;
-use crate::calls::set_agrees;
+ghost use Rattle.vectors.specs.Cases.{Whole};
+ghost use Rattle.vectors.specs.Counting.{differs, Few, Counted};
+use crate::calls::call;
+use crate::calls::is_same;
 use crate::cases::Case;
 use crate::cases::case_at;
 use crate::cases::is_case;
 use crate::report::say_file;
 use crate::report::say_kind;
 use crate::report::say_number;
+use std::num::wrapping_add_u64;
 
 // The place that the walk reached; how many cases there were, and how many of them differ; and for each kind how many
 // cases it has and how many of them differ.
@@ -22,16 +21,28 @@ pub struct Tally {
     pub at: usize,
     pub cases: u64,
     pub wrong: u64,
-    pub kinds: [u64; 8],
-    pub differ: [u64; 8],
+    pub kinds: [u64; 24],
+    pub differ: [u64; 24],
 }
 
-// Whether the call of a case comes out as it says.
-fn call_agrees(bytes: &[u8], c: Case) -> bool
-    requires { ⌜ Whole (now bytes) c ⌝ }
-    ensures answer { λ r. ⌜ Says r (CallAgrees (now (bytes .entry)) c) ⌝ }
+// Bytes to lend as output, all 165.
+fn lent() -> [u8; 65536]
+    ensures answer { λ r. ⌜ 65536 ≡ length r ⌝ }
 {
-    let mut out = io::large_buffer();
+    [165; 65536]
+}
+
+// The call of a case, and whether it comes out as the case says.
+fn call_agrees(c: Case, first: &[u8], second: &[u8], out: &mut [u8], output: &[u8]) -> bool {
+    let a = call(c.kind, first, second, out);
+    is_same(a, out, c.refusal, c.value, output)
+}
+
+// Whether a case of a known kind comes out as it says.
+fn known_agrees(bytes: &[u8], c: Case) -> bool
+    requires { ⌜ Whole (now bytes) c ⌝ }
+{
+    let mut out = lent();
     let room = c.room;
     let first = c.first;
     let behind = c.behind;
@@ -39,45 +50,33 @@ fn call_agrees(bytes: &[u8], c: Case) -> bool
     let told = c.told;
     let output = c.output;
     let end = c.end;
-    agrees(
-        c.kind,
+    call_agrees(
+        c,
         &bytes[first..behind],
         &bytes[second..told],
         &mut out[..room],
-        c.refusal,
-        c.value,
         &bytes[output..end],
     )
 }
 
-// Whether the set of a case comes out as it says.
-fn set_case_agrees(bytes: &[u8], c: Case) -> bool
-    requires { ⌜ Whole (now bytes) c ⌝ }
-    ensures answer { λ r. ⌜ Says r (SetCaseAgrees (now (bytes .entry)) c) ⌝ }
-{
-    let first = c.first;
-    let behind = c.behind;
-    let size = c.end - c.output;
-    set_agrees(&bytes[first..behind], c.refusal, c.value, size)
-}
-
-// Whether a case comes out as it says.
+// Whether a case comes out as it says. One of a kind that this program does not know never does: the kind is printed.
 fn case_agrees(bytes: &[u8], c: Case) -> bool
     requires { ⌜ Whole (now bytes) c ⌝ }
-    ensures answer { λ r. ⌜ Says r (CaseAgrees (now (bytes .entry)) c) ⌝ }
+    ensures known { λ r. ⌜ (r ≡ true → c .kind ≤ 7) ⌝ }
 {
-    if c.kind == 6 {
-        return set_case_agrees(bytes, c);
+    if 7 < c.kind {
+        say_number(b"not known to this program: kind ", c.kind as u64);
+        return false;
     }
-    call_agrees(bytes, c)
+    known_agrees(bytes, c)
 }
 
 // 1 for a case that differs, whose number is printed, 0 for one that does not.
-fn judge(bytes: &[u8], c: Case, number: u64) -> u64
-    requires { ⌜ Whole (now bytes) c ⌝ }
-    ensures answer { λ r. ⌜ Told (now (bytes .entry)) c r ⌝ }
+fn judge(agrees: bool, number: u64) -> u64
+    ensures answer { λ r. ⌜ r ≡ differs agrees ⌝ }
+    ensures small { λ r. ⌜ r ≤ 1 ⌝ }
 {
-    if case_agrees(bytes, c) {
+    if agrees {
         return 0;
     }
     say_number(b"differs: case ", number);
@@ -85,54 +84,55 @@ fn judge(bytes: &[u8], c: Case, number: u64) -> u64
 }
 
 // The tally with one case more.
-fn with_case(t: Tally, c: Case, differs: u64) -> Tally
-    requires { ⌜ (c .kind ≤ 7) × (differs ≤ 1) × Few t × (t .at ≤ 1000000) ⌝ }
-    ensures answer { λ r. ⌜ r ≡ withCase t c differs ⌝ }
+fn with_case(t: Tally, c: Case, more: u64) -> Tally
+    requires { ⌜ (c .kind < 24) × (more ≤ 1) × Few t × (t .at < c .end) × (c .end ≤ 1000000) ⌝ }
+    ensures answer { λ r. ⌜ Counted t c more r ⌝ }
 {
     let kind = c.kind;
     let mut r = t;
     r.at = c.end;
     r.cases = t.cases + 1;
-    r.wrong = t.wrong + differs;
-    r.kinds[kind] = t.kinds[kind] + 1;
-    r.differ[kind] = t.differ[kind] + differs;
+    r.wrong = t.wrong + more;
+    r.kinds[kind] = wrapping_add_u64(t.kinds[kind], 1);
+    r.differ[kind] = wrapping_add_u64(t.differ[kind], more);
     r
 }
 
 // The tally before the first case.
 fn no_case() -> Tally
-    ensures answer { λ r. ⌜ r ≡ nothing ⌝ }
+    ensures answer { λ r. ⌜ Few r × (r .at ≡ 0) ⌝ }
 {
     Tally {
         at: 0,
         cases: 0,
         wrong: 0,
-        kinds: [0u64; 8],
-        differ: [0u64; 8],
+        kinds: [0u64; 24],
+        differ: [0u64; 24],
     }
 }
 
 // The tally with the case that it has reached.
-fn step(bytes: &[u8], t: Tally) -> Tally
-    requires { ⌜ (t .at ≤ 1000000) × Few t × Whole (now bytes) (caseAt (now bytes) (t .at)) × Walked (now bytes) t ⌝ }
-    ensures answer { λ r. ⌜ Walked (now (bytes .entry)) r ⌝ }
-    ensures past { λ r. ⌜ (t .at < r .at) × (r .at ≤ length (now (bytes .entry))) × Few r ⌝ }
+fn step(bytes: &[u8], t: Tally, c: Case) -> Tally
+    requires { ⌜ (length (now bytes) ≤ 1000000) × Whole (now bytes) c × Few t × (t .at < c .end) ⌝ }
+    ensures answer { λ r. ⌜ Few r × (r .at ≡ c .end) ⌝ }
 {
-    let c = case_at(bytes, t.at);
-    let differs = judge(bytes, c, t.cases);
-    with_case(t, c, differs)
+    let agrees = case_agrees(bytes, c);
+    let more = judge(agrees, t.cases);
+    with_case(t, c, more)
 }
 
 // The tally of all cases.
 fn walk(bytes: &[u8]) -> Tally
     requires { ⌜ length (now bytes) ≤ 1000000 ⌝ }
-    ensures answer { λ r. ⌜ Walked (now (bytes .entry)) r ⌝ }
-    ensures past { λ r. ⌜ (r .at ≤ length (now (bytes .entry))) × Few r ⌝ }
+    ensures past { λ r. ⌜ r .at ≤ length (now (bytes .entry)) ⌝ }
 {
     let mut t = no_case();
-    while is_case(bytes, t.at) {
-        let next = step(bytes, t);
+    let mut c = case_at(bytes, 0);
+    while is_case(bytes, c) {
+        let next = step(bytes, t, c);
         t = next;
+        let following = case_at(bytes, t.at);
+        c = following;
     }
     t
 }

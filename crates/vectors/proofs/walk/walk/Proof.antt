@@ -1,56 +1,56 @@
--- `walk` meets its contract. The loop's invariant: the tally is one of the walk, and its place within the file. The
--- measure is what is left of the file.
+-- `walk` is safe. The loop's invariant: the place reached is within the file, the counts are small, and the case read
+-- there has its parts in order. The measure is what is left of the file.
 -- Assumes nothing.
-use mathlib.Core.Path.{_≡_, sym, subst}
-use Prim.Native.Nat.{_-_, _≤_}
+use Prim.Native.Nat.{_-_, _≤_, _<_}
 use native.Mathlib.Omega.{arith}
 use borrow.Author.Needs.{needs}
-use denote.Ref.{now}
 use lib.ListN.{length}
-use Rattle.vectors.specs.Walking.{nothing, Walked, begun, Few}
-use Rattle.vectors.proofs.Steps.{few-nothing, nothing-at}
+use Rattle.vectors.specs.Cases.{Placed}
+use Rattle.vectors.specs.Counting.{Few}
 use Rattle.vectors.proofs.walk.walk.Statement.{statement}
 use Rattle.vectors.proofs.walk.walk.Tie as tie
 
 abbrev Inv-loop : tie.InvT-loop
-Inv-loop bytes t₀ t = (t .at ≤ length bytes) × Few t × Walked bytes t
+Inv-loop bytes t₀ c₀ t c = (t .at ≤ length bytes) × Few t × Placed c × (t .at < c .end)
 
 abbrev μ-loop : tie.MeasureT-loop
-μ-loop bytes t₀ t = length bytes - t .at
-
-no-case-requires : tie.Need-no-case-requires Inv-loop μ-loop
-no-case-requires c κs = search needs
+μ-loop bytes t₀ c₀ t c = length bytes - t .at
 
 loop-holds : tie.Need-loop-holds Inv-loop μ-loop
 loop-holds c =
-    let xs = now (c .before .before .args .bytes) in
-    subst (λ t. (t .at ≤ length xs) × Few t × Walked xs t) (sym (c .no-case .ensures))
-    (omega (arith, nothing-at), few-nothing, begun)
-
-is-case-requires : tie.Need-is-case-requires Inv-loop μ-loop
-is-case-requires c κs = omega (arith, c .before .before .before .pre, c .loop .inv .0)
+    let (few, zero-at) = c .before .no-case .ensures in
+    let (placed, long) = c .case-at .ensures in
+    (omega (arith, zero-at), few, placed, omega (arith, zero-at, long))
 
 step-requires : tie.Need-step-requires Inv-loop μ-loop
 step-requires c κs =
-    let l = c .before .before .loop in (
-      omega (arith, c .before .before .before .before .before .pre, l .inv .0),
-      l .inv .1,
+    let l = c .before .before in (
+      l .before .before .before .before .pre,
       c .before .is-case .ensures (c .if1 .taken),
-      l .inv .2,
+      l .loop .inv .1,
+      l .loop .inv .3,
     )
+
+case-at-requires-2 : tie.Need-case-at-requires-2 Inv-loop μ-loop
+case-at-requires-2 c κs =
+    let i = c .before in
+    let whole = i .before .is-case .ensures (i .if1 .taken) in
+    omega (arith, c .step .ensures .1, whole .last, i .before .before .before .before .before .before .pre)
 
 loop-less : tie.Need-loop-less Inv-loop μ-loop
 loop-less c =
-    let l = c .before .before .before .loop in
-    omega (arith, c .step .ensures .1 .0, c .step .ensures .1 .1)
+    let s = c .before in
+    let i = s .before in
+    let whole = i .before .is-case .ensures (i .if1 .taken) in
+    omega (arith, s .step .ensures .1, whole .last, i .before .before .loop .inv .3)
 
 loop-again : tie.Need-loop-again Inv-loop μ-loop
-loop-again c = (c .step .ensures .1 .1, c .step .ensures .1 .2, c .step .ensures .0)
-
-returns : tie.Need-returns Inv-loop μ-loop
-returns c =
-    let l = c .before .before .loop in
-    (l .inv .2, (l .inv .0, l .inv .1))
+loop-again c =
+    let s = c .before in
+    let i = s .before in
+    let whole = i .before .is-case .ensures (i .if1 .taken) in
+    let (placed, long) = c .case-at2 .ensures in
+    (omega (arith, s .step .ensures .1, whole .last), s .step .ensures .0, placed, long)
 
 pub walk-spec : {M : Type 1} → statement M
 walk-spec =
@@ -58,10 +58,12 @@ walk-spec =
     (tie.spec
     Inv-loop
     μ-loop
-    no-case-requires
+    (λ c κs. search needs)
+    (λ c κs. search needs)
     loop-holds
-    is-case-requires
+    (λ c κs. c .loop .inv .2)
     step-requires
+    case-at-requires-2
     loop-less
     loop-again
-    returns)
+    (λ c. c .before .before .loop .inv .0))

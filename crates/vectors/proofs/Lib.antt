@@ -1,4 +1,0 @@
-pub mod Verdicts
-pub mod Telling
-pub mod Placing
-pub mod Steps
