@@ -11,3 +11,8 @@ pub mod RefusalText
 pub mod CompileSteps
 pub mod CompileTable
 pub mod Onward
+pub mod Refused
+pub mod Exact
+pub mod Early
+pub mod Written
+pub mod ByRule

@@ -1,0 +1,74 @@
+-- Reading a job of either kind is refused with 1, 2 or 8 only.
+-- In order: Early; unless-early, done-early; read-early, run-length-early.
+-- Assumes nothing.
+use mathlib.Core.Path.{_≡_, refl, sym, subst}
+use mathlib.Core.Logic.{_⊎_, inl, inr}
+use mathlib.Core.Bool.{Bool, true, false, _&&_}
+use mathlib.Core.List.{List}
+use Prim.Native.Nat.{ℕ, _+_, _*_, _<_}
+use native.Mathlib.Omega.{arith}
+use lib.Dec.{leb, eqb}
+use lib.ListN.{length, getD, drop}
+use Rattle.laws.specs.Lists.{all}
+use Rattle.answer.specs.declared.Refusal.{Refusal}
+use Rattle.answer.specs.declared.Refusal.the-variants.{Parameters, States, Length}
+use Rattle.answer.specs.Refusals.{numberOf}
+use Rattle.answer.specs.Outcomes.{Outcome, done, refused, unless}
+use Rattle.answer.proofs.Outcomes.{refused-not}
+use Rattle.constraint.specs.Walking.{runLength}
+use Rattle.table.specs.Formed.{goodNext}
+use Rattle.compiler.specs.Jobs.{Job, goodParameters, statesOf, readJob, readRunLength}
+use Rattle.compiler.proofs.Refused.{refused-inj}
+
+-- the refusals that reading a job gives: 1, 2 and 8
+abbrev pub Early : Refusal → Type 0
+Early r = (numberOf r < 3) ⊎ (numberOf r ≡ 8)
+
+unless-early : {A : Type 0} (r : Refusal) (b : Bool) (o : Outcome A) → Early r
+    → ((r′ : Refusal) → o ≡ refused r′ → Early r′) → (r′ : Refusal) → unless r b o ≡ refused r′ → Early r′
+unless-early r true o h f r′ e = f r′ e
+unless-early r false o h f r′ e = subst Early (refused-inj r r′ e) h
+
+done-early : {A : Type 0} (a : A) (r : Refusal) → done a ≡ refused r → Early r
+done-early a r e = absurd (refused-not r a (sym e))
+
+early-1 : Early Parameters
+early-1 = inl (omega arith)
+
+early-2 : Early States
+early-2 = inl (omega arith)
+
+early-8 : Early Length
+early-8 = inr refl
+
+pub read-early : (xs : List ℕ) (r : Refusal) → readJob xs ≡ refused r → Early r
+unfolding readJob
+read-early xs =
+    let p = getD xs 0 0 in
+    let q = getD xs 1 0 in
+    let cap = getD xs 2 0 in
+    let K = getD xs 3 0 in
+    let c = statesOf K (drop 4 xs) in
+    let found : Job = record { p = p; q = q; cap = cap; constraint = c } in
+    let last = unless States (all (goodNext K) c) (done found) in
+    let long = unless Length (eqb (length xs) (4 + 2 * K)) last in
+    let count = unless States (leb 1 K && leb K 16) long in
+    unless-early Length (leb 4 (length xs)) (unless Parameters (goodParameters p q cap) count) early-8
+    (unless-early Parameters (goodParameters p q cap) count early-1
+    (unless-early States (leb 1 K && leb K 16) long early-2
+    (unless-early Length (eqb (length xs) (4 + 2 * K)) last early-8
+    (unless-early States (all (goodNext K) c) (done found) early-2 (done-early found)))))
+
+pub run-length-early : (xs : List ℕ) (r : Refusal) → readRunLength xs ≡ refused r → Early r
+unfolding readRunLength
+run-length-early xs =
+    let d = getD xs 0 0 in
+    let k = getD xs 1 0 in
+    let p = getD xs 2 0 in
+    let q = getD xs 3 0 in
+    let cap = getD xs 4 0 in
+    let found : Job = record { p = p; q = q; cap = cap; constraint = runLength d k } in
+    let last = unless States (leb d k && leb k 15) (done found) in
+    unless-early Length (eqb (length xs) 5) (unless Parameters (goodParameters p q cap) last) early-8
+    (unless-early Parameters (goodParameters p q cap) last early-1
+    (unless-early States (leb d k && leb k 15) (done found) early-2 (done-early found)))

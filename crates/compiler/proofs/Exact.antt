@@ -1,0 +1,134 @@
+-- When compiling a job is done, and exactly when it is refused with 4, 5 and 6.
+-- In order: weighs-some; window-small, compile-done; not-none; heavy-exact, crowded-exact, window-exact; not-short;
+-- refusals.
+-- Assumes nothing.
+use mathlib.Core.Path.{_≡_, sym, ap, subst, _∙_}
+use mathlib.Core.Logic.{inl, inr, _↔_}
+use mathlib.Core.List.{List}
+use Prim.Native.Nat.{ℕ, _≤_, _<_}
+use native.Mathlib.Omega.{arith}
+use native.Mathlib.Decide.{decLt}
+use lib.Dec.{leb, le→leb}
+use borrow.Author.Tests.{le-ltb, lt-ltb}
+use lib.ListN.{length, getD}
+use Rattle.laws.specs.Lists.{sum}
+use Rattle.answer.specs.declared.Refusal.{Refusal}
+use Rattle.answer.specs.declared.Refusal.the-variants.{NoCode, TooHeavy, TooManyEdges, NoWindow, ShortOutput}
+use Rattle.answer.specs.Refusals.{numberOf}
+use Rattle.answer.specs.Outcomes.{Outcome, done, refused}
+use Rattle.answer.proofs.Outcomes.{unless-true}
+use Rattle.table.specs.Rows.{Size, Code}
+use Rattle.windows.specs.Window.{Window}
+use Rattle.windows.specs.Search.{window}
+use Rattle.windows.proofs.Window.{works-complete}
+use Rattle.windows.proofs.WindowLeast.{Chosen, window-least}
+use Rattle.compiler.specs.Jobs.{Job, Allowed}
+use Rattle.compiler.specs.Compile.{Vector, componentOf, finishedOf, tableFor, code, compile}
+use Rattle.compiler.proofs.Refused.{refused-inj}
+use Rattle.compiler.proofs.Compile.{Reason, reason, nothing, heavy, crowding, windowless, coded, no-code-exact}
+use Rattle.compiler.proofs.CompileSteps.{compile-none, compile-heavy, compile-crowded, compile-table}
+use Rattle.compiler.proofs.Promises.{no-window-exact}
+
+module _ (j : Job) where
+  -- a vector that is not all 0 gives the component weight
+  pub weighs-some : Allowed j → (u : List ℕ) → Vector j u → (s : ℕ) → 0 < getD u s 0
+      → 0 < sum (componentOf j .weights)
+  weighs-some a u v s h = go (decLt 0 (sum (componentOf j .weights)))
+    where
+      go : Dec (0 < sum (componentOf j .weights)) → 0 < sum (componentOf j .weights)
+      go (yes k) = k
+      go (no k) = let z = no-code-exact j a .0 (compile-none j (omega arith)) u v s in absurd (omega arith)
+
+  -- where some window works, one is found
+  window-small : (y : Size) → y .memory ≤ 15 → y .lookahead ≤ 15 → Window (tableFor j) y
+      → window (tableFor j) .memory ≤ 15
+  window-small y hm ha w = go (window-least (tableFor j))
+    where
+      go : Chosen (tableFor j) (window (tableFor j)) → window (tableFor j) .memory ≤ 15
+      go (inl (s, _, _, _)) = omega arith
+      go (inr (_, f)) = absurd (f y (omega arith) (omega arith) (works-complete (tableFor j) y w))
+
+  -- the job's code, where none of 3 to 6 is due
+  pub compile-done : 0 < sum (componentOf j .weights) → sum (componentOf j .weights) ≤ 128
+      → length (finishedOf j .arcs) ≤ 2048
+      → (y : Size) → y .memory ≤ 15 → y .lookahead ≤ 15 → Window (tableFor j) y
+      → compile j ≡ done (code j (tableFor j))
+  compile-done h l few y hm ha w =
+      compile-table j h l (le-ltb 2048 (length (finishedOf j .arcs)) few)
+      ∙ unless-true NoWindow (leb (window (tableFor j) .memory) 15) (done (code j (tableFor j)))
+      (le→leb (window (tableFor j) .memory) 15 (window-small y hm ha w))
+
+  -- a refusal other than 3 comes only where the component weighs something
+  not-none : (r : Refusal) → (numberOf r ≡ 3 → ⊥) → compile j ≡ refused r → 0 < sum (componentOf j .weights)
+  not-none r n e = go (decLt 0 (sum (componentOf j .weights)))
+    where
+      go : Dec (0 < sum (componentOf j .weights)) → 0 < sum (componentOf j .weights)
+      go (yes k) = k
+      go (no k) =
+          absurd (n (ap numberOf (sym (refused-inj NoCode r (sym (compile-none j (omega arith)) ∙ e)))))
+
+  -- refusal 4 comes exactly when the component's weights sum to over 128
+  pub heavy-exact : (compile j ≡ refused TooHeavy) ↔ (128 < sum (componentOf j .weights))
+  heavy-exact = (λ e. there (subst (Reason j) e (reason j)), λ h. compile-heavy j (omega arith) h)
+    where
+      there : Reason j (refused TooHeavy) → 128 < sum (componentOf j .weights)
+      there (heavy h) = h
+
+  -- refusal 5 comes exactly when they sum to at most 128, not to 0, and there are over 2,048 edges
+  pub crowded-exact : (compile j ≡ refused TooManyEdges)
+      ↔ ((0 < sum (componentOf j .weights)) × (sum (componentOf j .weights) ≤ 128)
+      × (2048 < length (finishedOf j .arcs)))
+  crowded-exact = (
+    (λ e. let (l, k) = there (subst (Reason j) e (reason j)) in (not-none TooManyEdges other e, l, k)),
+    (λ (h, l, k). compile-crowded j h l (lt-ltb 2048 (length (finishedOf j .arcs)) k)),
+  )
+    where
+      other : numberOf TooManyEdges ≡ 3 → ⊥
+      other e = omega arith
+
+      there : Reason j (refused TooManyEdges)
+          → (sum (componentOf j .weights) ≤ 128) × (2048 < length (finishedOf j .arcs))
+      there (crowding l k) = (l, k)
+
+  -- refusal 6 comes exactly when none of 3 to 5 is due and no window up to 15 and 15 does what a window must
+  pub window-exact : Allowed j → (compile j ≡ refused NoWindow)
+      ↔ ((0 < sum (componentOf j .weights)) × (sum (componentOf j .weights) ≤ 128)
+      × (length (finishedOf j .arcs) ≤ 2048)
+      × ((y : Size) → y .memory ≤ 15 → y .lookahead ≤ 15 → Window (tableFor j) y → ⊥))
+  window-exact a = (
+    (λ e.
+        let h = not-none NoWindow other e in
+        let (l, few) = there (subst (Reason j) e (reason j)) in
+        (h, l, few, no-window-exact j a h l few .0 e)),
+    (λ (h, l, few, f). no-window-exact j a h l few .1 f),
+  )
+    where
+      other : numberOf NoWindow ≡ 3 → ⊥
+      other e = omega arith
+
+      there : Reason j (refused NoWindow)
+          → (sum (componentOf j .weights) ≤ 128) × (length (finishedOf j .arcs) ≤ 2048)
+      there (windowless l few _) = (l, few)
+
+  -- compiling alone is never refused with 13
+  pub not-short : compile j ≡ refused ShortOutput → ⊥
+  not-short e = go (compile j) (reason j) (ap number e)
+    where
+      number : Outcome Code → ℕ
+      number (done c) = 0
+      number (refused r) = numberOf r
+
+      go : (o : Outcome Code) → Reason j o → number o ≡ 13 → ⊥
+      go _ (nothing _) q = omega arith
+      go _ (heavy _) q = omega arith
+      go _ (crowding _ _) q = omega arith
+      go _ (windowless _ _ _) q = omega arith
+      go _ (coded _ _ _ _) q = omega arith
+
+  -- 4, 5 and 6, each exactly where it is due
+  pub refusals : Allowed j → let w = sum (componentOf j .weights) in let e = length (finishedOf j .arcs) in
+      ((compile j ≡ refused TooHeavy) ↔ (128 < w))
+      × ((compile j ≡ refused TooManyEdges) ↔ ((0 < w) × (w ≤ 128) × (2048 < e)))
+      × ((compile j ≡ refused NoWindow) ↔ ((0 < w) × (w ≤ 128) × (e ≤ 2048)
+      × ((y : Size) → y .memory ≤ 15 → y .lookahead ≤ 15 → Window (tableFor j) y → ⊥)))
+  refusals a = (heavy-exact, crowded-exact, window-exact a)

@@ -1,0 +1,171 @@
+-- When compiling ends in a record, and exactly when it is refused with 3 to 6 and 13, from bytes to bytes.
+-- In order: written-from, refused-from, short-from, none-from; as-onward, as-early, as-allowed; written, calls, none,
+-- short, never-short; passes.
+-- Assumes nothing.
+use mathlib.Core.Path.{_≡_, refl, sym, ap, subst, _∙_}
+use mathlib.Core.Logic.{_⊎_, inl, inr, _↔_}
+use mathlib.Core.List.{List}
+use Prim.Native.Nat.{ℕ, _≤_, _<_}
+use native.Mathlib.Omega.{arith}
+use lib.Dec.{leb}
+use borrow.Author.Tests.{lt-leb}
+use lib.ListN.{length, getD}
+use Rattle.laws.specs.Lists.{sum}
+use Rattle.answer.specs.declared.Refusal.{Refusal}
+use Rattle.answer.specs.declared.Refusal.the-variants.{NoCode, ShortOutput}
+use Rattle.answer.specs.Refusals.{numberOf}
+use Rattle.answer.specs.Outcomes.{Outcome, done, refused, onward, fitting}
+use Rattle.answer.proofs.Outcomes.{unless-false, fitting-true}
+use Rattle.table.specs.Rows.{Size, Code}
+use Rattle.table.proofs.Formed.{formed→}
+use Rattle.windows.specs.Window.{Window}
+use Rattle.record.specs.Layout.{pack}
+use Rattle.record.specs.Parse.{packInto}
+use Rattle.checker.specs.Parse.{parse}
+use Rattle.record.proofs.RecordBytes.{pack-short}
+use Rattle.compiler.specs.Jobs.{Job, readJob, readRunLength, Allowed}
+use Rattle.compiler.specs.Compile.{Vector, componentOf, finishedOf, tableFor, code, compile, compileInto}
+use Rattle.compiler.specs.Compile.{compileJob, compileRunLength}
+use Rattle.compiler.specs.Kinds.{Kind, general, run-length, readAs, compileAs}
+use Rattle.compiler.proofs.Jobs.{readJob-allowed, readRunLength-allowed}
+use Rattle.compiler.proofs.Compile.{no-code-exact}
+use Rattle.compiler.proofs.Accepted.{compiled-passes}
+use Rattle.compiler.proofs.Promises.{job-passes, run-length-passes}
+use Rattle.compiler.proofs.Refused.{onward-refused, fitting-refused}
+use Rattle.compiler.proofs.Early.{Early, read-early, run-length-early}
+use Rattle.compiler.proofs.Exact.{weighs-some, compile-done, not-short}
+
+-- o is the reading of a job
+module _ (o : Outcome Job) (early : (r : Refusal) → o ≡ refused r → Early r) (room : ℕ) where
+  into : (j : Job) → o ≡ done j → onward o (compileInto room) ≡ onward (compile j) (λ c. packInto c room)
+  into j e = ap (λ p. onward p (compileInto room)) e
+
+  into-code : (j : Job) (c : Code) → o ≡ done j → compile j ≡ done c
+      → onward o (compileInto room) ≡ fitting room (pack c)
+  unfolding packInto
+  into-code j c e k = into j e ∙ ap (λ p. onward p (λ c. packInto c room)) k
+
+  written-from : (j : Job) → o ≡ done j → 0 < sum (componentOf j .weights) → sum (componentOf j .weights) ≤ 128
+      → length (finishedOf j .arcs) ≤ 2048
+      → (y : Size) → y .memory ≤ 15 → y .lookahead ≤ 15 → Window (tableFor j) y
+      → length (pack (code j (tableFor j))) ≤ room
+      → onward o (compileInto room) ≡ done (pack (code j (tableFor j)))
+  written-from j e h l few y hm ha w k =
+      into-code j (code j (tableFor j)) e (compile-done j h l few y hm ha w)
+      ∙ fitting-true room (pack (code j (tableFor j))) k
+
+  -- 3 to 6 come from compiling
+  refused-from : (r : Refusal) → 3 ≤ numberOf r → numberOf r ≤ 6
+      → (onward o (compileInto room) ≡ refused r) ↔ ((j : Job) × (o ≡ done j) × (compile j ≡ refused r))
+  unfolding packInto
+  refused-from r l h = (
+    (λ e. first (onward-refused o (compileInto room) r e)),
+    (λ (j, p, q). into j p ∙ ap (λ x. onward x (λ c. packInto c room)) q),
+  )
+    where
+      number : (r′ : Refusal) → r ≡ r′ → numberOf r ≡ numberOf r′
+      number r′ e = ap numberOf e
+
+      not-early : (numberOf r < 3) ⊎ (numberOf r ≡ 8) → ⊥
+      not-early (inl k) = omega arith
+      not-early (inr k) = omega arith
+
+      second : (j : Job) → o ≡ done j
+          → (compile j ≡ refused r) ⊎ ((c : Code) × (compile j ≡ done c) × (packInto c room ≡ refused r))
+          → (j : Job) × (o ≡ done j) × (compile j ≡ refused r)
+      second j p (inl q) = (j, p, q)
+      second j p (inr (c, _, q)) =
+          let n : numberOf r ≡ 13 = number ShortOutput (fitting-refused room (pack c) r q .0) in
+          absurd (omega arith)
+
+      first : (o ≡ refused r) ⊎ ((j : Job) × (o ≡ done j) × (compileInto room j ≡ refused r))
+          → (j : Job) × (o ≡ done j) × (compile j ≡ refused r)
+      first (inl q) = absurd (not-early (early r q))
+      first (inr (j, p, q)) = second j p (onward-refused (compile j) (λ c. packInto c room) r q)
+
+  -- 13 comes from the room
+  short-from : (onward o (compileInto room) ≡ refused ShortOutput)
+      ↔ ((j : Job) × (c : Code) × (o ≡ done j) × (compile j ≡ done c) × (room < length (pack c)))
+  unfolding packInto
+  short-from = (
+    (λ e. first (onward-refused o (compileInto room) ShortOutput e)),
+    (λ (j, c, p, q, h). into-code j c p q
+        ∙ unless-false ShortOutput (leb (length (pack c)) room) (done (pack c)) (lt-leb (length (pack c)) room h)),
+  )
+    where
+      not-early : (numberOf ShortOutput < 3) ⊎ (numberOf ShortOutput ≡ 8) → ⊥
+      not-early (inl k) = omega arith
+      not-early (inr k) = omega arith
+
+      second : (j : Job) → o ≡ done j
+          → (compile j ≡ refused ShortOutput)
+          ⊎ ((c : Code) × (compile j ≡ done c) × (packInto c room ≡ refused ShortOutput))
+          → (j : Job) × (c : Code) × (o ≡ done j) × (compile j ≡ done c) × (room < length (pack c))
+      second j p (inl q) = absurd (not-short j q)
+      second j p (inr (c, q, k)) = (j, c, p, q, fitting-refused room (pack c) ShortOutput k .1)
+
+      first : (o ≡ refused ShortOutput) ⊎ ((j : Job) × (o ≡ done j) × (compileInto room j ≡ refused ShortOutput))
+          → (j : Job) × (c : Code) × (o ≡ done j) × (compile j ≡ done c) × (room < length (pack c))
+      first (inl q) = absurd (not-early (early ShortOutput q))
+      first (inr (j, p, q)) = second j p (onward-refused (compile j) (λ c. packInto c room) ShortOutput q)
+
+  module _ (allowed : (j : Job) → o ≡ done j → Allowed j) where
+    none-from : (onward o (compileInto room) ≡ refused NoCode)
+        ↔ ((j : Job) × (o ≡ done j) × ((u : List ℕ) → Vector j u → (s : ℕ) → getD u s 0 ≡ 0))
+    none-from =
+        let (f, g) = refused-from NoCode (omega arith) (omega arith) in (
+          (λ e. let (j, p, q) = f e in (j, p, no-code-exact j (allowed j p) .0 q)),
+          (λ (j, p, q). g (j, p, no-code-exact j (allowed j p) .1 q)),
+        )
+
+-- ---- both kinds of job
+as-onward : (k : Kind) (xs : List ℕ) (room : ℕ) → onward (readAs k xs) (compileInto room) ≡ compileAs k xs room
+unfolding compileJob compileRunLength
+as-onward general xs room = refl
+as-onward run-length xs room = refl
+
+as-early : (k : Kind) (xs : List ℕ) (r : Refusal) → readAs k xs ≡ refused r → Early r
+as-early general xs = read-early xs
+as-early run-length xs = run-length-early xs
+
+-- a job that is read is allowed
+pub as-allowed : (k : Kind) (xs : List ℕ) (j : Job) → readAs k xs ≡ done j → Allowed j
+as-allowed general xs = readJob-allowed xs
+as-allowed run-length xs = readRunLength-allowed xs
+
+module _ (k : Kind) (xs : List ℕ) (room : ℕ) where
+  -- the record is written where none of the refusals is due
+  pub written : (j : Job) → readAs k xs ≡ done j → (u : List ℕ) → Vector j u → (s : ℕ) → 0 < getD u s 0
+      → sum (componentOf j .weights) ≤ 128 → length (finishedOf j .arcs) ≤ 2048
+      → (y : Size) → y .memory ≤ 15 → y .lookahead ≤ 15 → Window (tableFor j) y
+      → length (pack (code j (tableFor j))) ≤ room → compileAs k xs room ≡ done (pack (code j (tableFor j)))
+  written j e u v s g l few y hm ha w f =
+      sym (as-onward k xs room)
+      ∙ written-from (readAs k xs) (as-early k xs) room j e (weighs-some j (as-allowed k xs j e) u v s g) l few y hm ha w f
+
+  -- 3 to 6 are those of compiling the job
+  pub calls : (r : Refusal) → 3 ≤ numberOf r → numberOf r ≤ 6
+      → (compileAs k xs room ≡ refused r) ↔ ((j : Job) × (readAs k xs ≡ done j) × (compile j ≡ refused r))
+  calls r l h = rw (as-onward k xs room) at (refused-from (readAs k xs) (as-early k xs) room r l h)
+
+  -- 3 and 13, each exactly where it is due
+  pub none : (compileAs k xs room ≡ refused NoCode)
+      ↔ ((j : Job) × (readAs k xs ≡ done j) × ((u : List ℕ) → Vector j u → (s : ℕ) → getD u s 0 ≡ 0))
+  none = rw (as-onward k xs room) at (none-from (readAs k xs) (as-early k xs) room (as-allowed k xs))
+
+  pub short : (compileAs k xs room ≡ refused ShortOutput)
+      ↔ ((j : Job) × (c : Code) × (readAs k xs ≡ done j) × (compile j ≡ done c) × (room < length (pack c)))
+  short = rw (as-onward k xs room) at (short-from (readAs k xs) (as-early k xs) room)
+
+  -- with room for the longest record 13 never comes
+  pub never-short : 3864 ≤ room → compileAs k xs room ≡ refused ShortOutput → ⊥
+  never-short h e =
+      let (j, c, p, q, l) = short .0 e in
+      let f = formed→ c (compiled-passes j (as-allowed k xs j p) c q .formed) in
+      omega (arith, pack-short c f)
+
+-- the record of a job of either kind passes the checker, and is read as the code that was compiled
+pub passes : (k : Kind) (xs : List ℕ) (room : ℕ) (r : List ℕ) → compileAs k xs room ≡ done r
+    → (j : Job) × (c : Code) × (readAs k xs ≡ done j) × (compile j ≡ done c) × (pack c ≡ r) × (parse r ≡ done c)
+passes general = job-passes
+passes run-length = run-length-passes

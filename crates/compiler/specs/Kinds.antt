@@ -1,0 +1,23 @@
+-- The two kinds of job, so that what holds of both is said once.
+-- In order: Kind; readAs; compileAs.
+-- Assumes nothing.
+use mathlib.Core.List.{List}
+use Prim.Native.Nat.{ℕ}
+use Rattle.answer.specs.Outcomes.{Outcome}
+use Rattle.compiler.specs.Jobs.{Job, readJob, readRunLength}
+use Rattle.compiler.specs.Compile.{compileJob, compileRunLength}
+
+-- "A job" and "A run-length job"
+pub data Kind : Type 0 where
+  general : Kind
+  run-length : Kind
+
+-- the job in the bytes
+abbrev pub readAs : Kind → List ℕ → Outcome Job
+readAs general xs = readJob xs
+readAs run-length xs = readRunLength xs
+
+-- the job's bytes compiled to a record
+abbrev pub compileAs : Kind → List ℕ → ℕ → Outcome (List ℕ)
+compileAs general xs room = compileJob xs room
+compileAs run-length xs room = compileRunLength xs room
