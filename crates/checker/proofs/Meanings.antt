@@ -1,6 +1,6 @@
 -- Refusals 9 and 10 by their meanings: exactly the records whose fields are in range and whose recordings break the
 -- constraint, or whose window fails.
--- In order: fails; disobeys-exact, window-fails-exact.
+-- In order: fails; disobeys-exact, window-fails-exact; order.
 -- Assumes nothing.
 use mathlib.Core.Path.{_≡_, refl, sym, ap, subst, _∙_}
 use mathlib.Core.Logic.{_↔_}
@@ -68,3 +68,10 @@ module _ (xs : List ℕ) (bytes : Below 256 xs) where
           ∙ unless-true Disobeys (obeys c) last (obeys-exact c (formed→ c f) .1 o)
           ∙ unless-false WindowFails (works (c .table) (c .window)) (done c)
           (fails (works (c .table) (c .window)) (λ t. n (window-exact c (formed→ c f) .0 t)))
+
+  -- every outcome with its reason, 9 and 10 by their meanings
+  pub order : Reason xs (parse xs)
+      × ((parse xs ≡ refused Disobeys) ↔ ((c : Code) × T (formed c) × (pack c ≡ xs) × (Obeys c → ⊥)))
+      × ((parse xs ≡ refused WindowFails)
+      ↔ ((c : Code) × T (formed c) × (pack c ≡ xs) × Obeys c × (Window (c .table) (c .window) → ⊥)))
+  order = (reason xs, disobeys-exact, window-fails-exact)
