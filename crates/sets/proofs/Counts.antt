@@ -1,5 +1,5 @@
 -- A set has at most 255 records, and up to 255 accepted codes are written as bytes.
--- In order: framed-bytes, set-bytes; set-count.
+-- In order: two-bytes, framed-bytes; set-written; set-walked.
 -- Assumes nothing.
 use mathlib.Core.Path.{_≡_, sym, subst}
 use mathlib.Core.List.{List, [], _∷_, map}
@@ -17,7 +17,7 @@ use Rattle.checker.proofs.Parse.{parse-good}
 use Rattle.record.proofs.RecordBytes.{pack-bytes, pack-short}
 use Rattle.answer.specs.Outcomes.{done}
 use Rattle.sets.specs.Sets.{codes, readSet, framed, writeSet, Readable}
-use Rattle.sets.proofs.Sets.{set-canonical}
+use Rattle.sets.proofs.Sets.{set-back, set-canonical}
 
 two-bytes : (n : ℕ) → n ≤ 3864 → (n / 256 < 256) × (n % 256 < 256)
 two-bytes n h = (omega arith, omega arith)
@@ -29,15 +29,17 @@ framed-bytes (c ∷ cs) (e, r) =
     (pack-short c (formed→ c (parse-good (pack c) (pack-bytes c) c e .formed))) in
     (a, (b, below-append 256 (pack c) (concat (map framed cs)) (pack-bytes c) (framed-bytes cs r)))
 
--- up to 255 codes that come back from their records are written as bytes
-pub set-bytes : (cs : List Code) → length cs ≤ 255 → Readable cs → Below 256 (writeSet cs)
+-- up to 255 codes that come back from their records are written as bytes, and read back
+pub set-written : (cs : List Code) → length cs ≤ 255 → Readable cs
+    → Below 256 (writeSet cs) × (readSet (writeSet cs) ≡ codes cs)
 unfolding writeSet
-set-bytes cs h r = (omega arith, framed-bytes cs r)
+set-written cs h r = ((omega arith, framed-bytes cs r), set-back cs r)
 
--- a set that the walk accepts has at most 255 records
-pub set-count : (xs : List ℕ) (cs : List Code) → Below 256 xs → readSet xs ≡ codes cs → length cs ≤ 255
+-- a set that the walk accepts is such a set
+pub set-walked : (xs : List ℕ) (cs : List Code) → Below 256 xs → readSet xs ≡ codes cs
+    → (length cs ≤ 255) × (writeSet cs ≡ xs) × Readable cs
 unfolding writeSet
-set-count xs cs b e =
-    let (p, _) = set-canonical xs cs b e in
+set-walked xs cs b e =
+    let (p, r) = set-canonical xs cs b e in
     let (h, _) = subst (Below 256) (sym p) b in
-    omega arith
+    (omega arith, p, r)
