@@ -11,10 +11,10 @@ use Rattle.answer.specs.Outcomes.{Outcome, done, onward}
 use Rattle.answer.proofs.Outcomes.{onward→}
 use Rattle.table.specs.Rows.{Code}
 use Rattle.table.specs.Formed.{formed}
-use Rattle.obeying.specs.Accepted.{Accepted}
+use Rattle.checker.specs.Accepted.{Accepted}
 use Rattle.table.proofs.Formed.{formed→}
 use Rattle.obeying.proofs.Exact.{obeys-exact}
-use Rattle.obeying.proofs.Accepted.{window-exact}
+use Rattle.checker.proofs.Acceptance.{window-exact}
 use Rattle.record.specs.Layout.{pack}
 use Rattle.checker.specs.Parse.{parse, checkedOnly}
 use Rattle.checker.proofs.Parse.{parse-good, parse-pack-good}

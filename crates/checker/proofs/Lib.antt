@@ -1,3 +1,4 @@
+pub mod Acceptance
 pub mod Parse
 pub mod Follow
 pub mod Accepted

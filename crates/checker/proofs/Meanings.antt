@@ -19,7 +19,7 @@ use Rattle.obeying.specs.Obeys.{Obeys, obeys}
 use Rattle.table.specs.Formed.{formed}
 use Rattle.table.proofs.Formed.{formed→}
 use Rattle.obeying.proofs.Exact.{obeys-exact}
-use Rattle.obeying.proofs.Accepted.{window-exact}
+use Rattle.checker.proofs.Acceptance.{window-exact}
 use Rattle.record.specs.Layout.{pack}
 use Rattle.checker.specs.Parse.{parse}
 use Rattle.checker.specs.Reasons.{codeFrom, Reason, disobedient, windowless}

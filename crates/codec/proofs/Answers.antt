@@ -20,10 +20,10 @@ use Rattle.table.specs.Rows.{Code}
 use Rattle.table.specs.Paths.{Blocks, recording}
 use Rattle.windows.specs.Window.{Window}
 use Rattle.table.specs.Formed.{Formed}
-use Rattle.obeying.specs.Accepted.{Sound}
+use Rattle.checker.specs.Accepted.{Sound}
 use Rattle.table.proofs.Paths.{length-recording, blocks→path, path-words}
 use Rattle.table.proofs.Shape.{words}
-use Rattle.obeying.proofs.Accepted.{sound}
+use Rattle.checker.proofs.Acceptance.{sound}
 use Rattle.reading.specs.Reading.{decode}
 use Rattle.codec.specs.Answers.{encoded, decoded}
 use Rattle.codec.specs.Damage.{Recording}

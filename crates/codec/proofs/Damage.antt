@@ -25,7 +25,7 @@ use Rattle.windows.proofs.Same.{AgreeSame}
 use Rattle.codec.proofs.Reading.{Reads, reads-take, reads-drop, reads-end, one→, →one, at-place}
 use Rattle.codec.specs.Damage.{StandsClear}
 use Rattle.laws.proofs.Lists.{below-zeros, drop-take, below-append}
-use Rattle.obeying.specs.Accepted.{Sound}
+use Rattle.checker.specs.Accepted.{Sound}
 use Rattle.windows.proofs.Window.{window→same}
 
 run-reads : (g : Rows) (n : ℕ) → Closed g → ((s : ℕ) → s < length g → length (edges g s) ≡ n) → (xs : List ℕ) (s : ℕ)

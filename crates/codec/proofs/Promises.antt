@@ -14,7 +14,7 @@ use Rattle.table.specs.Paths.{Blocks, recording}
 use Rattle.windows.specs.Window.{Window}
 use Rattle.table.specs.Formed.{Formed}
 use Rattle.table.proofs.Formed.{formed→}
-use Rattle.obeying.proofs.Accepted.{sound}
+use Rattle.checker.proofs.Acceptance.{sound}
 use Rattle.checker.specs.Parse.{parse}
 use Rattle.checker.proofs.Accepted.{parse-exact}
 use Rattle.reading.specs.Reading.{mark, decode}

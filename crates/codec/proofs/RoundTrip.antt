@@ -14,7 +14,7 @@ use Rattle.laws.proofs.Tests.{length-from}
 use Rattle.laws.proofs.Lists.{getD-any}
 use Rattle.table.specs.Rows.{Code}
 use Rattle.table.specs.Paths.{Blocks, recording}
-use Rattle.obeying.specs.Accepted.{Sound}
+use Rattle.checker.specs.Accepted.{Sound}
 use Rattle.table.proofs.Paths.{length-recording}
 use Rattle.reading.specs.Reading.{block, decode}
 use Rattle.codec.specs.Damage.{StandsClear, Recording}

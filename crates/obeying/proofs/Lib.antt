@@ -1,7 +1,6 @@
 pub mod Reached
 pub mod AnyClosure
 pub mod Exact
-pub mod Accepted
 pub mod PairQueue
 pub mod PairTests
 pub mod PairPlaces

@@ -1,3 +1,2 @@
 pub mod Obeys
-pub mod Accepted
 pub mod Obeying

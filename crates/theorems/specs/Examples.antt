@@ -13,7 +13,7 @@ use Rattle.table.specs.Rows.{edge, Rows, Code}
 use Rattle.windows.specs.Works.{works}
 use Rattle.windows.specs.Search.{sizes, window}
 use Rattle.obeying.specs.Obeys.{obeys}
-use Rattle.obeying.specs.Accepted.{accepted}
+use Rattle.checker.specs.Accepted.{accepted}
 use Rattle.record.specs.Layout.{pack}
 use Rattle.record.specs.Parse.{packInto}
 use Rattle.record.specs.Checks.{fieldsChecked}

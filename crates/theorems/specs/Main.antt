@@ -16,7 +16,7 @@ use Rattle.table.specs.Rows.{Size, Code}
 use Rattle.table.specs.Paths.{Blocks, recording}
 use Rattle.windows.specs.Window.{Window, NoLater}
 use Rattle.table.specs.Formed.{formed}
-use Rattle.obeying.specs.Accepted.{Accepted}
+use Rattle.checker.specs.Accepted.{Accepted}
 use Rattle.record.specs.Layout.{pack}
 use Rattle.checker.specs.Parse.{parse, judged, checkedOnly}
 use Rattle.checker.proofs.Parse.{parse-pack}
