@@ -28,7 +28,7 @@ use Rattle.checker.specs.Parse.{parse}
 use Rattle.checker.proofs.Parse.{parse-pack-good}
 use Rattle.graph.specs.Arcs.{Reads}
 use Rattle.finish.proofs.TableOf.{Tabled}
-use Rattle.compiler.specs.Jobs.{Job, Allowed}
+use Rattle.job.specs.Jobs.{Job, Allowed}
 use Rattle.compiler.specs.Compile.{ways, componentOf, startOf, finishedOf, tableFor, code, compile}
 use Rattle.compiler.proofs.Compiled.{live-some, states-few, table-coded}
 use Rattle.compiler.proofs.Compile.{ways-pos, Reason, reason, coded}

@@ -18,7 +18,7 @@ use Rattle.graph.proofs.Weights.{weights-length}
 use Rattle.graph.proofs.Power.{power-inside}
 use Rattle.graph.proofs.Passed.{each-passed, splits-last}
 use Rattle.graph.proofs.Reachable.{component-is}
-use Rattle.compiler.specs.Jobs.{Job, Allowed}
+use Rattle.job.specs.Jobs.{Job, Allowed}
 use Rattle.compiler.specs.Compile.{ways, graphOf, weightsOf, componentOf, startOf, finishedOf}
 use Rattle.compiler.proofs.Compiled.{live-some, first-inv}
 use Rattle.compiler.proofs.Compile.{ways-pos}

@@ -23,7 +23,7 @@ use Rattle.windows.specs.Search.{window}
 use Rattle.graph.specs.Weights.{AtMost}
 use Rattle.graph.specs.Component.{componentStates, componentGraph, weightOf}
 use Rattle.graph.proofs.Weights.{weights-length, weights-enough, weights-greatest, weights-cap}
-use Rattle.compiler.specs.Jobs.{Job, Allowed}
+use Rattle.job.specs.Jobs.{Job, Allowed}
 use Rattle.compiler.specs.Compile.{ways, graphOf, weightsOf, componentOf, finishedOf, tableFor, code, compile}
 use Rattle.compiler.specs.Compile.{Vector}
 use Rattle.compiler.proofs.Compiled.{none-weighs}

@@ -40,10 +40,10 @@ use Rattle.splitting.specs.SplitParts.{Splits, SplitAllInto}
 use Rattle.finish.specs.TableParts.{Finished}
 use Rattle.weights.proofs.CodeTabled.{tabled-power}
 use Rattle.graph.proofs.Loop.{splits-off, splitted-end}
-use Rattle.compiler.specs.declared.JobValue.{JobValue}
-use Rattle.compiler.specs.Jobs.{Job, Allowed}
+use Rattle.job.specs.declared.JobValue.{JobValue}
+use Rattle.job.specs.Jobs.{Job, Allowed}
 use Rattle.compiler.specs.Compile.{ways, graphOf, weightsOf, componentOf, finishedOf, tableFor, code, compile}
-use Rattle.compiler.specs.JobValues.{jobIn, JobReady}
+use Rattle.job.specs.JobValues.{jobIn, JobReady}
 use Rattle.compiler.specs.Stages.{Begun}
 use Rattle.compiler.proofs.Compiled.{live-some, first-inv}
 use Rattle.compiler.proofs.Compile.{ways-pos}

@@ -26,9 +26,9 @@ use Rattle.graph.specs.Splitting.{crowded}
 use Rattle.finish.specs.TableOf.{tableOf}
 use Rattle.splitting.specs.SplitParts.{SplitAllInto}
 use Rattle.finish.specs.TableParts.{TableIn, rowsOfTable}
-use Rattle.compiler.specs.declared.JobValue.{JobValue}
+use Rattle.job.specs.declared.JobValue.{JobValue}
 use Rattle.compiler.specs.Compile.{tableFor, compile}
-use Rattle.compiler.specs.JobValues.{jobIn, JobReady}
+use Rattle.job.specs.JobValues.{jobIn, JobReady}
 use Rattle.compiler.specs.Texts.{Listed}
 use Rattle.compiler.specs.Stages.{windowed, Begun, withSize}
 use Rattle.compiler.proofs.Accepted.{Made, made, window-found}

@@ -17,7 +17,7 @@ use Rattle.answer.specs.Outcomes.{Outcome, done, refused, unless}
 use Rattle.answer.proofs.Outcomes.{refused-not}
 use Rattle.constraint.specs.Walking.{runLength}
 use Rattle.table.specs.Formed.{goodNext}
-use Rattle.compiler.specs.Jobs.{Job, goodParameters, statesOf, readJob, readRunLength}
+use Rattle.job.specs.Jobs.{Job, goodParameters, statesOf, readJob, readRunLength}
 use Rattle.compiler.proofs.Refused.{refused-inj}
 
 -- the refusals that reading a job gives: 1, 2 and 8

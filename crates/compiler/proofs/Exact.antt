@@ -22,7 +22,7 @@ use Rattle.windows.specs.Window.{Window}
 use Rattle.windows.specs.Search.{window}
 use Rattle.windows.proofs.Window.{works-complete}
 use Rattle.windows.proofs.WindowLeast.{Chosen, window-least}
-use Rattle.compiler.specs.Jobs.{Job, Allowed}
+use Rattle.job.specs.Jobs.{Job, Allowed}
 use Rattle.compiler.specs.Compile.{Vector, componentOf, finishedOf, tableFor, code, compile}
 use Rattle.compiler.proofs.Refused.{refused-inj}
 use Rattle.compiler.proofs.Compile.{Reason, reason, nothing, heavy, crowding, windowless, coded, no-code-exact}

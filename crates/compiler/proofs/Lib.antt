@@ -1,9 +1,7 @@
 pub mod Compiled
-pub mod Jobs
 pub mod Compile
 pub mod Accepted
 pub mod Promises
-pub mod JobSteps
 pub mod Texts
 pub mod Lines
 pub mod ListingIs

@@ -1,5 +1,5 @@
 -- A reading that goes on: what the next stage comes to after a verdict.
--- In order: read-bad, read-done; job-bad, job-done; ends-bad, goes-on; listed-so.
+-- In order: read-bad, read-done; ends-bad, goes-on; listed-so.
 -- Assumes nothing.
 use mathlib.Core.Path.{_≡_, refl, sym, ap, _∙_}
 use mathlib.Core.List.{List}
@@ -13,10 +13,8 @@ use Rattle.table.specs.Value.{codeIn}
 use Rattle.record.specs.declared.Verdict.the-variants.{Read, Bad}
 use Rattle.record.specs.declared.Reading.{Reading}
 use Rattle.record.specs.Checks.{verdictOf, outcomeIn}
-use Rattle.compiler.specs.declared.JobReading.{JobReading}
-use Rattle.compiler.specs.Jobs.{Job, readRunLength}
+use Rattle.job.specs.Jobs.{Job, readRunLength}
 use Rattle.compiler.specs.Compile.{compile}
-use Rattle.compiler.specs.JobValues.{jobIn, verdictOn, jobOutcome}
 use Rattle.compiler.specs.Listing.{listing, listInto}
 use Rattle.compiler.specs.Stages.{listedInto}
 
@@ -26,12 +24,6 @@ read-bad r o x e q = sym e ∙ ap (λ v. verdictOf v (codeIn (r .table))) q
 
 pub read-done : (r : Reading) (o : Outcome Code) → outcomeIn r ≡ o → r .verdict ≡ Read → o ≡ done (codeIn (r .table))
 read-done r o e q = sym e ∙ ap (λ v. verdictOf v (codeIn (r .table))) q
-
-pub job-bad : (r : JobReading) (o : Outcome Job) (x : Refusal) → jobOutcome r ≡ o → r .verdict ≡ Bad x → o ≡ refused x
-job-bad r o x e q = sym e ∙ ap (λ v. verdictOn v (jobIn (r .job))) q
-
-pub job-done : (r : JobReading) (o : Outcome Job) → jobOutcome r ≡ o → r .verdict ≡ Read → o ≡ done (jobIn (r .job))
-job-done r o e q = sym e ∙ ap (λ v. verdictOn v (jobIn (r .job))) q
 
 -- ---- what the next stage comes to
 module _ {A : Type 0} (o : Outcome A) (f : A → Outcome (List ℕ)) (B : List ℕ) where

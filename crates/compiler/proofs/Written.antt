@@ -23,11 +23,11 @@ use Rattle.record.specs.Layout.{pack}
 use Rattle.record.specs.Parse.{packInto}
 use Rattle.checker.specs.Parse.{parse}
 use Rattle.record.proofs.RecordBytes.{pack-short}
-use Rattle.compiler.specs.Jobs.{Job, readJob, readRunLength, Allowed}
+use Rattle.job.specs.Jobs.{Job, readJob, readRunLength, Allowed}
 use Rattle.compiler.specs.Compile.{Vector, componentOf, finishedOf, tableFor, code, compile, compileInto}
 use Rattle.compiler.specs.Compile.{compileJob, compileRunLength}
 use Rattle.compiler.specs.Kinds.{Kind, general, run-length, readAs, compileAs}
-use Rattle.compiler.proofs.Jobs.{readJob-allowed, readRunLength-allowed}
+use Rattle.job.proofs.Jobs.{readJob-allowed, readRunLength-allowed}
 use Rattle.compiler.proofs.Compile.{no-code-exact}
 use Rattle.compiler.proofs.Accepted.{compiled-passes}
 use Rattle.compiler.proofs.Promises.{job-passes, run-length-passes}

@@ -18,7 +18,7 @@ use Rattle.graph.specs.Weights.{Enough, weights}
 use Rattle.graph.specs.Component.{componentStates, componentGraph}
 use Rattle.graph.specs.Splitting.{crowded, splitAll}
 use Rattle.finish.specs.TableOf.{tableOf}
-use Rattle.compiler.specs.Jobs.{Job, readJob, readRunLength}
+use Rattle.job.specs.Jobs.{Job, readJob, readRunLength}
 
 -- "Let n = 2^p."
 abbrev pub ways : Job → ℕ

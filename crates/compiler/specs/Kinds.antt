@@ -4,7 +4,7 @@
 use mathlib.Core.List.{List}
 use Prim.Native.Nat.{ℕ}
 use Rattle.answer.specs.Outcomes.{Outcome}
-use Rattle.compiler.specs.Jobs.{Job, readJob, readRunLength}
+use Rattle.job.specs.Jobs.{Job, readJob, readRunLength}
 use Rattle.compiler.specs.Compile.{compileJob, compileRunLength}
 
 -- "A job" and "A run-length job"

@@ -12,7 +12,7 @@ use Rattle.answer.specs.Refusals.{numberOf}
 use Rattle.answer.specs.Outcomes.{Outcome, done, refused, onward, fitting}
 use Rattle.bits.specs.Fields.{bits}
 use Rattle.table.specs.Rows.{edges, at, Code}
-use Rattle.compiler.specs.Jobs.{readRunLength}
+use Rattle.job.specs.Jobs.{readRunLength}
 use Rattle.compiler.specs.Compile.{compile}
 
 -- the byte of a blank

@@ -14,7 +14,7 @@ use Rattle.table.specs.Rows.{Code}
 use Rattle.windows.specs.Search.{window}
 use Rattle.graph.specs.declared.Graph.{Graph}
 use Rattle.graph.specs.Value.{workIn, Fits}
-use Rattle.compiler.specs.Jobs.{Job}
+use Rattle.job.specs.Jobs.{Job}
 use Rattle.compiler.specs.Compile.{ways, componentOf, startOf, compile}
 use Rattle.compiler.specs.Listing.{listing}
 

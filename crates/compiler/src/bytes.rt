@@ -4,14 +4,14 @@ ghost use lib.ListN.{length};
 ghost use Rattle.answer.specs.Outcomes.{answerOf, outputOf};
 ghost use Rattle.compiler.specs.Compile.{compileInto, compileJob, compileRunLength};
 ghost use Rattle.compiler.specs.Listing.{listInto};
-ghost use Rattle.compiler.specs.JobValues.{jobIn, JobReady};
+ghost use Rattle.job.specs.JobValues.{jobIn, JobReady};
 ghost use Rattle.compiler.specs.Stages.{listedInto};
-use crate::JobValue;
 use crate::compiling::compile;
 use crate::listing::list;
-use crate::reading::read_job;
-use crate::reading::read_run_length;
 use answer::Answer;
+use job::JobValue;
+use job::reading::read_job;
+use job::reading::read_run_length;
 use record::Verdict;
 use record::write;
 
@@ -58,8 +58,8 @@ pub fn compile_job(job: &[u8], out: &mut [u8]) -> Answer
     let v = r.verdict;
     let j = r.job;
     match v {
-        Verdict::Bad(x) => Answer::Refused(x),
-        Verdict::Read => compile_into(j, out),
+        answer::Verdict::Bad(x) => Answer::Refused(x),
+        answer::Verdict::Good => compile_into(j, out),
     }
 }
 
@@ -74,8 +74,8 @@ pub fn compile_run_length(job: &[u8], out: &mut [u8]) -> Answer
     let v = r.verdict;
     let j = r.job;
     match v {
-        Verdict::Bad(x) => Answer::Refused(x),
-        Verdict::Read => compile_into(j, out),
+        answer::Verdict::Bad(x) => Answer::Refused(x),
+        answer::Verdict::Good => compile_into(j, out),
     }
 }
 
@@ -89,7 +89,7 @@ pub fn list_run_length(job: &[u8], out: &mut [u8]) -> Answer
     let v = r.verdict;
     let j = r.job;
     match v {
-        Verdict::Bad(x) => Answer::Refused(x),
-        Verdict::Read => list_into(j, out),
+        answer::Verdict::Bad(x) => Answer::Refused(x),
+        answer::Verdict::Good => list_into(j, out),
     }
 }

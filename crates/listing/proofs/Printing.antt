@@ -27,11 +27,11 @@ use Rattle.table.proofs.Formed.{formed→}
 use Rattle.table.proofs.Shape.{full}
 use Rattle.table.proofs.RowsOf.{ways-small}
 use Rattle.record.proofs.Sizes.{product-le}
-use Rattle.compiler.specs.Jobs.{readRunLength}
+use Rattle.job.specs.Jobs.{readRunLength}
 use Rattle.compiler.specs.Compile.{compile}
 use Rattle.compiler.specs.Listing.{digit, decimal, binary, edgeLine, rowLines, headLine, listing, refusal, listingOf}
 use Rattle.compiler.specs.Listing.{printed, listInto}
-use Rattle.compiler.proofs.Jobs.{readRunLength-allowed}
+use Rattle.job.proofs.Jobs.{readRunLength-allowed}
 use Rattle.compiler.proofs.Lines.{concat-more}
 use Rattle.compiler.proofs.Accepted.{compiled-passes}
 

@@ -24,7 +24,7 @@ use Rattle.graph.specs.Weights.{weights}
 use Rattle.graph.specs.Component.{componentStates, componentGraph}
 use Rattle.graph.specs.Splitting.{split, splits, splitAll}
 use Rattle.finish.specs.TableOf.{tableStates, tableOf}
-use Rattle.compiler.specs.Jobs.{readJob, readRunLength}
+use Rattle.job.specs.Jobs.{readJob, readRunLength}
 use Rattle.compiler.specs.Compile.{weightsOf, componentOf, compile, compileRunLength}
 use mathlib.Core.Bool.{true}
 

@@ -34,7 +34,7 @@ use Rattle.graph.specs.Splitting.{stretch, divisible, chosen, kept, unfinished}
 use Rattle.graph.specs.Invariant.{Inv, Part}
 use Rattle.graph.proofs.Split.{split-part}
 use Rattle.graph.proofs.RunUnique as runs
-use Rattle.compiler.specs.Jobs.{Job, readJob, readRunLength, Allowed}
+use Rattle.job.specs.Jobs.{Job, readJob, readRunLength, Allowed}
 use Rattle.compiler.specs.Compile.{ways, Vector, weightsOf, componentOf, finishedOf, tableFor, compile, compileJob}
 use Rattle.compiler.specs.Compile.{compileRunLength}
 use Rattle.compiler.proofs.Compile.{no-code-exact, weights-vector, greatest-vector}

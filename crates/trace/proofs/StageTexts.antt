@@ -19,10 +19,10 @@ use Rattle.graph.specs.Component.{within, reachings, reaches, returning, live, 
 use Rattle.graph.specs.Splitting.{crowded}
 use Rattle.reach.specs.ReachSets.{rowsOf}
 use Rattle.weights.specs.PowerTable.{tabled, Powers}
-use Rattle.compiler.specs.declared.JobValue.{JobValue}
-use Rattle.compiler.specs.Jobs.{Job}
+use Rattle.job.specs.declared.JobValue.{JobValue}
+use Rattle.job.specs.Jobs.{Job}
 use Rattle.compiler.specs.Compile.{ways, graphOf, weightsOf, componentOf}
-use Rattle.compiler.specs.JobValues.{jobIn, JobReady}
+use Rattle.job.specs.JobValues.{jobIn, JobReady}
 use Rattle.compiler.proofs.CompileSteps.{held-tabled}
 use Rattle.trace.specs.Lines.{weightsLine, componentLine}
 use Rattle.trace.specs.Traced.{splitText, stages}

@@ -13,7 +13,7 @@ use Rattle.graph.specs.Arcs.{Work}
 use Rattle.graph.specs.Component.{componentStates}
 use Rattle.graph.specs.Splitting.{crowded, splitAll}
 use Rattle.finish.specs.TableOf.{tableOf}
-use Rattle.compiler.specs.Jobs.{Job, readJob, readRunLength}
+use Rattle.job.specs.Jobs.{Job, readJob, readRunLength}
 use Rattle.compiler.specs.Compile.{ways, graphOf, weightsOf, componentOf, compile}
 use Rattle.refusals.specs.Phrases.{refusalLine}
 use Rattle.trace.specs.Lines.{

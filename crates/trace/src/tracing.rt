@@ -1,14 +1,14 @@
 // The trace of a job: its weights, its component, each split, the table and the window, or the refusal where it comes.
 ghost use Rattle.text.specs.Texts.{Added};
-ghost use Rattle.compiler.specs.JobValues.{jobIn, JobReady};
+ghost use Rattle.job.specs.JobValues.{jobIn, JobReady};
 ghost use Rattle.trace.specs.Traced.{traced, tracedJob, tracedRunLength};
 use crate::endings::put_ending;
 use crate::stages::put_stages;
-use compiler::JobValue;
+use answer::Verdict;
 use compiler::compiling::compile;
-use compiler::reading::read_job;
-use compiler::reading::read_run_length;
-use record::Verdict;
+use job::JobValue;
+use job::reading::read_job;
+use job::reading::read_run_length;
 use refusals::put_refusal_line;
 use table::chains::ways;
 
@@ -31,7 +31,7 @@ pub fn trace_job(job: &[u8], out: &mut [u8], at: usize) -> usize
     let j = r.job;
     match v {
         Verdict::Bad(x) => put_refusal_line(out, at, x),
-        Verdict::Read => trace(j, out, at),
+        Verdict::Good => trace(j, out, at),
     }
 }
 
@@ -44,6 +44,6 @@ pub fn trace_run_length(job: &[u8], out: &mut [u8], at: usize) -> usize
     let j = r.job;
     match v {
         Verdict::Bad(x) => put_refusal_line(out, at, x),
-        Verdict::Read => trace(j, out, at),
+        Verdict::Good => trace(j, out, at),
     }
 }

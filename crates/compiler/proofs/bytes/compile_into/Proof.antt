@@ -4,7 +4,7 @@ use denote.Ref.{now}
 use lib.ListN.{length}
 use Rattle.record.specs.Parse.{packInto}
 use Rattle.compiler.specs.Compile.{compile}
-use Rattle.compiler.specs.JobValues.{jobIn}
+use Rattle.job.specs.JobValues.{jobIn}
 use Rattle.compiler.proofs.Onward.{read-bad, read-done, ends-bad, goes-on}
 use borrow.Author.Needs.{needs}
 use borrow.Author.Needs.{needs}

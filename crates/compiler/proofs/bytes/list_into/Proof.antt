@@ -5,7 +5,7 @@ use lib.ListN.{length}
 use Rattle.answer.specs.Outcomes.{fitting}
 use Rattle.compiler.specs.Listing.{listing}
 use Rattle.compiler.specs.Compile.{compile}
-use Rattle.compiler.specs.JobValues.{jobIn}
+use Rattle.job.specs.JobValues.{jobIn}
 use Rattle.compiler.proofs.Onward.{read-bad, read-done, ends-bad, goes-on}
 use borrow.Author.Needs.{needs}
 use borrow.Author.Needs.{needs}

@@ -2,7 +2,7 @@
 -- component are the job's.
 -- Assumes nothing.
 use native.Mathlib.Omega.{arith}
-use Rattle.compiler.specs.JobValues.{jobIn}
+use Rattle.job.specs.JobValues.{jobIn}
 use Rattle.compiler.proofs.Compile.{ways-pos}
 use Rattle.compiler.proofs.CompileSteps.{has-states, held-powers, held-component}
 use Rattle.compiler.proofs.compiling.component_of.Statement.{statement}

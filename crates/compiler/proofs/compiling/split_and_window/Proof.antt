@@ -2,7 +2,7 @@
 -- table of the finished graph is the job's.
 -- Assumes nothing.
 use mathlib.Core.Path.{sym, _∙_}
-use Rattle.compiler.specs.JobValues.{jobIn}
+use Rattle.job.specs.JobValues.{jobIn}
 use Rattle.compiler.proofs.CompileSteps.{compile-crowded, begun-splits, begun-crowded, begun-finished}
 use Rattle.compiler.proofs.CompileTable.{table-ready, table-code}
 use borrow.Author.Needs.{needs}

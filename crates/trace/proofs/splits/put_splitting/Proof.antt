@@ -1,7 +1,7 @@
 -- `put_splitting` meets its contract: the graph and its splits, and, unless there are too many edges, what they end
 -- with.
 -- Assumes nothing.
-use Rattle.compiler.specs.JobValues.{jobIn}
+use Rattle.job.specs.JobValues.{jobIn}
 use Rattle.compiler.proofs.CompileSteps.{begun-splits, begun-finished}
 use Rattle.text.proofs.Adding.{added-same}
 use Rattle.text.specs.Texts.{bytes}

@@ -6,7 +6,7 @@ use lib.ListN.{getD, take}
 use Rattle.graph.specs.Component.{componentStates}
 use Rattle.component.specs.ComponentParts.{FoundIn}
 use Rattle.compiler.specs.Compile.{graphOf, weightsOf}
-use Rattle.compiler.specs.JobValues.{jobIn}
+use Rattle.job.specs.JobValues.{jobIn}
 use Rattle.compiler.proofs.Compile.{ways-pos}
 use Rattle.compiler.proofs.CompileSteps.{has-states, held-powers, held-component}
 use Rattle.text.proofs.Adding.{added-same}

@@ -1,7 +1,8 @@
 -- `trace_run_length` meets its contract: a refusal of the bytes is told, and a job that was read is traced.
 -- Assumes nothing.
 use mathlib.Core.Path.{sym, ap}
-use Rattle.compiler.proofs.Onward.{job-bad, job-done}
+use Rattle.answer.proofs.Outcomes.{said-good, said-bad}
+use Rattle.job.specs.JobValues.{jobIn}
 use Rattle.text.proofs.Adding.{added-same}
 use Rattle.trace.specs.Traced.{tracing, tracedRunLength}
 use borrow.Author.Needs.{needs}
@@ -31,7 +32,7 @@ returns : tie.Need-returns
 unfolding tracedRunLength
 returns c =
     let k = c .before .before .before .before .before .before .before .before .read-run-length in
-    added-same (sym (ap tracing (job-bad (k .result) _ _ (k .ensures .0)
+    added-same (sym (ap tracing (said-bad (k .result .verdict) (jobIn (k .result .job)) _ (k .ensures .0) _
     (c .before .before .before .before .before .v .given .1)))) (c .before .before .put-refusal-line .ensures)
 
 same-length-2 : tie.Need-same-length-2
@@ -41,7 +42,7 @@ returns-2 : tie.Need-returns-2
 unfolding tracedRunLength
 returns-2 c =
     let k = c .before .before .before .before .before .before .before .read-run-length in
-    added-same (sym (ap tracing (job-done (k .result) _ (k .ensures .0)
+    added-same (sym (ap tracing (said-good (k .result .verdict) (jobIn (k .result .job)) _ (k .ensures .0)
     (c .before .before .before .before .enum-told .given .1)))) (c .before .before .trace .ensures)
 
 pub trace-run-length-spec : {M : Type 1} → statement M

@@ -9,10 +9,10 @@ use lib.ListN.{getD}
 use Rattle.constraint.specs.Walking.{none, NextStates, nowhere}
 use Rattle.constraint.specs.PowerTable.{Filled}
 use Rattle.constraint.proofs.Values.{map-below, fill-none, fill-more, filled-read}
-use Rattle.compiler.specs.JobValues.{stateAt}
+use Rattle.job.specs.JobValues.{stateAt}
 use borrow.Author.Needs.{needs}
-use Rattle.compiler.proofs.reading.states_of.Statement.{statement}
-use Rattle.compiler.proofs.reading.states_of.Tie as tie
+use Rattle.job.proofs.reading.states_of.Statement.{statement}
+use Rattle.job.proofs.reading.states_of.Tie as tie
 
 abbrev Inv-loop : tie.InvT-loop
 Inv-loop bytes count zero₀ one₀ s₀ zero one s =

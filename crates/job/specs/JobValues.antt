@@ -1,20 +1,18 @@
 -- The job that a value of the code's struct stands for, and what its reading comes to.
--- In order: jobIn; JobReady, what compiling needs of a value; verdictOn, jobOutcome; stateAt, goodStateAt, the next
+-- In order: jobIn; JobReady, what compiling needs of a value; jobOutcome; stateAt, goodStateAt, the next
 -- states in a job's bytes.
 -- Assumes nothing.
 use Prim.Native.Nat.{ℕ, _+_, _*_, _≤_}
 use mathlib.Core.Bool.{Bool}
 use mathlib.Core.List.{List}
 use lib.ListN.{getD}
-use Rattle.answer.specs.Outcomes.{Outcome, done, refused}
+use Rattle.answer.specs.Outcomes.{Outcome, verdictOn}
 use Rattle.constraint.specs.Walking.{NextStates}
 use Rattle.constraint.specs.Value.{constraintOf}
 use Rattle.table.specs.Formed.{goodNext}
-use Rattle.record.specs.declared.Verdict.{Verdict}
-use Rattle.record.specs.declared.Verdict.the-variants.{Read, Bad}
-use Rattle.compiler.specs.declared.JobValue.{JobValue}
-use Rattle.compiler.specs.declared.JobReading.{JobReading}
-use Rattle.compiler.specs.Jobs.{Job, Allowed}
+use Rattle.job.specs.declared.JobValue.{JobValue}
+use Rattle.job.specs.declared.JobAnswer.{JobAnswer}
+use Rattle.job.specs.Jobs.{Job, Allowed}
 
 -- the job of a value
 abbrev pub jobIn : JobValue → Job
@@ -26,13 +24,8 @@ pub record JobReady (j : JobValue) : Type 0 where
   pub allowed : Allowed (jobIn j)
   pub limits : j .constraint .states ≤ 16
 
--- a verdict on what was read
-abbrev pub verdictOn : {A : Type 0} → Verdict → A → Outcome A
-verdictOn Read a = done a
-verdictOn (Bad r) a = refused r
-
 -- what the reading of a job comes to
-abbrev pub jobOutcome : JobReading → Outcome Job
+abbrev pub jobOutcome : JobAnswer → Outcome Job
 jobOutcome r = verdictOn (r .verdict) (jobIn (r .job))
 
 -- the next states of state s in a job's bytes

@@ -3,26 +3,26 @@
 use mathlib.Core.Path.{_≡_, sym, _∙_}
 use mathlib.Core.Bool.{_&&_, true}
 use mathlib.Core.List.{List}
-use Prim.Native.Nat.{ℕ, _+_, _*_}
+use Prim.Native.Nat.{ℕ, _+_, _*_, _≤_}
 use native.Mathlib.Omega.{arith}
 use borrow.Author.Tests.{not-true, not-false, le-leb, lt-leb, eq-eqb, ne-eqb}
 use denote.Ref.{now}
 use lib.Dec.{leb, eqb}
 use lib.ListN.{length, getD}
-use Rattle.compiler.specs.Jobs.{goodParameters}
-use Rattle.compiler.proofs.JobSteps.{in-range, jobOf, job-short, job-parameters, job-count, job-length}
-use Rattle.compiler.proofs.JobSteps.{job-states, job-good, job-ready}
+use Rattle.job.specs.Jobs.{goodParameters}
+use Rattle.job.proofs.JobSteps.{in-range, jobOf, job-short, job-parameters, job-count, job-length}
+use Rattle.job.proofs.JobSteps.{job-states, job-good, job-ready}
 use borrow.Author.Needs.{needs}
 use borrow.Author.Needs.{needs}
-use Rattle.compiler.proofs.reading.read_job.Statement.{statement}
-use Rattle.compiler.proofs.reading.read_job.Tie as tie
+use Rattle.job.proofs.reading.read_job.Statement.{statement}
+use Rattle.job.proofs.reading.read_job.Tie as tie
 
 -- there are four bytes
 abbrev in₁ : tie.Else1 → List ℕ
 in₁ c = now (c .before .before .args .bytes)
 
 long : (c : tie.Else1) → leb 4 (length (in₁ c)) ≡ true
-long c = le-leb 4 _ (c .if1 .left)
+long c = let h : 4 ≤ length (in₁ c) = omega (arith, c .if1 .left) in le-leb 4 _ h
 
 -- the parameters are in range
 abbrev in₂ : tie.Else2 → List ℕ
@@ -42,14 +42,14 @@ counted c = sym (c .before .between .ensures) ∙ not-false (c .before .between 
 sized : (c : tie.Else4) → eqb (length (in₃ (c .before))) (4 + 2 * getD (in₃ (c .before)) 3 0) ≡ true
 sized c = eq-eqb _ _ (c .if4 .left)
 
-bad-requires : tie.Need-bad-requires
-bad-requires c κs = search needs
+declined-requires : tie.Need-declined-requires
+declined-requires c κs = search needs
 
 returns : tie.Need-returns
 returns c = (
-  c .bad .ensures .0 ∙ sym (job-short (now (c .before .before .before .args .bytes))
+  c .declined .ensures .0 ∙ sym (job-short (now (c .before .before .before .args .bytes))
       (lt-leb 4 _ (c .before .if1 .taken))),
-  λ e. absurd (c .bad .ensures .1 e),
+  λ e. absurd (c .declined .ensures .1 e),
 )
 
 shared-slice-read-p : tie.Need-shared-slice-read-p
@@ -73,17 +73,17 @@ cast-cap c = omega (arith, c .shared-slice-known4 .given 2)
 good-parameters-requires : tie.Need-good-parameters-requires
 good-parameters-requires c κs = search needs
 
-bad-requires-2 : tie.Need-bad-requires-2
-bad-requires-2 c κs = search needs
+declined-requires-2 : tie.Need-declined-requires-2
+declined-requires-2 c κs = search needs
 
 returns-2 : tie.Need-returns-2
 returns-2 c =
     let g = c .before .before in
     let b = g .before .before .before .before in (
-      c .bad2 .ensures .0
+      c .declined2 .ensures .0
           ∙ sym (job-parameters (in₁ b) (long b)
           (sym (g .good-parameters .ensures) ∙ not-true (g .good-parameters .result) (c .before .if2 .taken))),
-      λ e. absurd (c .bad2 .ensures .1 e),
+      λ e. absurd (c .declined2 .ensures .1 e),
     )
 
 shared-slice-read-count : tie.Need-shared-slice-read-count
@@ -95,17 +95,17 @@ cast-count c = omega (arith, c .shared-slice-known5 .given 3)
 between-requires : tie.Need-between-requires
 between-requires c κs = search needs
 
-bad-requires-3 : tie.Need-bad-requires-3
-bad-requires-3 c κs = search needs
+declined-requires-3 : tie.Need-declined-requires-3
+declined-requires-3 c κs = search needs
 
 returns-3 : tie.Need-returns-3
 returns-3 c =
     let g = c .before .before in
     let p = g .before .before in (
-      c .bad3 .ensures .0
+      c .declined3 .ensures .0
           ∙ sym (job-count (in₂ p) (long (p .before .before .before .before .before)) (good p)
           (sym (g .between .ensures) ∙ not-true (g .between .result) (c .before .if3 .taken))),
-      λ e. absurd (c .bad3 .ensures .1 e),
+      λ e. absurd (c .declined3 .ensures .1 e),
     )
 
 mul-if4 : tie.Need-mul-if4
@@ -114,35 +114,35 @@ mul-if4 c = omega (arith, in-range 1 (getD (in₃ c) 3 0) 16 (counted c) .1)
 add-if4 : tie.Need-add-if4
 add-if4 c = omega (arith, in-range 1 (getD (in₃ c) 3 0) 16 (counted c) .1)
 
-bad-requires-4 : tie.Need-bad-requires-4
-bad-requires-4 c κs = search needs
+declined-requires-4 : tie.Need-declined-requires-4
+declined-requires-4 c κs = search needs
 
 returns-4 : tie.Need-returns-4
 returns-4 c =
     let k = c .before .before in
     let p = k .before .before .before in (
-      c .bad4 .ensures .0
+      c .declined4 .ensures .0
           ∙ sym (job-length (in₂ p) (long (p .before .before .before .before .before)) (good p) (counted k)
           (ne-eqb _ _ (c .before .if4 .taken))),
-      λ e. absurd (c .bad4 .ensures .1 e),
+      λ e. absurd (c .declined4 .ensures .1 e),
     )
 
 good-states-requires : tie.Need-good-states-requires
 good-states-requires c κs = (in-range 1 _ 16 (counted (c .before)) .1, omega arith)
 
-bad-requires-5 : tie.Need-bad-requires-5
-bad-requires-5 c κs = search needs
+declined-requires-5 : tie.Need-declined-requires-5
+declined-requires-5 c κs = search needs
 
 returns-5 : tie.Need-returns-5
 returns-5 c =
     let g = c .before .before in
     let k = g .before .before in
     let p = k .before .before .before in (
-      c .bad5 .ensures .0
+      c .declined5 .ensures .0
           ∙ sym (job-states (in₂ p) (long (p .before .before .before .before .before)) (good p) (counted k)
           (sized (g .before))
           (sym (g .good-states .ensures) ∙ not-true (g .good-states .result) (c .before .if5 .taken))),
-      λ e. absurd (c .bad5 .ensures .1 e),
+      λ e. absurd (c .declined5 .ensures .1 e),
     )
 
 states-of-requires : tie.Need-states-of-requires
@@ -164,7 +164,7 @@ pub read-job-spec : {M : Type 1} → statement M
 read-job-spec =
     tie.close
     (tie.spec
-    bad-requires
+    declined-requires
     returns
     shared-slice-read-p
     cast-p
@@ -173,19 +173,19 @@ read-job-spec =
     shared-slice-read-cap
     cast-cap
     good-parameters-requires
-    bad-requires-2
+    declined-requires-2
     returns-2
     shared-slice-read-count
     cast-count
     between-requires
-    bad-requires-3
+    declined-requires-3
     returns-3
     mul-if4
     add-if4
-    bad-requires-4
+    declined-requires-4
     returns-4
     good-states-requires
-    bad-requires-5
+    declined-requires-5
     returns-5
     states-of-requires
     returns-6)

@@ -20,10 +20,10 @@ use Rattle.constraint.specs.declared.Constraint.{Constraint}
 use Rattle.constraint.specs.Value.{constraintOf}
 use Rattle.constraint.proofs.Values.{length-constraintOf}
 use Rattle.table.specs.Formed.{goodNext}
-use Rattle.compiler.specs.declared.JobValue.{JobValue}
-use Rattle.compiler.specs.Jobs.{Job, goodParameters, statesOf, readJob, readRunLength, Allowed}
-use Rattle.compiler.specs.JobValues.{jobIn, JobReady, stateAt, goodStateAt}
-use Rattle.compiler.proofs.Jobs.{readJob-allowed, readRunLength-allowed}
+use Rattle.job.specs.declared.JobValue.{JobValue}
+use Rattle.job.specs.Jobs.{Job, goodParameters, statesOf, readJob, readRunLength, Allowed}
+use Rattle.job.specs.JobValues.{jobIn, JobReady, stateAt, goodStateAt}
+use Rattle.job.proofs.Jobs.{readJob-allowed, readRunLength-allowed}
 
 -- ---- the states in a job's bytes
 states-from : (K i : ℕ) (xs : List ℕ) → statesOf K (drop (4 + i * 2) xs) ≡ map (stateAt xs) (from i K)

@@ -3,8 +3,8 @@
 use borrow.Author.Tests.{not-true, not-false}
 use borrow.Author.Needs.{needs}
 use borrow.Author.Needs.{needs}
-use Rattle.compiler.proofs.reading.good_next.Statement.{statement}
-use Rattle.compiler.proofs.reading.good_next.Tie as tie
+use Rattle.job.proofs.reading.good_next.Statement.{statement}
+use Rattle.job.proofs.reading.good_next.Tie as tie
 
 mul-good-state : tie.Need-mul-good-state
 mul-good-state c = search needs

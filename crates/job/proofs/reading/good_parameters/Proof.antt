@@ -3,8 +3,8 @@
 use borrow.Author.Tests.{not-true, not-false}
 use borrow.Author.Needs.{needs}
 use borrow.Author.Needs.{needs}
-use Rattle.compiler.proofs.reading.good_parameters.Statement.{statement}
-use Rattle.compiler.proofs.reading.good_parameters.Tie as tie
+use Rattle.job.proofs.reading.good_parameters.Statement.{statement}
+use Rattle.job.proofs.reading.good_parameters.Tie as tie
 
 between-requires : tie.Need-between-requires
 between-requires c κs = search needs

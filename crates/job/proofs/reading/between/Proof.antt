@@ -1,8 +1,8 @@
 -- `between` meets its contract: the first test decides where it fails, otherwise the second does.
 -- Assumes nothing.
 use borrow.Author.Tests.{lt-leb, le-leb}
-use Rattle.compiler.proofs.reading.between.Statement.{statement}
-use Rattle.compiler.proofs.reading.between.Tie as tie
+use Rattle.job.proofs.reading.between.Statement.{statement}
+use Rattle.job.proofs.reading.between.Tie as tie
 
 returns : tie.Need-returns
 returns c = simp (lt-leb _ _ (c .if1 .taken))

@@ -20,7 +20,7 @@ use Rattle.answer.proofs.Outcomes.{done-inj, unless→}
 use Rattle.constraint.specs.Walking.{NextStates, Constraint, none, runLength, Target, Well}
 use Rattle.constraint.proofs.Walking.{length-runLength, runLength-well}
 use Rattle.table.specs.Formed.{goodState, goodNext}
-use Rattle.compiler.specs.Jobs.{Job, goodParameters, statesOf, readJob, readRunLength, Allowed}
+use Rattle.job.specs.Jobs.{Job, goodParameters, statesOf, readJob, readRunLength, Allowed}
 
 -- ---- what the tests say
 record Parameter (p q cap : ℕ) : Type 0 where

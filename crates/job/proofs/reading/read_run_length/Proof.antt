@@ -9,13 +9,13 @@ use borrow.Author.Tests.{not-true, not-false, eq-eqb, ne-eqb}
 use denote.Ref.{now}
 use lib.Dec.{leb, eqb}
 use lib.ListN.{length, getD}
-use Rattle.compiler.specs.Jobs.{goodParameters}
-use Rattle.compiler.proofs.JobSteps.{in-range, jobOf, run-length-size, run-length-parameters, run-length-range}
-use Rattle.compiler.proofs.JobSteps.{run-length-good, run-length-ready}
+use Rattle.job.specs.Jobs.{goodParameters}
+use Rattle.job.proofs.JobSteps.{in-range, jobOf, run-length-size, run-length-parameters, run-length-range}
+use Rattle.job.proofs.JobSteps.{run-length-good, run-length-ready}
 use borrow.Author.Needs.{needs}
 use borrow.Author.Needs.{needs}
-use Rattle.compiler.proofs.reading.read_run_length.Statement.{statement}
-use Rattle.compiler.proofs.reading.read_run_length.Tie as tie
+use Rattle.job.proofs.reading.read_run_length.Statement.{statement}
+use Rattle.job.proofs.reading.read_run_length.Tie as tie
 
 -- the bytes are five
 abbrev in₁ : tie.Else1 → List ℕ
@@ -38,14 +38,14 @@ in₃ c = in₂ (c .before .before .before .before)
 ranged : (c : tie.Else3) → (leb (getD (in₃ c) 0 0) (getD (in₃ c) 1 0) && leb (getD (in₃ c) 1 0) 15) ≡ true
 ranged c = sym (c .before .between .ensures) ∙ not-false (c .before .between .result) (c .if3 .left)
 
-bad-requires : tie.Need-bad-requires
-bad-requires c κs = search needs
+declined-requires : tie.Need-declined-requires
+declined-requires c κs = search needs
 
 returns : tie.Need-returns
 returns c = (
-  c .bad .ensures .0 ∙ sym (run-length-size (now (c .before .before .before .args .bytes))
+  c .declined .ensures .0 ∙ sym (run-length-size (now (c .before .before .before .args .bytes))
       (ne-eqb _ _ (c .before .if1 .taken))),
-  λ e. absurd (c .bad .ensures .1 e),
+  λ e. absurd (c .declined .ensures .1 e),
 )
 
 shared-slice-read-p : tie.Need-shared-slice-read-p
@@ -69,17 +69,17 @@ cast-cap c = omega (arith, c .shared-slice-known4 .given 4)
 good-parameters-requires : tie.Need-good-parameters-requires
 good-parameters-requires c κs = search needs
 
-bad-requires-2 : tie.Need-bad-requires-2
-bad-requires-2 c κs = search needs
+declined-requires-2 : tie.Need-declined-requires-2
+declined-requires-2 c κs = search needs
 
 returns-2 : tie.Need-returns-2
 returns-2 c =
     let g = c .before .before in
     let b = g .before .before .before .before in (
-      c .bad2 .ensures .0
+      c .declined2 .ensures .0
           ∙ sym (run-length-parameters (in₁ b) (sized b)
           (sym (g .good-parameters .ensures) ∙ not-true (g .good-parameters .result) (c .before .if2 .taken))),
-      λ e. absurd (c .bad2 .ensures .1 e),
+      λ e. absurd (c .declined2 .ensures .1 e),
     )
 
 shared-slice-read-d : tie.Need-shared-slice-read-d
@@ -97,17 +97,17 @@ cast-k c = omega (arith, c .shared-slice-known6 .given 1)
 between-requires : tie.Need-between-requires
 between-requires c κs = search needs
 
-bad-requires-3 : tie.Need-bad-requires-3
-bad-requires-3 c κs = search needs
+declined-requires-3 : tie.Need-declined-requires-3
+declined-requires-3 c κs = search needs
 
 returns-3 : tie.Need-returns-3
 returns-3 c =
     let g = c .before .before in
     let p = g .before .before .before in (
-      c .bad3 .ensures .0
+      c .declined3 .ensures .0
           ∙ sym (run-length-range (in₂ p) (sized (p .before .before .before .before .before)) (good p)
           (sym (g .between .ensures) ∙ not-true (g .between .result) (c .before .if3 .taken))),
-      λ e. absurd (c .bad3 .ensures .1 e),
+      λ e. absurd (c .declined3 .ensures .1 e),
     )
 
 run-length-requires : tie.Need-run-length-requires
@@ -126,7 +126,7 @@ pub read-run-length-spec : {M : Type 1} → statement M
 read-run-length-spec =
     tie.close
     (tie.spec
-    bad-requires
+    declined-requires
     returns
     shared-slice-read-p
     cast-p
@@ -135,14 +135,14 @@ read-run-length-spec =
     shared-slice-read-cap
     cast-cap
     good-parameters-requires
-    bad-requires-2
+    declined-requires-2
     returns-2
     shared-slice-read-d
     cast-d
     shared-slice-read-k
     cast-k
     between-requires
-    bad-requires-3
+    declined-requires-3
     returns-3
     run-length-requires
     returns-4)

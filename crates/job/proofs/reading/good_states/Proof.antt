@@ -1,18 +1,19 @@
 -- `good_states` meets its contract. The loop's invariant: the next states of every state passed are states or none.
 -- The measure is what is left.
 -- Assumes nothing.
-use mathlib.Core.Path.{_≡_, sym, _∙_}
+use mathlib.Core.Path.{_≡_, sym, subst, _∙_}
 use mathlib.Core.Bool.{true}
 use Prim.Native.Nat.{ℕ, _-_, _≤_, _<_}
 use native.Mathlib.Omega.{arith}
 use borrow.Author.Count.{below-more}
 use borrow.Author.Tests.{not-true, not-false}
 use denote.Ref.{now}
-use Rattle.record.proofs.Alls.{all-yes, all-not}
-use Rattle.compiler.specs.JobValues.{goodStateAt}
+use lib.Dec.{T}
+use Rattle.table.proofs.LoopTests.{all-passed, all-failed}
+use Rattle.job.specs.JobValues.{goodStateAt}
 use borrow.Author.Needs.{needs}
-use Rattle.compiler.proofs.reading.good_states.Statement.{statement}
-use Rattle.compiler.proofs.reading.good_states.Tie as tie
+use Rattle.job.proofs.reading.good_states.Statement.{statement}
+use Rattle.job.proofs.reading.good_states.Tie as tie
 
 abbrev Inv-loop : tie.InvT-loop
 Inv-loop bytes count s₀ s = (s ≤ count) × ((k : ℕ) → k < s → goodStateAt bytes count k ≡ true)
@@ -31,7 +32,7 @@ returns c =
     let g = c .before .good-next in
     let l = c .before .before .before in
     let a = l .before .before .args in
-    all-not (goodStateAt (now (a .bytes)) (a .count)) (a .count) (l .loop .s) (omega arith)
+    all-failed (goodStateAt (now (a .bytes)) (a .count)) (a .count) (l .loop .s) (omega arith)
     (sym (g .ensures) ∙ not-true (g .result) (c .if1 .taken))
 
 add-s : tie.Need-add-s Inv-loop μ-loop
@@ -50,8 +51,10 @@ loop-again c =
 
 returns-2 : tie.Need-returns-2 Inv-loop μ-loop
 returns-2 c =
+    let l = c .before .loop in
     let a = c .before .before .before .args in
-    all-yes (goodStateAt (now (a .bytes)) (a .count)) (a .count) (λ k h. c .before .loop .inv .1 k (omega arith))
+    all-passed (goodStateAt (now (a .bytes)) (a .count)) (a .count) (l .s) (omega arith)
+    (λ k h. subst T (sym (l .inv .1 k h)) tt)
 
 pub good-states-spec : {M : Type 1} → statement M
 good-states-spec =

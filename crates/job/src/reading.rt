@@ -9,20 +9,20 @@ ghost use Rattle.laws.specs.Lists.{all, range};
 ghost use Rattle.answer.specs.Outcomes.{refused};
 ghost use Rattle.constraint.specs.Value.{constraintOf};
 ghost use Rattle.table.specs.Formed.{goodState};
-ghost use Rattle.record.specs.declared.Verdict.the-variants.{Read};
-ghost use Rattle.compiler.specs.Jobs.{goodParameters, readJob, readRunLength};
-ghost use Rattle.compiler.specs.JobValues.{jobOutcome, stateAt, goodStateAt, JobReady};
-use crate::JobReading;
+ghost use Rattle.answer.specs.declared.Verdict.the-variants.{Good};
+ghost use Rattle.job.specs.Jobs.{goodParameters, readJob, readRunLength};
+ghost use Rattle.job.specs.JobValues.{jobOutcome, stateAt, goodStateAt, JobReady};
+use crate::JobAnswer;
 use crate::JobValue;
 use answer::Refusal;
+use answer::Verdict;
 use constraint::Constraint;
 use constraint::runs::run_length;
-use record::Verdict;
 
 // A refusal, beside a job that asks for nothing.
-fn bad(r: Refusal) -> JobReading
+fn declined(r: Refusal) -> JobAnswer
     ensures answer { λ x. ⌜ jobOutcome x ≡ refused r ⌝ }
-    ensures past { λ x. ⌜ (x .verdict ≡ Read → ⊥) ⌝ }
+    ensures past { λ x. ⌜ (x .verdict ≡ Good → ⊥) ⌝ }
 {
     let constraint = Constraint {
         states: 0,
@@ -35,7 +35,7 @@ fn bad(r: Refusal) -> JobReading
         cap: 0,
         constraint: constraint,
     };
-    JobReading {
+    JobAnswer {
         verdict: Verdict::Bad(r),
         job: job,
     }
@@ -122,28 +122,28 @@ fn states_of(bytes: &[u8], count: usize) -> Constraint
 }
 
 // The job that bytes hold, or the refusal: "8 below four bytes, 1, K by 2, 8, next states by 2".
-pub fn read_job(bytes: &[u8]) -> JobReading
+pub fn read_job(bytes: &[u8]) -> JobAnswer
     ensures answer { λ r. ⌜ jobOutcome r ≡ readJob (now (bytes .entry)) ⌝ }
-    ensures kept { λ r. ⌜ (r .verdict ≡ Read → JobReady (r .job)) ⌝ }
+    ensures kept { λ r. ⌜ (r .verdict ≡ Good → JobReady (r .job)) ⌝ }
 {
     if bytes.len() < 4 {
-        return bad(Refusal::Length);
+        return declined(Refusal::Length);
     }
     let p = bytes[0] as usize;
     let q = bytes[1] as usize;
     let cap = bytes[2] as usize;
     if !good_parameters(p, q, cap) {
-        return bad(Refusal::Parameters);
+        return declined(Refusal::Parameters);
     }
     let count = bytes[3] as usize;
     if !between(count, 1, 16) {
-        return bad(Refusal::States);
+        return declined(Refusal::States);
     }
     if bytes.len() != 4 + 2 * count {
-        return bad(Refusal::Length);
+        return declined(Refusal::Length);
     }
     if !good_states(bytes, count) {
-        return bad(Refusal::States);
+        return declined(Refusal::States);
     }
     let job = JobValue {
         p: p,
@@ -151,30 +151,30 @@ pub fn read_job(bytes: &[u8]) -> JobReading
         cap: cap,
         constraint: states_of(bytes, count),
     };
-    JobReading {
-        verdict: Verdict::Read,
+    JobAnswer {
+        verdict: Verdict::Good,
         job: job,
     }
 }
 
 // The job that the bytes d, k, p, q, cap hold, or the refusal: "8, 1, 2".
-pub fn read_run_length(bytes: &[u8]) -> JobReading
+pub fn read_run_length(bytes: &[u8]) -> JobAnswer
     ensures answer { λ r. ⌜ jobOutcome r ≡ readRunLength (now (bytes .entry)) ⌝ }
-    ensures kept { λ r. ⌜ (r .verdict ≡ Read → JobReady (r .job)) ⌝ }
+    ensures kept { λ r. ⌜ (r .verdict ≡ Good → JobReady (r .job)) ⌝ }
 {
     if bytes.len() != 5 {
-        return bad(Refusal::Length);
+        return declined(Refusal::Length);
     }
     let p = bytes[2] as usize;
     let q = bytes[3] as usize;
     let cap = bytes[4] as usize;
     if !good_parameters(p, q, cap) {
-        return bad(Refusal::Parameters);
+        return declined(Refusal::Parameters);
     }
     let d = bytes[0] as usize;
     let k = bytes[1] as usize;
     if !between(k, d, 15) {
-        return bad(Refusal::States);
+        return declined(Refusal::States);
     }
     let job = JobValue {
         p: p,
@@ -182,8 +182,8 @@ pub fn read_run_length(bytes: &[u8]) -> JobReading
         cap: cap,
         constraint: run_length(d, k),
     };
-    JobReading {
-        verdict: Verdict::Read,
+    JobAnswer {
+        verdict: Verdict::Good,
         job: job,
     }
 }
