@@ -25,7 +25,7 @@ use Rattle.finish.specs.declared.finish_table.TableRows.{TableRows}
 use Rattle.graph.specs.Splitting.{crowded}
 use Rattle.finish.specs.TableOf.{tableOf}
 use Rattle.splitting.specs.SplitParts.{SplitAllInto}
-use Rattle.finish.specs.TableParts.{TableIn, rowsOfTable}
+use Rattle.finish.specs.Finishing.{TableIn, rowsOfTable}
 use Rattle.job.specs.declared.JobValue.{JobValue}
 use Rattle.compiler.specs.Compile.{tableFor, compile}
 use Rattle.job.specs.JobValues.{jobIn, JobReady}

@@ -1,6 +1,6 @@
 pub mod TableOf
-pub mod CodeMarks
-pub mod CodeClosure
-pub mod CodeRank
-pub mod CodePut
-pub mod CodeTable
+pub mod Marks
+pub mod Closure
+pub mod Ranks
+pub mod RowPuts
+pub mod Tables

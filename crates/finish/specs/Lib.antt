@@ -1,2 +1,2 @@
 pub mod TableOf
-pub mod TableParts
+pub mod Finishing

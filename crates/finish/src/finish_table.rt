@@ -13,7 +13,7 @@ ghost use Rattle.graph.specs.Component.{reachings, reaches};
 ghost use Rattle.finish.specs.TableOf.{firstEdges};
 ghost use Rattle.graph.specs.Value.{workIn};
 ghost use Rattle.order.specs.EdgeKeys.{keysIn, firstKeys};
-ghost use Rattle.finish.specs.TableParts.{Finished, Open, enteredBy, rank, TableIn, RowPut};
+ghost use Rattle.finish.specs.Finishing.{Finished, Open, enteredBy, rank, TableIn, RowPut};
 
 // The rows of a table: the edge of state s that carries d has its word and its next state at s * 16 + d.
 pub struct TableRows {

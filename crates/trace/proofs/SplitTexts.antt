@@ -25,7 +25,7 @@ use Rattle.graph.proofs.Loop.{states-le}
 use Rattle.splitting.specs.SplitParts.{SplitInto, Splits, SplitAllInto}
 use Rattle.splitting.proofs.CodeLoop.{Going, going-grows}
 use Rattle.finish.specs.declared.finish_table.TableRows.{TableRows}
-use Rattle.finish.specs.TableParts.{TableIn}
+use Rattle.finish.specs.Finishing.{TableIn}
 use Rattle.text.specs.Texts.{bytes, Added}
 use Rattle.text.proofs.Adding.{added-same}
 use Rattle.views.proofs.Behind.{_then_}

@@ -2,8 +2,8 @@
 use mathlib.Core.Path.{_≡_, sym, subst}
 use Prim.Native.Nat.{_%_, _<_}
 use lib.ListN.{getD}
-use Rattle.finish.proofs.CodeTable.{list-long, list-at, key-lt, key-inside}
-use Rattle.finish.proofs.CodePut.{put-keys}
+use Rattle.finish.proofs.Tables.{list-long, list-at, key-lt, key-inside}
+use Rattle.finish.proofs.RowPuts.{put-keys}
 use Rattle.finish.proofs.finish_table.add_row.Statement.{statement}
 use Rattle.finish.proofs.finish_table.add_row.Tie as tie
 

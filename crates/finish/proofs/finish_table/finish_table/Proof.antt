@@ -8,9 +8,9 @@ use Rattle.laws.specs.Sets.{member}
 use Rattle.graph.specs.Component.{reachings, reaches}
 use Rattle.finish.specs.TableOf.{firstEdges}
 use Rattle.graph.specs.Value.{workIn}
-use Rattle.finish.specs.TableParts.{Finished, rank}
-use Rattle.finish.proofs.CodeRank.{rank-small}
-use Rattle.finish.proofs.CodeTable.{Laid, laid-none, laid-yes, laid-no, laid-end}
+use Rattle.finish.specs.Finishing.{Finished, rank}
+use Rattle.finish.proofs.Ranks.{rank-small}
+use Rattle.finish.proofs.Tables.{Laid, laid-none, laid-yes, laid-no, laid-end}
 use borrow.Author.Needs.{needs}
 use Rattle.finish.proofs.finish_table.finish_table.Statement.{statement}
 use Rattle.finish.proofs.finish_table.finish_table.Tie as tie

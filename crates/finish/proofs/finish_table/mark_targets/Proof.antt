@@ -8,8 +8,8 @@ use lib.Dec.{lit<}
 use lib.ListN.{length, getD, take, set, length-set}
 use Rattle.laws.specs.Lists.{any}
 use Rattle.laws.specs.Sets.{member}
-use Rattle.finish.specs.TableParts.{enteredBy}
-use Rattle.finish.proofs.CodeMarks.{mark-more}
+use Rattle.finish.specs.Finishing.{enteredBy}
+use Rattle.finish.proofs.Marks.{mark-more}
 use borrow.Author.Needs.{needs}
 use Rattle.finish.proofs.finish_table.mark_targets.Statement.{statement}
 use Rattle.finish.proofs.finish_table.mark_targets.Tie as tie

@@ -5,8 +5,8 @@ use native.Mathlib.Nat.{div-lt-iff-lt-mul, mod-lt}
 use native.Mathlib.Omega.{arith}
 use lib.Dec.{lit<}
 use lib.ListN.{length, getD}
-use Rattle.finish.specs.TableParts.{RowPut}
-use Rattle.finish.proofs.CodePut.{put-start, put-more}
+use Rattle.finish.specs.Finishing.{RowPut}
+use Rattle.finish.proofs.RowPuts.{put-start, put-more}
 use borrow.Author.Needs.{needs}
 use Rattle.finish.proofs.finish_table.put_row.Statement.{statement}
 use Rattle.finish.proofs.finish_table.put_row.Tie as tie

@@ -3,9 +3,9 @@ use mathlib.Core.Path.{_≡_, sym}
 use mathlib.Core.Logic.{⊎-elim}
 use Prim.Native.Nat.{_-_, _≤_}
 use native.Mathlib.Omega.{arith}
-use Rattle.finish.specs.TableParts.{rank}
+use Rattle.finish.specs.Finishing.{rank}
 use Rattle.graph.proofs.CodeLists.{Filled, fill-none, fill-more}
-use Rattle.finish.proofs.CodeRank.{rank-none, rank-yes, rank-no}
+use Rattle.finish.proofs.Ranks.{rank-none, rank-yes, rank-no}
 use borrow.Author.Needs.{needs}
 use Rattle.finish.proofs.finish_table.ranks.Statement.{statement}
 use Rattle.finish.proofs.finish_table.ranks.Tie as tie

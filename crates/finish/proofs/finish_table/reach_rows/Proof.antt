@@ -7,9 +7,9 @@ use lib.Dec.{eqb}
 use lib.ListN.{length, replicate, length-replicate, length-set}
 use Rattle.laws.specs.Sets.{member}
 use Rattle.order.specs.EdgeKeys.{keysIn}
-use Rattle.finish.specs.TableParts.{Finished, Open}
-use Rattle.finish.proofs.CodeClosure.{Forward, forward-start, forward-step, forward-end}
-use Rattle.finish.proofs.CodeMarks.{opens, opens-less, put-member, blank-none, open-set, open-done}
+use Rattle.finish.specs.Finishing.{Finished, Open}
+use Rattle.finish.proofs.Closure.{Forward, forward-start, forward-step, forward-end}
+use Rattle.finish.proofs.Marks.{opens, opens-less, put-member, blank-none, open-set, open-done}
 use borrow.Author.Needs.{needs}
 use Rattle.finish.proofs.finish_table.reach_rows.Statement.{statement}
 use Rattle.finish.proofs.finish_table.reach_rows.Tie as tie
@@ -42,7 +42,8 @@ loop-holds c =
     )
 
 first-edges-requires : tie.Need-first-edges-requires Inv-loop μ-loop
-first-edges-requires c κs = (c .before .before .before .pre .fits, c .before .before .before .pre .few)
+first-edges-requires c κs =
+    (c .before .before .before .pre .fits, omega (arith, c .before .before .before .pre .few))
 
 mark-targets-requires : tie.Need-mark-targets-requires Inv-loop μ-loop
 mark-targets-requires c κs = omega (arith, c .first-edges .ensures .1, c .before .before .before .before .pre .few)

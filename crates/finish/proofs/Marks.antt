@@ -15,7 +15,7 @@ use lib.Seq.{take-suc, getD-set-same, getD-set-other}
 use Rattle.laws.specs.Lists.{any}
 use Rattle.laws.specs.Sets.{member}
 use Rattle.laws.proofs.Anys.{any-append}
-use Rattle.finish.specs.TableParts.{enteredBy}
+use Rattle.finish.specs.Finishing.{enteredBy}
 
 -- ---- marking
 pub put-member : (R : List Bool) (y x : ℕ) → y < length R → member (set R y true) x ≡ (member R x || eqb y x)

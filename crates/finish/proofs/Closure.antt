@@ -28,7 +28,7 @@ use Rattle.finish.specs.TableOf.{row, firstEdges}
 use Rattle.graph.specs.Invariant.{Inside, Stays}
 use Rattle.graph.specs.Value.{arcsIn, weightAt, weightsIn, workIn}
 use Rattle.order.specs.EdgeKeys.{arcOf, keysFrom, admitted, firstKeys}
-use Rattle.finish.specs.TableParts.{Finished, enteredBy}
+use Rattle.finish.specs.Finishing.{Finished, enteredBy}
 use Rattle.graph.proofs.Reach.{Reaching, reaches-is, reach-trans, reach-edge}
 use Rattle.graph.proofs.Candidates.{each-sort}
 use Rattle.finish.proofs.TableOf.{union-each}

@@ -9,7 +9,7 @@ use borrow.Author.Count.{below-more}
 use lib.ListN.{length, getD, set, length-set}
 use lib.Seq.{getD-set-same, getD-set-other}
 use Rattle.finish.specs.declared.finish_table.TableRows.{TableRows}
-use Rattle.finish.specs.TableParts.{RowPut}
+use Rattle.finish.specs.Finishing.{RowPut}
 
 -- ---- one row
 abbrev pub withEdge : TableRows → ℕ → ℕ → ℕ → TableRows

@@ -8,7 +8,7 @@ use Prim.Native.Nat.{ℕ, zero, suc, _+_, _-_, _≤_}
 use native.Mathlib.Omega.{arith}
 use lib.ListN.{length, length-append}
 use Rattle.laws.specs.Sets.{member}
-use Rattle.finish.specs.TableParts.{rank}
+use Rattle.finish.specs.Finishing.{rank}
 use Rattle.graph.proofs.CodeUpTo.{upTo, upTo-yes, upTo-no}
 
 module _ (S : List Bool) where

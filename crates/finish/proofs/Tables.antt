@@ -29,14 +29,14 @@ use Rattle.graph.specs.Component.{reachings, reaches}
 use Rattle.finish.specs.TableOf.{row, firstEdges, tableStates, named, tableRow, tableOf}
 use Rattle.graph.specs.Value.{arcsIn, weightAt, weightsIn, workIn}
 use Rattle.order.specs.EdgeKeys.{arcOf, keysFrom, admitted, firstKeys, keysIn}
-use Rattle.finish.specs.TableParts.{Finished, rank, rowEdge, TableIn, RowPut}
+use Rattle.finish.specs.Finishing.{Finished, rank, rowEdge, TableIn, RowPut}
 use Rattle.graph.proofs.Arcs.{length-sort}
 use Rattle.graph.proofs.CodeLists.{length-map-range, map-range-same}
 use Rattle.graph.proofs.CodeMaps.{filter-same, map-map, map-places}
 use Rattle.order.proofs.CodeOrder.{keys-small}
 use Rattle.graph.proofs.CodeUpTo.{upTo, index-kept}
-use Rattle.finish.proofs.CodeClosure.{row-keys, row-inside, row-stays}
-use Rattle.finish.proofs.CodeRank.{rank-none, rank-yes, rank-no, rank-le, rank-small}
+use Rattle.finish.proofs.Closure.{row-keys, row-inside, row-stays}
+use Rattle.finish.proofs.Ranks.{rank-none, rank-yes, rank-no, rank-le, rank-small}
 
 module _ (n : ℕ) (g : Graph) (F : Finished n g) where
   abbrev K : ℕ
