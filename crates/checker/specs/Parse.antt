@@ -1,16 +1,13 @@
 -- A record read and judged: "Record: 8 below four bytes, header by 7, 8, the rest by 7, 9, 10."
--- In order: judged, the two checks of the table; parse, the whole order; checkedOnly, what the checker answers;
--- Judgeable, what the two checks of a table by value need.
+-- In order: judged, the two checks of the table; parse, the whole order; checkedOnly, what the checker answers.
 -- Assumes nothing.
 use mathlib.Core.List.{List, []}
-use Prim.Native.Nat.{ℕ, _≤_}
+use Prim.Native.Nat.{ℕ}
 use Rattle.answer.specs.declared.Refusal.the-variants.{Disobeys, WindowFails}
 use Rattle.answer.specs.Outcomes.{Outcome, done, unless, onward}
 use Rattle.table.specs.Rows.{Code}
 use Rattle.windows.specs.Works.{works}
 use Rattle.obeying.specs.Obeys.{obeys}
-use Rattle.table.specs.declared.Table.{Table}
-use Rattle.obeying.specs.Obeying.{Followable}
 use Rattle.record.specs.Checks.{fieldsChecked}
 
 -- a code whose fields are in range: "9, 10"
@@ -24,8 +21,3 @@ parse xs = onward (fieldsChecked xs) judged
 -- the checker's outcome: a record that is accepted gives no bytes
 unfoldable pub checkedOnly : List ℕ → Outcome (List ℕ)
 checkedOnly xs = onward (parse xs) (λ c. done [])
-
--- a table whose fields are in range: its constraint can be followed, and its lookahead is at most 15
-pub record Judgeable (t : Table) : Type 0 where
-  pub follow : Followable t
-  pub ahead : t .lookahead ≤ 15

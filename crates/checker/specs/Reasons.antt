@@ -14,7 +14,7 @@ use Rattle.bits.specs.Fields.{read, bitsOf}
 use Rattle.table.specs.Rows.{Code}
 use Rattle.windows.specs.Works.{works}
 use Rattle.obeying.specs.Obeys.{obeys}
-use Rattle.table.specs.Formed.{Head}
+use Rattle.table.specs.declared.Head.{Head}
 use Rattle.record.specs.Layout.{header, headOf, size}
 use Rattle.record.specs.Parse.{goodHead}
 use Rattle.record.specs.Checks.{codeAt, restGood}

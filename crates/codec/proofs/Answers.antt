@@ -8,7 +8,7 @@ use Prim.Native.Nat.{ℕ, _+_, _-_, _^_, _≤_}
 use native.Mathlib.Omega.{arith}
 use lib.Dec.{leb, le→leb, leb→le}
 use lib.Pow.{pow-pos}
-use lib.ListN.{length, replicate}
+use lib.ListN.{length}
 use Rattle.laws.specs.Sums.{Below}
 use Rattle.laws.proofs.Lists.{below-append, below-zeros}
 use Rattle.answer.specs.declared.Refusal.the-variants.{TooFewWords, ShortOutput}
@@ -17,7 +17,7 @@ use Rattle.answer.specs.FirstBad.{allBelow}
 use Rattle.answer.proofs.FirstBad.{allBelow-true, allBelow→}
 use Rattle.answer.proofs.Outcomes.{unless-true, unless→}
 use Rattle.table.specs.Rows.{Code}
-use Rattle.table.specs.Paths.{Blocks, recording}
+use Rattle.table.specs.Paths.{Blocks, recording, closing}
 use Rattle.windows.specs.Window.{Window}
 use Rattle.table.specs.Formed.{Formed}
 use Rattle.checker.specs.Accepted.{Sound}
@@ -77,10 +77,10 @@ module _ (c : Code) (f : Formed c) (w : Window (c .table) (c .window)) where
   pub words-below : (ds : List ℕ) → Blocks c ds → Below (2 ^ c .q) (recording c ds)
   words-below ds b =
       let g : Sound c = sound c f w in
-      let D = ds ++ replicate (c .window .lookahead) 0 in
+      let D = ds ++ closing c in
       path-words (c .table) (2 ^ c .q) (words (c .p) (c .q) (length (c .table)) (c .table) (f .rows)) D 0
       (blocks→path (c .table) (2 ^ c .p) (g .closed) (g .full) D 0 (g .some)
-      (below-append (2 ^ c .p) ds (replicate (c .window .lookahead) 0) b
+      (below-append (2 ^ c .p) ds (closing c) b
       (below-zeros (2 ^ c .p) (c .window .lookahead) (pow-pos (c .p)))))
 
   -- decoding a recording returns its data

@@ -17,7 +17,7 @@ use Rattle.laws.specs.Lists.{if_then_else_}
 use Rattle.laws.proofs.Tests.{map-range-at, tab→, →tab}
 use Rattle.table.specs.Rows.{Rows, edges, at, Code}
 use Rattle.laws.specs.Sums.{Below}
-use Rattle.table.specs.Paths.{spells, recording, ends, Closed}
+use Rattle.table.specs.Paths.{spells, recording, ends, Closed, closing}
 use Rattle.stepping.specs.StateSets.{alongAll, oneState, everyState}
 use Rattle.reading.specs.Reading.{decode, block, reading}
 use Rattle.laws.specs.Sets.{member}
@@ -50,19 +50,19 @@ module _ (L : List ℕ) (n k a : ℕ) where
   cut-ahead = drop-take (suc k) a (drop n L) ∙ ap (take a) (drop-drop (suc k) n L)
 
 module _ (c : Code) (good : Sound c) (data′ L : List ℕ) (fit : Below (2 ^ c .p) data′) where
-  recorded : Reads (c .table) 0 (data′ ++ replicate (c .window .lookahead) 0) (recording c data′)
+  recorded : Reads (c .table) 0 (data′ ++ closing c) (recording c data′)
   recorded = run-reads (c .table) (2 ^ c .p) (good .closed) (good .full)
-      (data′ ++ replicate (c .window .lookahead) 0) 0 (good .some)
-      (below-append (2 ^ c .p) data′ (replicate (c .window .lookahead) 0) fit
+      (data′ ++ closing c) 0 (good .some)
+      (below-append (2 ^ c .p) data′ (closing c) fit
       (below-zeros (2 ^ c .p) (c .window .lookahead) (pow-pos (c .p))))
 
   -- k words before block i, and the reading of a stretch of L that equals the recording's from there on
   piece : (S : List Bool) (k i n : ℕ) → k ≤ i → i < length data′ → n + k + c .window .lookahead < length L
-      → ends (c .table) 0 (take (i - k) (data′ ++ replicate (c .window .lookahead) 0)) < length (c .table)
-      → T (member S (ends (c .table) 0 (take (i - k) (data′ ++ replicate (c .window .lookahead) 0))))
+      → ends (c .table) 0 (take (i - k) (data′ ++ closing c)) < length (c .table)
+      → T (member S (ends (c .table) 0 (take (i - k) (data′ ++ closing c))))
       → ((t : ℕ) → T (member S t)
       → AgreeSame (c .table) k (c .window .lookahead) t
-      (ends (c .table) 0 (take (i - k) (data′ ++ replicate (c .window .lookahead) 0))))
+      (ends (c .table) 0 (take (i - k) (data′ ++ closing c))))
       → take (suc k + c .window .lookahead) (drop n L) ≡ take (suc k + c .window .lookahead)
       (drop (i - k) (recording c data′))
       → reading (c .table) (alongAll (c .table) S (take k (drop n L))) (getD L (n + k) 0)

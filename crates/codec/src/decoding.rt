@@ -13,10 +13,10 @@ ghost use Rattle.codec.specs.Answers.{decodeUnder};
 ghost use Rattle.codec.specs.With.{decodedWith};
 use answer::Answer;
 use answer::Refusal;
-use checker::load;
+use answer::Verdict;
 use answer::bytes::first_bad;
+use checker::load;
 use reading::blocks::read_block;
-use record::Verdict;
 use runs::laying::lay;
 use table::Table;
 use table::chains::ways;
@@ -112,6 +112,6 @@ pub fn decode(bytes: &[u8], words: &[u8], out: &mut [u8]) -> Answer
     let t = r.table;
     match v {
         Verdict::Bad(x) => Answer::Refused(x),
-        Verdict::Read => decode_with(t, words, out),
+        Verdict::Good => decode_with(t, words, out),
     }
 }

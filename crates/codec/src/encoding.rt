@@ -12,9 +12,9 @@ ghost use Rattle.codec.specs.Answers.{encodeUnder};
 ghost use Rattle.codec.specs.With.{encodedWith};
 use answer::Answer;
 use answer::Refusal;
-use checker::load;
+use answer::Verdict;
 use answer::bytes::first_bad;
-use record::Verdict;
+use checker::load;
 use table::Table;
 use table::chains::ways;
 use table::ready::is_ready;
@@ -133,6 +133,6 @@ pub fn encode(bytes: &[u8], blocks: &[u8], out: &mut [u8]) -> Answer
     let t = r.table;
     match v {
         Verdict::Bad(x) => Answer::Refused(x),
-        Verdict::Read => encode_with(t, blocks, out),
+        Verdict::Good => encode_with(t, blocks, out),
     }
 }

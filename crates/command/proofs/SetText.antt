@@ -14,14 +14,13 @@ use Rattle.laws.proofs.Tests.{length-from}
 use Rattle.text.specs.Texts.{Added}
 use Rattle.text.proofs.Adding.{added-same, added-more}
 use Rattle.answer.specs.declared.Refusal.{Refusal}
-use Rattle.answer.specs.Outcomes.{Outcome, done, refused}
+use Rattle.answer.specs.Outcomes.{Outcome, done, refused, verdictOn}
 use Rattle.table.specs.declared.Table.{Table}
 use Rattle.table.specs.Rows.{Code}
 use Rattle.table.specs.Value.{codeIn, rowIn}
-use Rattle.record.specs.declared.Verdict.{Verdict}
-use Rattle.record.specs.declared.Verdict.the-variants.{Read, Bad}
+use Rattle.answer.specs.declared.Verdict.{Verdict}
+use Rattle.answer.specs.declared.Verdict.the-variants.{Good, Bad}
 use Rattle.checker.specs.Parse.{parse}
-use Rattle.record.specs.Checks.{verdictOf}
 use Rattle.sets.specs.declared.Place.{Place}
 use Rattle.sets.specs.declared.Place.the-variants.{At, Nowhere}
 use Rattle.sets.specs.Offsets.{placeAt, offsetOf, recordPlace}
@@ -62,16 +61,16 @@ module _ (s : List ℕ) (i : ℕ) where
 
 -- ---- the line of a record
 module _ (i start len : ℕ) (v : Verdict) (t : Table) (o : Outcome Code) where
-  pub line-bad : (r : Refusal) → v ≡ Bad r → verdictOf v (codeIn t) ≡ o → [] ≡ recordLine i start len o
-  line-bad r e q = ap (recordLine i start len) (sym (ap (λ v. verdictOf v (codeIn t)) e) ∙ q)
+  pub line-bad : (r : Refusal) → v ≡ Bad r → verdictOn v (codeIn t) ≡ o → [] ≡ recordLine i start len o
+  line-bad r e q = ap (recordLine i start len) (sym (ap (λ v. verdictOn v (codeIn t)) e) ∙ q)
 
-  pub line-good : v ≡ Read → verdictOf v (codeIn t) ≡ o
+  pub line-good : v ≡ Good → verdictOn v (codeIn t) ≡ o
       → placeText i start len ++ kindText (t .p) (t .q) (t .states) (t .memory) (t .lookahead)
       ≡ recordLine i start len o
   line-good e q =
       ap (λ n. placeText i start len ++ kindText (t .p) (t .q) n (t .memory) (t .lookahead))
       (sym (length-map (range (t .states)) (rowIn t) ∙ length-from 0 (t .states)))
-      ∙ ap (recordLine i start len) (sym (ap (λ v. verdictOf v (codeIn t)) e) ∙ q)
+      ∙ ap (recordLine i start len) (sym (ap (λ v. verdictOn v (codeIn t)) e) ∙ q)
 
 -- ---- the lines of all records
 pub no-lines : (s B : List ℕ) → Added (linesTo s 0) 0 B B 0

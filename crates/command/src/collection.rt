@@ -12,7 +12,7 @@ use crate::inputs::load_whole;
 use crate::inputs::print;
 use crate::messages::refuse_set;
 use crate::usage::misused;
-use record::Verdict;
+use answer::Verdict;
 use sets::Place;
 use sets::SetAnswer;
 use sets::walking::check_set;
@@ -61,7 +61,7 @@ fn put_record_at(out: &mut [u8], at: usize, i: usize, start: usize, bytes: &[u8]
     let t = r.table;
     match v {
         Verdict::Bad(_) => put(out, at, b""),
-        Verdict::Read => {
+        Verdict::Good => {
             let kind = put_place(out, at, i, start, bytes.len());
             put_kind(out, kind, t.p, t.q, t.states, t.memory, t.lookahead)
         }

@@ -7,7 +7,7 @@ use crate::inputs::load;
 use crate::inputs::print;
 use crate::messages::refuse;
 use crate::usage::misused;
-use record::Verdict;
+use answer::Verdict;
 use table::Table;
 use text::put;
 use views::drawing::draw;
@@ -54,7 +54,7 @@ fn view_record(a: Action, as_what: View) -> Status {
     let t = r.table;
     match v {
         Verdict::Bad(x) => refuse(x),
-        Verdict::Read => print_view(as_what, t),
+        Verdict::Good => print_view(as_what, t),
     }
 }
 

@@ -1,5 +1,5 @@
 -- The compiler's code passes the checker: its fields are in range, every recording obeys, its window works.
--- In order: Made, made; made-formed; made-obeys; window-found; compiled-code; compile-parses.
+-- In order: Made, made; made-formed; made-obeys; window-found; compiled-code; compile-parses; compiled-ready.
 -- Assumes nothing.
 use mathlib.Core.Path.{_≡_, sym, ap, subst, _∙_}
 use mathlib.Core.Logic.{inl, inr}
@@ -20,6 +20,8 @@ use Rattle.table.specs.Rows.{edge, Rows, edges, at, Code}
 use Rattle.windows.specs.Works.{works}
 use Rattle.windows.specs.Search.{window}
 use Rattle.obeying.specs.Obeys.{obeys}
+use Rattle.table.specs.declared.Table.{Table}
+use Rattle.table.specs.Value.{codeIn, ready}
 use Rattle.table.specs.Formed.{head, inRange, goodState, goodNext, goodEdge, goodRow, formed}
 use Rattle.windows.proofs.WindowLeast.{window-least, Chosen}
 use Rattle.obeying.proofs.AnyClosure.{obeys-by}
@@ -169,3 +171,8 @@ pub compile-parses : (j : Job) → Allowed j → (c : Code) → compile j ≡ do
 compile-parses j a c e =
     let p : Passes c = compiled-passes j a c e in
     parse-pack-good c (p .formed) (p .obeys) (p .works)
+
+-- and a table that holds the code is ready to be written
+pub compiled-ready : (j : Job) → Allowed j → (t : Table) → compile j ≡ done (codeIn t) → T (ready t)
+unfolding ready
+compiled-ready j a t e = compiled-passes j a (codeIn t) e .formed

@@ -1,29 +1,34 @@
 -- A reading that goes on: what the next stage comes to after a verdict.
--- In order: read-bad, read-done; ends-bad, goes-on; listed-so.
+-- In order: read-bad, read-done; ends-bad, goes-on, goes-packed; listed-so.
 -- Assumes nothing.
 use mathlib.Core.Path.{_≡_, refl, sym, ap, _∙_}
 use mathlib.Core.List.{List}
 use Prim.Native.Nat.{ℕ}
+use lib.Dec.{T}
+use lib.ListN.{length}
 use Rattle.answer.specs.declared.Refusal.{Refusal}
 use Rattle.answer.specs.declared.Answer.{Answer}
 use Rattle.answer.specs.declared.Answer.the-variants.{Refused}
-use Rattle.answer.specs.Outcomes.{Outcome, done, refused, onward, fitting, answerOf, outputOf}
+use Rattle.answer.specs.Outcomes.{Outcome, done, refused, onward, fitting, answerOf, outputOf, verdictOn}
 use Rattle.table.specs.Rows.{Code}
-use Rattle.table.specs.Value.{codeIn}
-use Rattle.record.specs.declared.Verdict.the-variants.{Read, Bad}
-use Rattle.record.specs.declared.Reading.{Reading}
-use Rattle.record.specs.Checks.{verdictOf, outcomeIn}
 use Rattle.job.specs.Jobs.{Job, readRunLength}
 use Rattle.compiler.specs.Compile.{compile}
+use Rattle.table.specs.declared.Table.{Table}
+use Rattle.table.specs.Value.{codeIn, ready}
+use Rattle.answer.specs.declared.Verdict.the-variants.{Good, Bad}
+use Rattle.record.specs.declared.TableAnswer.{TableAnswer}
+use Rattle.record.specs.Parse.{packInto}
+use Rattle.record.specs.Checks.{outcomeIn, packWith}
+use Rattle.record.proofs.RecordWriting.{pack-ready}
 use Rattle.compiler.specs.Listing.{listing, listInto}
 use Rattle.compiler.specs.Stages.{listedInto}
 
 -- ---- what a verdict says
-pub read-bad : (r : Reading) (o : Outcome Code) (x : Refusal) → outcomeIn r ≡ o → r .verdict ≡ Bad x → o ≡ refused x
-read-bad r o x e q = sym e ∙ ap (λ v. verdictOf v (codeIn (r .table))) q
+pub read-bad : (r : TableAnswer) (o : Outcome Code) (x : Refusal) → outcomeIn r ≡ o → r .verdict ≡ Bad x → o ≡ refused x
+read-bad r o x e q = sym e ∙ ap (λ v. verdictOn v (codeIn (r .table))) q
 
-pub read-done : (r : Reading) (o : Outcome Code) → outcomeIn r ≡ o → r .verdict ≡ Read → o ≡ done (codeIn (r .table))
-read-done r o e q = sym e ∙ ap (λ v. verdictOf v (codeIn (r .table))) q
+pub read-done : (r : TableAnswer) (o : Outcome Code) → outcomeIn r ≡ o → r .verdict ≡ Good → o ≡ done (codeIn (r .table))
+read-done r o e q = sym e ∙ ap (λ v. verdictOn v (codeIn (r .table))) q
 
 -- ---- what the next stage comes to
 module _ {A : Type 0} (o : Outcome A) (f : A → Outcome (List ℕ)) (B : List ℕ) where
@@ -35,6 +40,14 @@ module _ {A : Type 0} (o : Outcome A) (f : A → Outcome (List ℕ)) (B : List �
       → (r ≡ answerOf (onward o f)) × (C ≡ outputOf (onward o f) B)
   goes-on a r C e p q =
       (p ∙ ap (λ z. answerOf (onward z f)) (sym e), q ∙ ap (λ z. outputOf (onward z f) B) (sym e))
+
+-- a table whose fields are in range is written as its code is
+pub goes-packed : (t : Table) (o : Outcome Code) (B C : List ℕ) (r : Answer) → T (ready t) → o ≡ done (codeIn t)
+    → r ≡ answerOf (packWith t (length B)) → C ≡ outputOf (packWith t (length B)) B
+    → (r ≡ answerOf (onward o (λ c. packInto c (length B)))) × (C ≡ outputOf (onward o (λ c. packInto c (length B))) B)
+goes-packed t o B C r k e p q =
+    let z = pack-ready t (length B) k in
+    goes-on o (λ c. packInto c (length B)) B (codeIn t) r C e (p ∙ ap answerOf z) (q ∙ ap (λ x. outputOf x B) z)
 
 -- a listing is the reading of the job, and then the listing of its code
 list-onward : (xs : List ℕ) (room : ℕ) → onward (readRunLength xs) (listedInto room) ≡ listInto xs room

@@ -12,7 +12,7 @@ use answer::Answer;
 use job::JobValue;
 use job::reading::read_job;
 use job::reading::read_run_length;
-use record::Verdict;
+use answer::Verdict;
 use record::write;
 
 // The record of a job in the output.
@@ -27,7 +27,7 @@ fn compile_into(j: JobValue, out: &mut [u8]) -> Answer
     let t = r.table;
     match v {
         Verdict::Bad(x) => Answer::Refused(x),
-        Verdict::Read => write(t, out),
+        Verdict::Good => write(t, out),
     }
 }
 
@@ -43,7 +43,7 @@ fn list_into(j: JobValue, out: &mut [u8]) -> Answer
     let t = r.table;
     match v {
         Verdict::Bad(x) => Answer::Refused(x),
-        Verdict::Read => list(t, out),
+        Verdict::Good => list(t, out),
     }
 }
 
@@ -58,8 +58,8 @@ pub fn compile_job(job: &[u8], out: &mut [u8]) -> Answer
     let v = r.verdict;
     let j = r.job;
     match v {
-        answer::Verdict::Bad(x) => Answer::Refused(x),
-        answer::Verdict::Good => compile_into(j, out),
+        Verdict::Bad(x) => Answer::Refused(x),
+        Verdict::Good => compile_into(j, out),
     }
 }
 
@@ -74,8 +74,8 @@ pub fn compile_run_length(job: &[u8], out: &mut [u8]) -> Answer
     let v = r.verdict;
     let j = r.job;
     match v {
-        answer::Verdict::Bad(x) => Answer::Refused(x),
-        answer::Verdict::Good => compile_into(j, out),
+        Verdict::Bad(x) => Answer::Refused(x),
+        Verdict::Good => compile_into(j, out),
     }
 }
 
@@ -89,7 +89,7 @@ pub fn list_run_length(job: &[u8], out: &mut [u8]) -> Answer
     let v = r.verdict;
     let j = r.job;
     match v {
-        answer::Verdict::Bad(x) => Answer::Refused(x),
-        answer::Verdict::Good => list_into(j, out),
+        Verdict::Bad(x) => Answer::Refused(x),
+        Verdict::Good => list_into(j, out),
     }
 }

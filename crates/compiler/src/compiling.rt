@@ -2,7 +2,7 @@
 ghost use mathlib.Core.Path.{_≡_};
 ghost use Rattle.windows.specs.Steps.{foundSize};
 ghost use Rattle.table.specs.Value.{codeIn, Ready};
-ghost use Rattle.record.specs.declared.Verdict.the-variants.{Read};
+ghost use Rattle.answer.specs.declared.Verdict.the-variants.{Good};
 ghost use Rattle.record.specs.Checks.{outcomeIn};
 ghost use Rattle.component.specs.ComponentParts.{FoundIn};
 ghost use Rattle.compiler.specs.Compile.{ways, graphOf, weightsOf, compile};
@@ -10,15 +10,15 @@ ghost use Rattle.job.specs.JobValues.{jobIn, JobReady};
 ghost use Rattle.compiler.specs.Texts.{Listed};
 ghost use Rattle.compiler.specs.Stages.{windowed, Begun, withSize};
 use answer::Refusal;
+use answer::Verdict;
 use component::component_graph::ComponentAnswer;
 use component::component_graph::find_component;
 use constraint::power::power_codes;
 use finish::finish_table::finish_table;
 use graph::Graph;
 use job::JobValue;
-use record::Reading;
-use record::Verdict;
-use record::bad;
+use record::TableAnswer;
+use record::declined;
 use splitting::split_graph::split_all;
 use table::Table;
 use table::chains::ways;
@@ -69,32 +69,32 @@ fn with_size(t: Table, m: usize, a: usize) -> Table
 }
 
 // The table with its least window, or refusal 6.
-fn with_window(t: Table) -> Reading
+fn with_window(t: Table) -> TableAnswer
     requires { ⌜ Ready t ⌝ }
     ensures answer { λ r. ⌜ outcomeIn r ≡ windowed (codeIn t) ⌝ }
-    ensures kept { λ r. ⌜ (r .verdict ≡ Read → Listed (r .table)) ⌝ }
+    ensures kept { λ r. ⌜ (r .verdict ≡ Good → Listed (r .table)) ⌝ }
 {
     let w = least_window(t);
     let m = memory_of(w);
     if 15 < m {
-        return bad(Refusal::NoWindow);
+        return declined(Refusal::NoWindow);
     }
     let a = lookahead_of(w);
-    Reading {
-        verdict: Verdict::Read,
+    TableAnswer {
+        verdict: Verdict::Good,
         table: with_size(t, m, a),
     }
 }
 
 // The component split to the end, and its table with the least window: refusals 5 and 6.
-fn split_and_window(j: JobValue, n: usize, g: Graph, start: usize) -> Reading
+fn split_and_window(j: JobValue, n: usize, g: Graph, start: usize) -> TableAnswer
     requires { ⌜ JobReady j × Begun (jobIn j) n g start ⌝ }
     ensures answer { λ r. ⌜ outcomeIn r ≡ compile (jobIn j) ⌝ }
-    ensures kept { λ r. ⌜ (r .verdict ≡ Read → Listed (r .table)) ⌝ }
+    ensures kept { λ r. ⌜ (r .verdict ≡ Good → Listed (r .table)) ⌝ }
 {
     let all = split_all(g, n);
     if all.crowded {
-        return bad(Refusal::TooManyEdges);
+        return declined(Refusal::TooManyEdges);
     }
     let h = all.graph;
     let rows = finish_table(h, n);
@@ -116,21 +116,21 @@ fn split_and_window(j: JobValue, n: usize, g: Graph, start: usize) -> Reading
 }
 
 // The table of a job, or the refusal: 3, 4, 5, 6.
-pub fn compile(j: JobValue) -> Reading
+pub fn compile(j: JobValue) -> TableAnswer
     requires { ⌜ JobReady j ⌝ }
     ensures answer { λ r. ⌜ outcomeIn r ≡ compile (jobIn j) ⌝ }
-    ensures kept { λ r. ⌜ (r .verdict ≡ Read → Listed (r .table)) ⌝ }
+    ensures kept { λ r. ⌜ (r .verdict ≡ Good → Listed (r .table)) ⌝ }
 {
     let n = ways(j.p);
     let found = component_of(j, n);
     if found.total == 0 {
-        return bad(Refusal::NoCode);
+        return declined(Refusal::NoCode);
     }
     if 128 < found.total {
-        return bad(Refusal::TooHeavy);
+        return declined(Refusal::TooHeavy);
     }
     if found.crowded {
-        return bad(Refusal::TooManyEdges);
+        return declined(Refusal::TooManyEdges);
     }
     let g = found.graph;
     split_and_window(j, n, g, found.start)

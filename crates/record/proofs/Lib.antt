@@ -10,7 +10,6 @@ pub mod Alls
 pub mod Fills
 pub mod RecordChecks
 pub mod RecordTables
-pub mod RecordReady
 pub mod RecordReading
 pub mod RecordParts
 pub mod Runs

@@ -14,7 +14,9 @@ use Rattle.laws.specs.Lists.{if_then_else_, all, repeat}
 use Rattle.laws.proofs.Tests.{and→, →and, →orR}
 use Rattle.constraint.specs.Walking.{none}
 use Rattle.bits.specs.Fields.{Fits}
-use Rattle.table.specs.Formed.{Head, head, goodState, goodNext, goodEdge, goodRow}
+use Rattle.table.specs.declared.Head.{Head}
+use Rattle.table.specs.Formed.{head, goodState, goodNext, goodEdge, goodRow}
+use Rattle.record.specs.Layout.{headerFields}
 use Rattle.record.specs.Layout.{fill, present, shown, nexts, pairs, rows, opened, nextsOf, edgesOf, rowsOf}
 use Rattle.record.specs.Layout.{codeOf}
 use Rattle.record.specs.Parse.{goodField, goodFields, goodTarget}
@@ -152,7 +154,7 @@ head-again h vs =
           b;
       start = h .start;
     })
-    (length-rowsOf (h .states) (2 ^ h .p) (drop (h .count * 4) (drop 7 vs)))
-    (length-nextsOf (h .count) (drop 7 vs))
+    (length-rowsOf (h .states) (2 ^ h .p) (drop (h .count * 4) (drop headerFields vs)))
+    (length-nextsOf (h .count) (drop headerFields vs))
 
 -- ---- the bits of bytes

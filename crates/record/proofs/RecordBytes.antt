@@ -13,7 +13,8 @@ use Rattle.laws.proofs.Lists.{below-take, below-drop}
 use Rattle.bits.specs.Fields.{value, read, write}
 use Rattle.bits.proofs.Fields.{value-lt, below-write}
 use Rattle.table.specs.Rows.{Code}
-use Rattle.table.specs.Formed.{Head, head, Ranges, Formed}
+use Rattle.table.specs.declared.Head.{Head}
+use Rattle.table.specs.Formed.{head, Ranges, Formed}
 use Rattle.record.specs.Layout.{size, widths, values, pack}
 use Rattle.record.proofs.RecordWrite.{length-pack}
 

@@ -13,7 +13,8 @@ use lib.Seq.{drop-drop}
 use Rattle.laws.specs.Lists.{all, from, range, repeat}
 use Rattle.laws.proofs.Lists.{length-repeat, sum-repeat}
 use Rattle.bits.specs.Fields.{field, value, read}
-use Rattle.table.specs.Formed.{Head}
+use Rattle.table.specs.declared.Head.{Head}
+use Rattle.record.specs.Layout.{headerBits, headerFields, stateSize}
 use Rattle.record.specs.Layout.{bitCount, fill, widths, edgesOf, rowsOf}
 use Rattle.record.specs.Parse.{goodField, goodFields, goodTarget, filler}
 use Rattle.record.specs.Checks.{codeAt, restGood}
@@ -85,10 +86,10 @@ module _ (bs us : List ℕ) (K : ℕ) where
 
 -- the check of the constraint's fields
 pub states-checked : (h : Head) (bs : List ℕ)
-    → goodFields (h .count) (h .count) (drop 7 (read (widths h) bs))
+    → goodFields (h .count) (h .count) (drop headerFields (read (widths h) bs))
     ≡ all (goodAt bs (h .count)) (range (2 * h .count))
 states-checked h bs =
-    ap (goodFields (h .count) (h .count)) (behind-head h bs) ∙ states-good bs _ (h .count) (h .count) 30
+    ap (goodFields (h .count) (h .count)) (behind-head h bs) ∙ states-good bs _ (h .count) (h .count) headerBits
 
 -- ---- the edges' fields
 module _ (bs : List ℕ) (q S : ℕ) where
@@ -132,13 +133,13 @@ module _ (bs : List ℕ) (q S : ℕ) where
       ∙ ap (λ m. all (targetGood o) (range n) && all (targetGood o) (from m (s * n))) z)
 
 -- behind the constraint's fields
-behind-states : (h : Head) (bs : List ℕ) → drop (h .count * 4) (drop 7 (read (widths h) bs))
+behind-states : (h : Head) (bs : List ℕ) → drop (h .count * 4) (drop headerFields (read (widths h) bs))
     ≡ read (repeat (h .states) (repeat (2 ^ h .p) (h .q ∷ 7 ∷ [])) ++ (fill h ∷ [])) (drop (edgesPlace h) bs)
 behind-states h bs =
     let us = repeat (h .states) (repeat (2 ^ h .p) (h .q ∷ 7 ∷ [])) ++ (fill h ∷ []) in
     ap (drop (h .count * 4)) (behind-head h bs)
-    ∙ behind (h .count) (h .count * 4) (1 ∷ 4 ∷ 1 ∷ 4 ∷ []) us (drop 30 bs) refl
-    ∙ ap (read us) (past bs (h .count * 10) 30 (edgesPlace h) refl)
+    ∙ behind (h .count) (h .count * 4) (1 ∷ 4 ∷ 1 ∷ 4 ∷ []) us (drop headerBits bs) refl
+    ∙ ap (read us) (past bs (h .count * stateSize) headerBits (edgesPlace h) refl)
 
 -- the check of the edges' targets
 pub targets-checked : (h : Head) (bs : List ℕ)

@@ -15,7 +15,9 @@ use Rattle.constraint.specs.Walking.{NextStates, none}
 use Rattle.table.specs.Rows.{Edge, Rows, Code}
 use Rattle.bits.specs.Fields.{Fits}
 use Rattle.bits.proofs.Fields.{fits-append}
-use Rattle.table.specs.Formed.{Head, head, goodState, goodNext, goodEdge, goodRow, Formed}
+use Rattle.table.specs.declared.Head.{Head}
+use Rattle.table.specs.Formed.{head, goodState, goodNext, goodEdge, goodRow, Formed}
+use Rattle.record.specs.Layout.{headerBits, stateSize}
 use Rattle.record.specs.Layout.{size, fill, widths, present, shown, nexts, pairs, rows, values}
 use Rattle.laws.proofs.Lists.{sum-repeat, sum-replicate, sum-append}
 
@@ -27,7 +29,7 @@ filled b = omega arith
 
 pub sum-widths : (h : Head) → sum (widths h) ≡ sum (replicate (size h) 8)
 sum-widths h = simp (sum-append, sum-repeat, sum-replicate)
-    (omega (arith, filled (30 + 10 * h .count + h .states * (2 ^ h .p * (h .q + 7)))))
+    (omega (arith, filled (headerBits + stateSize * h .count + h .states * (2 ^ h .p * (h .q + 7)))))
 
 -- ---- a code's values fit their widths
 

@@ -18,9 +18,11 @@ use Rattle.bits.proofs.Places.{drop-bytes}
 use Rattle.bits.proofs.Puts.{bitsOf-append}
 use Rattle.constraint.specs.Walking.{Constraint}
 use Rattle.table.specs.Rows.{Edge, Rows, Code}
-use Rattle.table.specs.Formed.{Head, head}
-use Rattle.record.specs.Layout.{header, size, fill, widths, nexts, pairs, rows, values, pack}
-use Rattle.record.specs.Parts.{frontValues, frontBits, nextBits, stateBits, edgeBits, statesBits, rowsBits}
+use Rattle.table.specs.declared.Head.{Head}
+use Rattle.table.specs.Formed.{head}
+use Rattle.record.specs.Layout.{headerBits, stateSize}
+use Rattle.record.specs.Layout.{frontValues, header, size, fill, widths, nexts, pairs, rows, values, pack}
+use Rattle.record.specs.Parts.{frontBits, nextBits, stateBits, edgeBits, statesBits, rowsBits}
 use Rattle.record.proofs.RecordFits.{sum-widths}
 use Rattle.record.proofs.RecordParts.{length-fields, write-append}
 use Rattle.record.proofs.RecordWrite.{length-pack}
@@ -76,11 +78,11 @@ module _ (q : ℕ) where
       ∙ sym (pieces es (concat t))
 
 -- how long the parts are
-pub length-front : (h : Head) → length (frontBits h) ≡ 30
+pub length-front : (h : Head) → length (frontBits h) ≡ headerBits
 unfolding frontBits
 length-front h = length-fields header (frontValues h) refl
 
-pub length-states : (c : Constraint) → length (statesBits c) ≡ length c * 10
+pub length-states : (c : Constraint) → length (statesBits c) ≡ length c * stateSize
 length-states c =
     ap length (sym (states-write c)) ∙ length-fields (repeat (length c) (1 ∷ 4 ∷ 1 ∷ 4 ∷ [])) (nexts c)
     (length-nexts c)

@@ -20,9 +20,10 @@ use Rattle.bits.proofs.Fields.{length-bits}
 use Rattle.bits.proofs.Places.{bits-join}
 use Rattle.bits.proofs.Puts.{spliced-field, spliced-twice}
 use Rattle.constraint.specs.Walking.{none}
-use Rattle.table.specs.Formed.{Head}
-use Rattle.record.specs.Layout.{header, present, shown}
-use Rattle.record.specs.Parts.{frontValues, frontBits, nextBits}
+use Rattle.table.specs.declared.Head.{Head}
+use Rattle.record.specs.Layout.{headerBits}
+use Rattle.record.specs.Layout.{frontValues, header, present, shown}
+use Rattle.record.specs.Parts.{frontBits, nextBits}
 
 -- a field of the lowest bits
 pub put-low-is : (B : List ℕ) (at w x v : ℕ) → v ≡ x % 2 ^ w
@@ -92,7 +93,7 @@ field-next B B₁ B₂ ws vs w v m e s h p q =
     ∙ ap (λ l. write ws vs ++ l) (append-nil (bits w v))))
 
 -- the numbers in front, field by field
-pub front-spliced : (h : Head) (s k : ℕ) (B B₁ B₂ B₃ B₄ B₅ B₆ B₇ : List ℕ) → 30 ≤ length B
+pub front-spliced : (h : Head) (s k : ℕ) (B B₁ B₂ B₃ B₄ B₅ B₆ B₇ : List ℕ) → headerBits ≤ length B
     → s ≡ h .states - 1 → k ≡ h .count - 1
     → B₁ ≡ spliced 0 (bits 3 (h .p)) B → B₂ ≡ spliced 3 (bits 4 (h .q)) B₁ → B₃ ≡ spliced 7 (bits 7 s) B₂
     → B₄ ≡ spliced 14 (bits 4 (h .memory)) B₃ → B₅ ≡ spliced 18 (bits 4 (h .lookahead)) B₄

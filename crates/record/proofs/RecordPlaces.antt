@@ -12,7 +12,8 @@ use Rattle.laws.specs.Lists.{sum, repeat}
 use Rattle.constraint.specs.Walking.{NextStates}
 use Rattle.table.specs.Rows.{Edge, edge, at}
 use Rattle.bits.specs.Fields.{value, read, field}
-use Rattle.table.specs.Formed.{Head}
+use Rattle.table.specs.declared.Head.{Head}
+use Rattle.record.specs.Layout.{headerBits, headerFields, stateSize}
 use Rattle.record.specs.Layout.{header, fill, widths, opened, nextsOf, edgesOf, rowsOf, codeOf}
 use Rattle.laws.proofs.Lists.{sum-repeat, length-repeat}
 
@@ -56,7 +57,7 @@ ten : (bs : List ℕ) → drop 4 (drop 1 (drop 4 (drop 1 bs))) ≡ drop 10 bs
 ten bs = ap (drop 4) (six bs) ∙ drop-drop 4 6 bs
 
 next-at : (n k : ℕ) (us bs : List ℕ) (d : NextStates) → k < n
-    → getD (nextsOf n (read (repeat n (1 ∷ 4 ∷ 1 ∷ 4 ∷ []) ++ us) bs)) k d ≡ nextAt bs (k * 10)
+    → getD (nextsOf n (read (repeat n (1 ∷ 4 ∷ 1 ∷ 4 ∷ []) ++ us) bs)) k d ≡ nextAt bs (k * stateSize)
 next-at zero k us bs d h = absurd (not-suc-le-zero h)
 next-at (suc n) zero us bs d h =
     ap₂ (λ u v. record {
@@ -66,7 +67,7 @@ next-at (suc n) zero us bs d h =
     }) (five bs) (six bs)
 next-at (suc n) (suc k) us bs d h =
     next-at n k us (drop 4 (drop 1 (drop 4 (drop 1 bs)))) d (le-of-suc-le-suc h)
-    ∙ ap (λ l. nextAt l (k * 10)) (ten bs) ∙ nextAt-drop bs 10 (k * 10) (suc k * 10) (omega arith)
+    ∙ ap (λ l. nextAt l (k * stateSize)) (ten bs) ∙ nextAt-drop bs 10 (k * stateSize) (suc k * stateSize) (omega arith)
 
 -- ---- edges
 abbrev pub edgeAt : List ℕ → ℕ → ℕ → Edge
@@ -112,24 +113,24 @@ module _ (h : Head) (bs : List ℕ) where
   fields = repeat (h .count) (1 ∷ 4 ∷ 1 ∷ 4 ∷ []) ++
       (repeat (h .states) (repeat (2 ^ h .p) (h .q ∷ 7 ∷ [])) ++ (fill h ∷ []))
 
-  pub behind-head : drop 7 (read (widths h) bs) ≡ read fields (drop 30 bs)
+  pub behind-head : drop headerFields (read (widths h) bs) ≡ read fields (drop headerBits bs)
   behind-head = drop-read header fields bs
 
   pub constraint-at : (k : ℕ) (d : NextStates) → k < h .count
-      → getD (codeOf h (read (widths h) bs) .constraint) k d ≡ nextAt bs (30 + k * 10)
+      → getD (codeOf h (read (widths h) bs) .constraint) k d ≡ nextAt bs (headerBits + k * stateSize)
   constraint-at k d l =
-      ap (λ vs. getD (nextsOf (h .count) vs) k d) behind-head ∙ next-at (h .count) k _ (drop 30 bs) d l
-      ∙ nextAt-drop bs 30 (k * 10) (30 + k * 10) refl
+      ap (λ vs. getD (nextsOf (h .count) vs) k d) behind-head ∙ next-at (h .count) k _ (drop headerBits bs) d l
+      ∙ nextAt-drop bs headerBits (k * stateSize) (headerBits + k * stateSize) refl
 
   pub table-at : (s d : ℕ) → s < h .states → d < 2 ^ h .p
       → at (codeOf h (read (widths h) bs) .table) s d ≡ edgeAt bs
-      (30 + h .count * 10 + (s * 2 ^ h .p + d) * (h .q + 7)) (h .q)
+      (headerBits + h .count * stateSize + (s * 2 ^ h .p + d) * (h .q + 7)) (h .q)
   table-at s d i l =
       let us = repeat (h .states) (repeat (2 ^ h .p) (h .q ∷ 7 ∷ [])) ++ (fill h ∷ []) in
       ap (λ vs. at (rowsOf (h .states) (2 ^ h .p) (drop (h .count * 4) vs)) s d) behind-head
       ∙ ap (λ vs. at (rowsOf (h .states) (2 ^ h .p) vs) s d)
-      (behind (h .count) (h .count * 4) (1 ∷ 4 ∷ 1 ∷ 4 ∷ []) us (drop 30 bs) refl)
-      ∙ row-at (h .states) s (2 ^ h .p) d (h .q) (fill h ∷ []) (drop (h .count * 10) (drop 30 bs)) i l
-      ∙ ap (λ l. edgeAt l ((s * 2 ^ h .p + d) * (h .q + 7)) (h .q)) (drop-drop (h .count * 10) 30 bs)
-      ∙ edgeAt-drop bs (30 + h .count * 10) ((s * 2 ^ h .p + d) * (h .q + 7))
-      (30 + h .count * 10 + (s * 2 ^ h .p + d) * (h .q + 7)) (h .q) refl
+      (behind (h .count) (h .count * 4) (1 ∷ 4 ∷ 1 ∷ 4 ∷ []) us (drop headerBits bs) refl)
+      ∙ row-at (h .states) s (2 ^ h .p) d (h .q) (fill h ∷ []) (drop (h .count * stateSize) (drop headerBits bs)) i l
+      ∙ ap (λ l. edgeAt l ((s * 2 ^ h .p + d) * (h .q + 7)) (h .q)) (drop-drop (h .count * stateSize) headerBits bs)
+      ∙ edgeAt-drop bs (headerBits + h .count * stateSize) ((s * 2 ^ h .p + d) * (h .q + 7))
+      (headerBits + h .count * stateSize + (s * 2 ^ h .p + d) * (h .q + 7)) (h .q) refl

@@ -1,5 +1,5 @@
 -- Bytes whose fields pass their checks are the record of the code that they name: a record is canonical.
--- In order: fields-again; Checked, fields-good.
+-- In order: fields-formed, read-ready; fields-again, Checked, fields-good.
 -- Assumes nothing.
 use mathlib.Core.Path.{_≡_, refl, sym, ap, ap₂, subst, _∙_}
 use mathlib.Core.Bool.{_&&_}
@@ -13,16 +13,21 @@ use Rattle.answer.specs.declared.Refusal.the-variants.{Field, Length}
 use Rattle.answer.specs.Outcomes.{done, unless}
 use Rattle.laws.specs.Lists.{all, sum}
 use Rattle.laws.proofs.Tests.{and→, →and}
+use Rattle.table.specs.declared.Table.{Table}
 use Rattle.table.specs.Rows.{Rows, Code}
+use Rattle.table.specs.Value.{codeIn, ready}
 use Rattle.bits.specs.Fields.{read, write, Fits, bitsOf}
 use Rattle.laws.specs.Sums.{Below}
 use Rattle.bits.proofs.Fields.{below-write, length-write, fits-read, write-read, read-back, fits-bytes}
-use Rattle.table.specs.Formed.{Head, head, inRange, goodNext, goodRow, formed}
+use Rattle.table.specs.declared.Head.{Head}
+use Rattle.table.specs.Formed.{head, inRange, goodNext, goodRow, formed}
 use Rattle.record.specs.Layout.{header, headOf, size, fill, widths, values, pack, nextsOf, rowsOf, codeOf}
 use Rattle.record.specs.Parse.{goodHead, goodFields, goodTarget, filler, goodRest}
 use Rattle.record.specs.Checks.{fieldsGood, fieldsChecked}
 use Rattle.record.proofs.RecordAgain.{nexts-again, nexts-good, rows-good, length-nextsOf, length-rowsOf}
 use Rattle.record.proofs.RecordAgain.{tail-again, head-again}
+use Rattle.laws.proofs.Lists.{sum-replicate}
+use Rattle.bits.proofs.Puts.{length-bitsOf}
 use Rattle.record.proofs.RecordFits.{sum-widths}
 use Rattle.answer.proofs.Outcomes.{done-inj, unless→}
 
@@ -84,58 +89,77 @@ module _ (p q s m a k z : ℕ) (t : List ℕ)
       (subst (λ n. T (all (goodRow p q n) g)) (sym (length-rowsOf (s + 1) (2 ^ p) (drop ((k + 1) * 4) t)))
       (rows-good (s + 1) p q (s + 1) (fill h ∷ []) (drop ((k + 1) * 4) t) fr y)))
 
-module _ (xs : List ℕ) (bytes : Below 256 xs) where
-  -- the record's fields, with l bytes
-  packed-again : (h : Head) (vs : List ℕ) → length xs ≡ size h → vs ≡ read (widths h) (bitsOf xs)
-      → values (codeOf h vs) ≡ vs → pack (codeOf h vs) ≡ xs
-  unfolding pack
-  packed-again h vs l e v =
-      let bs = bitsOf xs in
-      let lb : length bs ≡ sum (widths h) =
-      length-write (replicate (length xs) 8) xs (fits-bytes xs bytes) ∙ ap (λ n. sum (replicate n 8)) l
-      ∙ sym (sum-widths h) in
-      ap (λ k. read (replicate (size k) 8) (write (widths k) (values (codeOf h vs)))) (head-again h vs)
-      ∙ ap (λ ws. read (replicate (size h) 8) (write (widths h) ws)) (v ∙ e)
-      ∙ ap (read (replicate (size h) 8)) (write-read (widths h) bs (below-write (replicate (length xs) 8) xs) lb)
-      ∙ ap (λ n. read (replicate n 8) bs) (sym l)
-      ∙ read-back (replicate (length xs) 8) xs (fits-bytes xs bytes)
+module _ (xs : List ℕ) where
+  abbrev front : Head
+  front = headOf (read header (bitsOf xs))
+
+  abbrev fieldsIn : List ℕ
+  fieldsIn = read (widths front) (bitsOf xs)
 
   fits-again : (h : Head) → length xs ≡ size h → Fits (widths h) (read (widths h) (bitsOf xs))
   fits-again h l =
       let lb : sum (widths h) ≡ length (bitsOf xs) =
-      sum-widths h ∙ ap (λ n. sum (replicate n 8)) (sym l)
-      ∙ sym (length-write (replicate (length xs) 8) xs (fits-bytes xs bytes)) in
+      sum-widths h ∙ sum-replicate (size h) 8 ∙ ap (λ n. n * 8) (sym l) ∙ sym (length-bitsOf xs) in
       fits-read (widths h) (bitsOf xs) (below-write (replicate (length xs) 8) xs)
       (subst (λ n. sum (widths h) ≤ n) lb (le-refl (sum (widths h))))
 
-  -- fields that are in range are those of a code in range, and the bytes are its record
-  pub fields-again : let h = headOf (read header (bitsOf xs)) in let vs = read (widths h) (bitsOf xs) in
-      length xs ≡ size h → T (goodHead h) → T (goodRest h vs (codeOf h vs))
-      → T (formed (codeOf h vs)) × (pack (codeOf h vs) ≡ xs)
-  fields-again l t u =
-      let h = headOf (read header (bitsOf xs)) in
-      let f = fits-again h l in (
-        formed-again _ _ _ _ _ _ _ _ f u t,
-        packed-again h (read (widths h) (bitsOf xs)) l refl (values-again _ _ _ _ _ _ _ _ f u),
-      )
-
-  pub record Checked (c : Code) : Type 0 where
-    pub formed : T (formed c)
-    pub canonical : pack c ≡ xs
-
-  -- bytes whose fields are good are the record of a code with its fields in range
-  pub fields-good : (c : Code) → fieldsChecked xs ≡ done c → Checked c
+  -- what the checks of the fields say
+  checks : (c : Code) → fieldsChecked xs ≡ done c → (length xs ≡ size front) × T (goodHead front)
+      × T (goodRest front fieldsIn (codeOf front fieldsIn)) × (codeOf front fieldsIn ≡ c)
   unfolding fieldsChecked
-  fields-good c e =
-      let bs = bitsOf xs in
-      let h = headOf (read header bs) in
-      let vs = read (widths h) bs in
-      let d = codeOf h vs in
-      let (t₀, e₀) = unless→ Length (leb 4 (length xs)) (fieldsGood (length xs) h bs) c e in
-      let (t₁, e₁) = unless→ Field (goodHead h)
-      (unless Length (eqb (length xs) (size h)) (unless Field (goodRest h vs d) (done d))) c e₀ in
-      let (t₂, e₂) = unless→ Length (eqb (length xs) (size h)) (unless Field (goodRest h vs d) (done d)) c e₁ in
-      let (t₃, e₃) = unless→ Field (goodRest h vs d) (done d) c e₂ in
-      let l : length xs ≡ size h = eqb→eq (length xs) (size h) t₂ in
-      let (f, k) = fields-again l t₁ t₃ in
-      subst Checked (done-inj d c e₃) (record { formed = f; canonical = k })
+  checks c e =
+      let d = codeOf front fieldsIn in
+      let rest = unless Field (goodRest front fieldsIn d) (done d) in
+      let (_, e₀) = unless→ Length (leb 4 (length xs)) (fieldsGood (length xs) front (bitsOf xs)) c e in
+      let (t, e₁) = unless→ Field (goodHead front) (unless Length (eqb (length xs) (size front)) rest) c e₀ in
+      let (l, e₂) = unless→ Length (eqb (length xs) (size front)) rest c e₁ in
+      let (u, e₃) = unless→ Field (goodRest front fieldsIn d) (done d) c e₂ in
+      (eqb→eq (length xs) (size front) l, t, u, done-inj d c e₃)
+
+  -- bytes whose fields are good name a code with its fields in range
+  pub fields-formed : (c : Code) → fieldsChecked xs ≡ done c → T (formed c)
+  fields-formed c e =
+      let (l, t, u, k) = checks c e in
+      subst (λ d. T (formed d)) k (formed-again _ _ _ _ _ _ _ _ (fits-again front l) u t)
+
+  -- so a table that holds that code is ready
+  pub read-ready : (t : Table) → done (codeIn t) ≡ fieldsChecked xs → T (ready t)
+  unfolding ready
+  read-ready t e = fields-formed (codeIn t) (sym e)
+
+  module _ (bytes : Below 256 xs) where
+    -- the record's fields, with l bytes
+    packed-again : (h : Head) (vs : List ℕ) → length xs ≡ size h → vs ≡ read (widths h) (bitsOf xs)
+        → values (codeOf h vs) ≡ vs → pack (codeOf h vs) ≡ xs
+    unfolding pack
+    packed-again h vs l e v =
+        let bs = bitsOf xs in
+        let lb : length bs ≡ sum (widths h) =
+        length-write (replicate (length xs) 8) xs (fits-bytes xs bytes) ∙ ap (λ n. sum (replicate n 8)) l
+        ∙ sym (sum-widths h) in
+        ap (λ k. read (replicate (size k) 8) (write (widths k) (values (codeOf h vs)))) (head-again h vs)
+        ∙ ap (λ ws. read (replicate (size h) 8) (write (widths h) ws)) (v ∙ e)
+        ∙ ap (read (replicate (size h) 8)) (write-read (widths h) bs (below-write (replicate (length xs) 8) xs) lb)
+        ∙ ap (λ n. read (replicate n 8) bs) (sym l)
+        ∙ read-back (replicate (length xs) 8) xs (fits-bytes xs bytes)
+
+    -- fields that are in range are those of a code in range, and the bytes are its record
+    pub fields-again : let h = headOf (read header (bitsOf xs)) in let vs = read (widths h) (bitsOf xs) in
+        length xs ≡ size h → T (goodHead h) → T (goodRest h vs (codeOf h vs))
+        → T (formed (codeOf h vs)) × (pack (codeOf h vs) ≡ xs)
+    fields-again l t u =
+        let f = fits-again front l in (
+          formed-again _ _ _ _ _ _ _ _ f u t,
+          packed-again front fieldsIn l refl (values-again _ _ _ _ _ _ _ _ f u),
+        )
+
+    pub record Checked (c : Code) : Type 0 where
+      pub formed : T (formed c)
+      pub canonical : pack c ≡ xs
+
+    -- bytes whose fields are good are the record of a code with its fields in range
+    pub fields-good : (c : Code) → fieldsChecked xs ≡ done c → Checked c
+    fields-good c e =
+        let (l, t, u, k) = checks c e in
+        let (f, p) = fields-again l t u in
+        subst Checked k (record { formed = f; canonical = p })

@@ -1,26 +1,34 @@
 -- A record read check by check: the header's numbers are in range, and what each check comes to.
--- In order: below-bytes, ranges-of, ranges-in; checked-short, checked-front, checked-length, checked-rest,
+-- In order: field-lt; below-bytes, ranges-of, ranges-in; checked-short, checked-front, checked-length, checked-rest,
 -- checked-good.
 -- Assumes nothing.
 use mathlib.Core.Path.{_≡_, refl, sym, ap, subst, _∙_}
 use mathlib.Core.Bool.{Bool, true, false, _&&_}
 use mathlib.Core.List.{List}
-use Prim.Native.Nat.{ℕ, _<_}
+use Prim.Native.Nat.{ℕ, _^_, _≤_, _<_}
 use native.Mathlib.Omega.{arith}
 use lib.Dec.{T, leb, ltb, eqb, leb→le, ltb→lt, lit<}
-use lib.ListN.{length, getD, replicate}
+use lib.ListN.{length, getD, take, drop, replicate, length-take}
+use lib.Pow.{pow-mono}
 use Rattle.laws.specs.Sums.{Below}
+use Rattle.laws.proofs.Lists.{below-take, below-drop}
 use Rattle.laws.proofs.Tests.{and→}
 use Rattle.answer.specs.declared.Refusal.{Refusal}
 use Rattle.answer.specs.declared.Refusal.the-variants.{Field, Length}
 use Rattle.answer.specs.Outcomes.{Outcome, done, refused, unless}
-use Rattle.bits.specs.Fields.{read, bitsOf}
-use Rattle.bits.proofs.Fields.{read-at, below-write}
-use Rattle.table.specs.Formed.{Head, Ranges}
+use Rattle.bits.specs.Fields.{field, read, bitsOf}
+use Rattle.bits.proofs.Fields.{value-lt, read-at, below-write}
+use Rattle.table.specs.declared.Head.{Head}
+use Rattle.table.specs.Formed.{Ranges}
 use Rattle.record.specs.Layout.{header, headOf, size}
 use Rattle.record.specs.Parse.{goodHead}
 use Rattle.record.specs.Checks.{codeAt, restGood, fieldsGood, fieldsChecked}
-use Rattle.record.proofs.RecordReady.{field-lt}
+
+-- a field is below 2 to its width
+pub field-lt : (bs : List ℕ) → Below 2 bs → (o w : ℕ) → field bs o w < 2 ^ w
+field-lt bs b o w =
+    let l : length (take w (drop o bs)) ≤ w = rw length-take (omega arith) in
+    omega (arith, value-lt (take w (drop o bs)) (below-take 2 w (drop o bs) (below-drop 2 o bs b)), pow-mono l)
 
 pub below-bytes : (xs : List ℕ) → Below 2 (bitsOf xs)
 below-bytes xs = below-write (replicate (length xs) 8) xs

@@ -15,6 +15,7 @@ use Rattle.constraint.specs.Value.{nextStatesAt}
 use Rattle.table.specs.declared.Table.{Table}
 use Rattle.table.specs.Rows.{Edge}
 use Rattle.table.specs.Value.{edgeIn, rowIn, rowsIn}
+use Rattle.record.specs.Layout.{headerBits, stateSize}
 use Rattle.record.specs.Parts.{nextBits, stateBits, edgeBits, statesBits, rowsBits}
 use Rattle.record.proofs.Fills.{map-range}
 use Rattle.record.proofs.RecordParts.{spliced-next, spliced-none}
@@ -37,22 +38,22 @@ unfolding statesBits
 states-begin k B at = spliced-none at B
 
 -- the two next states of one state more
-pub states-next : (k : Constraint) (s : ℕ) (B B₁ B₂ B₃ : List ℕ) → 40 + s * 10 ≤ length B → length B₁ ≡ length B
-    → B₁ ≡ spliced 30 (statesBits (map (nextStatesAt k) (range s))) B
-    → B₂ ≡ spliced (30 + s * 10) (nextBits (getD (k .zero) s 0)) B₁
-    → B₃ ≡ spliced (35 + s * 10) (nextBits (getD (k .one) s 0)) B₂
-    → B₃ ≡ spliced 30 (statesBits (map (nextStatesAt k) (range (s + 1)))) B
+pub states-next : (k : Constraint) (s : ℕ) (B B₁ B₂ B₃ : List ℕ) → headerBits + stateSize + s * stateSize ≤ length B → length B₁ ≡ length B
+    → B₁ ≡ spliced headerBits (statesBits (map (nextStatesAt k) (range s))) B
+    → B₂ ≡ spliced (headerBits + s * stateSize) (nextBits (getD (k .zero) s 0)) B₁
+    → B₃ ≡ spliced (headerBits + 5 + s * stateSize) (nextBits (getD (k .one) s 0)) B₂
+    → B₃ ≡ spliced headerBits (statesBits (map (nextStatesAt k) (range (s + 1)))) B
 unfolding statesBits stateBits
 states-next k s B B₁ B₂ B₃ h l p q r =
     let z = getD (k .zero) s 0 in
     let o = getD (k .one) s 0 in
-    let e : 35 + s * 10 ≡ 30 + s * 10 + length (nextBits z) = omega (arith, length-next z) in
-    let g : B₃ ≡ spliced (30 + s * 10) (nextBits z ++ nextBits o) B₁ =
-    spliced-next B₁ B₂ B₃ (nextBits z) (nextBits o) (30 + s * 10) (35 + s * 10) e
+    let e : headerBits + 5 + s * stateSize ≡ headerBits + s * stateSize + length (nextBits z) = omega (arith, length-next z) in
+    let g : B₃ ≡ spliced (headerBits + s * stateSize) (nextBits z ++ nextBits o) B₁ =
+    spliced-next B₁ B₂ B₃ (nextBits z) (nextBits o) (headerBits + s * stateSize) (headerBits + 5 + s * stateSize) e
     (omega (arith, length-next o)) q r in
-    run-next (λ i. stateBits (nextStatesAt k i)) 10 (length-state k) B B₁ B₃ 30 s (30 + s * 10) refl (omega arith)
-    (p ∙ ap (λ x. spliced 30 (concat x) B) (map-map stateBits (nextStatesAt k) (range s))) g
-    ∙ ap (λ x. spliced 30 (concat x) B) (sym (map-map stateBits (nextStatesAt k) (range (s + 1))))
+    run-next (λ i. stateBits (nextStatesAt k i)) 10 (length-state k) B B₁ B₃ headerBits s (headerBits + s * stateSize) refl (omega arith)
+    (p ∙ ap (λ x. spliced headerBits (concat x) B) (map-map stateBits (nextStatesAt k) (range s))) g
+    ∙ ap (λ x. spliced headerBits (concat x) B) (sym (map-map stateBits (nextStatesAt k) (range (s + 1))))
 
 -- ---- the edges, numbered over all states
 

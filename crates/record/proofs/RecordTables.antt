@@ -14,7 +14,8 @@ use Rattle.laws.proofs.Tests.{length-from, map-range-at}
 use Rattle.bits.specs.Fields.{field}
 use Rattle.constraint.specs.Walking.{Constraint, nowhere}
 use Rattle.table.specs.Rows.{Edge, edge, at}
-use Rattle.table.specs.Formed.{Head}
+use Rattle.table.specs.declared.Head.{Head}
+use Rattle.record.specs.Layout.{headerBits, stateSize}
 use Rattle.record.specs.Layout.{opened, rowsOf}
 use Rattle.record.specs.Checks.{codeAt}
 use Rattle.record.specs.Places.{stateIn, edgesPlace, spot, Column}
@@ -32,12 +33,12 @@ states-are h bs =
     (λ k l. let g : k < h .count = subst (λ n. k < n) (length-over (stateIn bs) (h .count)) l in
     map-range-at (stateIn bs) (h .count) k nowhere g ∙ same k ∙ sym (constraint-at h bs k nowhere g))
   where
-    same : (k : ℕ) → stateIn bs k ≡ nextAt bs (30 + k * 10)
+    same : (k : ℕ) → stateIn bs k ≡ nextAt bs (headerBits + k * stateSize)
     same k =
-        let e : 35 + k * 10 ≡ 30 + k * 10 + 5 = omega arith in
-        let f : 35 + k * 10 + 1 ≡ 30 + k * 10 + 6 = omega arith in
+        let e : headerBits + 5 + k * stateSize ≡ headerBits + k * stateSize + 5 = omega arith in
+        let f : headerBits + 5 + k * stateSize + 1 ≡ headerBits + k * stateSize + 6 = omega arith in
         ap₂ (λ x y. record {
-          zero = opened (field bs (30 + k * 10) 1) (field bs (30 + k * 10 + 1) 4);
+          zero = opened (field bs (headerBits + k * stateSize) 1) (field bs (headerBits + k * stateSize + 1) 4);
           one = opened (field bs x 1) (field bs y 4);
         }) e f
 

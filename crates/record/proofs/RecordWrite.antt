@@ -18,7 +18,9 @@ use Rattle.constraint.specs.Walking.{Constraint, none}
 use Rattle.table.specs.Rows.{Edge, Rows, Code}
 use Rattle.bits.specs.Fields.{read, write, bitsOf}
 use Rattle.bits.proofs.Fields.{regroup, read-back, length-read}
-use Rattle.table.specs.Formed.{Head, head, goodState, goodNext, goodEdge, goodRow, formed, Formed, Ranges}
+use Rattle.table.specs.declared.Head.{Head}
+use Rattle.table.specs.Formed.{head, goodState, goodNext, goodEdge, goodRow, formed, Formed, Ranges}
+use Rattle.record.specs.Layout.{headerFields}
 use Rattle.record.specs.Layout.{header, headOf, size, widths, present, shown, nexts, pairs, rows, values}
 use Rattle.record.specs.Layout.{pack, opened, nextsOf, edgesOf, rowsOf, codeOf}
 use Rattle.record.specs.Parse.{goodHead, goodField, goodFields, goodTarget, filler, goodRest}
@@ -159,7 +161,7 @@ head-back c f =
     let r = f .range in
     let s : length (c .table) - 1 + 1 ≡ length (c .table) = omega (arith, r .s₁) in
     let k : length (c .constraint) - 1 + 1 ≡ length (c .constraint) = omega (arith, r .k₁) in
-    ap (λ vs. headOf (take 7 vs)) (fields-back c f)
+    ap (λ vs. headOf (take headerFields vs)) (fields-back c f)
     ∙ ap₂ (λ a b. record {
       p = c .p;
       q = c .q;

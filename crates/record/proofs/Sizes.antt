@@ -11,7 +11,8 @@ use lib.Dec.{lit<, lit≤}
 use lib.Pow.{pow-mono, pow-pos}
 use Rattle.bits.specs.Fields.{field, read}
 use Rattle.bits.proofs.Fields.{read-at}
-use Rattle.table.specs.Formed.{Head, Ranges}
+use Rattle.table.specs.declared.Head.{Head}
+use Rattle.table.specs.Formed.{Ranges}
 use Rattle.record.specs.Layout.{header, headOf, bitCount, size}
 use Rattle.record.specs.Places.{Small, edgesPlace, Reach}
 

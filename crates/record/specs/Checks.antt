@@ -1,6 +1,6 @@
 -- A record's fields read and checked, before the two checks of the table: "8 below four bytes, header by 7, 8, the
 -- rest by 7"; and what values of the code's structs stand for.
--- In order: headIn; codeAt, restGood, fieldsGood, fieldsChecked; verdictOf, outcomeIn.
+-- In order: codeAt, restGood, fieldsGood, fieldsChecked; outcomeIn; packWith.
 -- Assumes nothing.
 use mathlib.Core.Bool.{Bool}
 use mathlib.Core.List.{List}
@@ -8,29 +8,15 @@ use Prim.Native.Nat.{ℕ}
 use lib.Dec.{leb, eqb}
 use lib.ListN.{length}
 use Rattle.answer.specs.declared.Refusal.the-variants.{Field, Length}
-use Rattle.answer.specs.Outcomes.{Outcome, done, refused, unless}
+use Rattle.answer.specs.Outcomes.{Outcome, done, unless, verdictOn}
 use Rattle.bits.specs.Fields.{read, bitsOf}
 use Rattle.table.specs.Rows.{Code}
-use Rattle.table.specs.Formed.{Head}
-use Rattle.table.specs.Value.{codeIn}
-use Rattle.record.specs.declared.Front.{Front}
-use Rattle.record.specs.declared.Verdict.{Verdict}
-use Rattle.record.specs.declared.Verdict.the-variants.{Read, Bad}
-use Rattle.record.specs.declared.Reading.{Reading}
+use Rattle.table.specs.declared.Head.{Head}
+use Rattle.table.specs.declared.Table.{Table}
+use Rattle.table.specs.Value.{codeIn, ready}
+use Rattle.record.specs.declared.TableAnswer.{TableAnswer}
 use Rattle.record.specs.Layout.{header, headOf, size, widths, codeOf}
-use Rattle.record.specs.Parse.{goodHead, goodRest}
-
--- the numbers in front
-abbrev pub headIn : Front → Head
-headIn f = record {
-  p = f .p;
-  q = f .q;
-  states = f .states;
-  memory = f .memory;
-  lookahead = f .lookahead;
-  count = f .count;
-  start = f .start;
-}
+use Rattle.record.specs.Parse.{goodHead, goodRest, packInto}
 
 -- the code that the bits bs hold under the header h
 abbrev pub codeAt : Head → List ℕ → Code
@@ -52,11 +38,10 @@ fieldsChecked xs =
     unless Length (leb 4 (length xs))
     (let bs = bitsOf xs in fieldsGood (length xs) (headOf (read header bs)) bs)
 
--- a verdict on the code c
-abbrev pub verdictOf : Verdict → Code → Outcome Code
-verdictOf Read c = done c
-verdictOf (Bad r) c = refused r
+-- what an answer with a table comes to
+abbrev pub outcomeIn : TableAnswer → Outcome Code
+outcomeIn r = verdictOn (r .verdict) (codeIn (r .table))
 
--- what a reading comes to
-abbrev pub outcomeIn : Reading → Outcome Code
-outcomeIn r = verdictOf (r .verdict) (codeIn (r .table))
+-- the record of a table by value in lent bytes, with 7 for a value of the struct whose fields are not in range
+unfoldable pub packWith : Table → ℕ → Outcome (List ℕ)
+packWith t room = unless Field (ready t) (packInto (codeIn t) room)

@@ -1,6 +1,6 @@
 -- "The packed record": its fields as two lists, widths and values; a record written, and the code of fields that are
 -- read.
--- In order: header, headOf; size, fill, widths; present, shown, nexts, pairs, rows, values, pack; opened, nextsOf,
+-- In order: header, headOf, frontValues; headerFields, headerBits, stateSize; size, fill, widths; present, shown, nexts, pairs, rows, values, pack; opened, nextsOf,
 -- edgesOf, rowsOf, codeOf.
 -- Assumes nothing.
 use mathlib.Core.List.{List, [], _∷_, _++_}
@@ -11,7 +11,8 @@ use Rattle.laws.specs.Lists.{if_then_else_, repeat}
 use Rattle.bits.specs.Fields.{write, read}
 use Rattle.constraint.specs.Walking.{Constraint, none}
 use Rattle.table.specs.Rows.{Edge, edge, Rows, Code}
-use Rattle.table.specs.Formed.{Head, head}
+use Rattle.table.specs.declared.Head.{Head}
+use Rattle.table.specs.Formed.{head}
 
 -- "p 3 bits, q 4, states less one 7, m 4, a 4, K less one 4, constraint start 4"
 abbrev pub header : List ℕ
@@ -29,9 +30,26 @@ headOf vs = record {
   start = getD vs 6 0;
 }
 
--- how many bits the fields have: 30 in front, 10 a constraint state, q + 7 an edge
+-- the fields, from the numbers in front
+abbrev pub frontValues : Head → List ℕ
+frontValues h =
+    h .p ∷ h .q ∷ (h .states - 1) ∷ h .memory ∷ h .lookahead ∷ (h .count - 1) ∷ h .start ∷ []
+
+-- how many fields are in front
+abbrev pub headerFields : ℕ
+headerFields = 7
+
+-- how many bits they have
+abbrev pub headerBits : ℕ
+headerBits = 30
+
+-- the bits of a constraint state: twice "present 1, next state 4"
+abbrev pub stateSize : ℕ
+stateSize = 10
+
+-- how many bits the fields have, q + 7 an edge
 abbrev pub bitCount : Head → ℕ
-bitCount h = 30 + 10 * h .count + h .states * (2 ^ h .p * (h .q + 7))
+bitCount h = headerBits + stateSize * h .count + h .states * (2 ^ h .p * (h .q + 7))
 
 -- the record's length in bytes
 abbrev pub size : Head → ℕ
@@ -73,9 +91,7 @@ rows (es ∷ t) = pairs es ++ rows t
 
 -- the values of all fields, the fill last
 abbrev pub values : Code → List ℕ
-values c =
-    c .p ∷ c .q ∷ (length (c .table) - 1) ∷ c .window .memory ∷ c .window .lookahead ∷ (length (c .constraint) - 1)
-    ∷ c .start ∷ (nexts (c .constraint) ++ (rows (c .table) ++ (0 ∷ [])))
+values c = frontValues (head c) ++ (nexts (c .constraint) ++ (rows (c .table) ++ (0 ∷ [])))
 
 -- the record of a code: its fields' bits, read as bytes
 unfoldable pub pack : Code → List ℕ
@@ -108,7 +124,7 @@ codeOf h vs = record {
   p = h .p;
   q = h .q;
   window = record { memory = h .memory; lookahead = h .lookahead };
-  constraint = nextsOf (h .count) (drop 7 vs);
+  constraint = nextsOf (h .count) (drop headerFields vs);
   start = h .start;
-  table = rowsOf (h .states) (2 ^ h .p) (drop (h .count * 4) (drop 7 vs));
+  table = rowsOf (h .states) (2 ^ h .p) (drop (h .count * 4) (drop headerFields vs));
 }

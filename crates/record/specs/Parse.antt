@@ -9,8 +9,8 @@ use lib.ListN.{getD, drop}
 use Rattle.laws.specs.Lists.{if_then_else_, all}
 use Rattle.answer.specs.Outcomes.{Outcome, fitting}
 use Rattle.table.specs.Rows.{Edge, Code}
-use Rattle.table.specs.Formed.{Head}
-use Rattle.record.specs.Layout.{pack}
+use Rattle.table.specs.declared.Head.{Head}
+use Rattle.record.specs.Layout.{headerFields, pack}
 
 -- what the widths of the header's fields leave open: p 1 to 4, q 1 to 8, and a start that is a constraint state
 abbrev pub goodHead : Head → Bool
@@ -32,12 +32,12 @@ goodTarget n e = ltb (e .next) n
 
 -- the last field, the fill
 abbrev pub filler : Head → List ℕ → ℕ
-filler h vs = getD (drop (h .states * (2 ^ h .p * 2)) (drop (h .count * 4) (drop 7 vs))) 0 0
+filler h vs = getD (drop (h .states * (2 ^ h .p * 2)) (drop (h .count * 4) (drop headerFields vs))) 0 0
 
 -- the fields behind the header are in range, absent states are 0 and the fill is 0
 abbrev pub goodRest : Head → List ℕ → Code → Bool
 goodRest h vs c =
-    goodFields (h .count) (h .count) (drop 7 vs)
+    goodFields (h .count) (h .count) (drop headerFields vs)
     && (all (all (goodTarget (h .states))) (c .table) && eqb (filler h vs) 0)
 
 -- the record of a code in lent bytes, with 13 where they are too few

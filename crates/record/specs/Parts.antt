@@ -1,33 +1,15 @@
 -- The bits of a record, part by part, as they are written one behind the other.
--- In order: tableHead, frontValues, frontBits, the numbers in front; nextBits, stateBits, the constraint; edgeBits,
+-- In order: frontBits, the numbers in front; nextBits, stateBits, the constraint; edgeBits,
 -- the edges; statesBits, rowsBits, of all.
 -- Assumes nothing.
-use mathlib.Core.List.{List, [], _∷_, _++_, map}
-use Prim.Native.Nat.{ℕ, _-_}
+use mathlib.Core.List.{List, _++_, map}
+use Prim.Native.Nat.{ℕ}
 use Rattle.laws.specs.Lists.{concat}
 use Rattle.bits.specs.Fields.{bits, write}
 use Rattle.constraint.specs.Walking.{NextStates, Constraint}
-use Rattle.table.specs.declared.Table.{Table}
 use Rattle.table.specs.Rows.{Edge, Rows}
-use Rattle.table.specs.Formed.{Head}
-use Rattle.record.specs.Layout.{header, present, shown}
-
--- the numbers in front of a table's record
-abbrev pub tableHead : Table → Head
-tableHead t = record {
-  p = t .p;
-  q = t .q;
-  states = t .states;
-  memory = t .memory;
-  lookahead = t .lookahead;
-  count = t .constraint .states;
-  start = t .start;
-}
-
--- the values of the numbers in front
-abbrev pub frontValues : Head → List ℕ
-frontValues h =
-    h .p ∷ h .q ∷ (h .states - 1) ∷ h .memory ∷ h .lookahead ∷ (h .count - 1) ∷ h .start ∷ []
+use Rattle.table.specs.declared.Head.{Head}
+use Rattle.record.specs.Layout.{header, frontValues, present, shown}
 
 -- the bits of the numbers in front
 unfoldable pub frontBits : Head → List ℕ

@@ -11,8 +11,8 @@ use lib.Dec.{ltb}
 use lib.ListN.{length, getD}
 use Rattle.bits.specs.Fields.{field}
 use Rattle.constraint.specs.Walking.{NextStates}
-use Rattle.table.specs.Formed.{Head}
-use Rattle.record.specs.Layout.{opened}
+use Rattle.table.specs.declared.Head.{Head}
+use Rattle.record.specs.Layout.{headerBits, stateSize, opened}
 use Rattle.record.specs.Parse.{goodField}
 
 -- numbers in front that fit a table's arrays
@@ -28,15 +28,15 @@ nextIn bs o = opened (field bs o 1) (field bs (o + 1) 4)
 
 -- the next states of constraint state s
 abbrev pub stateIn : List ℕ → ℕ → NextStates
-stateIn bs s = record { zero = nextIn bs (30 + s * 10); one = nextIn bs (35 + s * 10) }
+stateIn bs s = record { zero = nextIn bs (headerBits + s * stateSize); one = nextIn bs (headerBits + 5 + s * stateSize) }
 
 -- the i-th next state, two a constraint state of K, is in range
 abbrev pub goodAt : List ℕ → ℕ → ℕ → Bool
-goodAt bs K i = goodField K (field bs (30 + i * 5) 1) (field bs (30 + i * 5 + 1) 4)
+goodAt bs K i = goodField K (field bs (headerBits + i * 5) 1) (field bs (headerBits + i * 5 + 1) 4)
 
 -- the place of the first edge
 abbrev pub edgesPlace : Head → ℕ
-edgesPlace h = 30 + h .count * 10
+edgesPlace h = headerBits + h .count * stateSize
 
 -- the e-th edge, of those of all states, leads to a state
 abbrev pub goodTargetAt : List ℕ → Head → ℕ → Bool

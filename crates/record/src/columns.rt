@@ -7,11 +7,13 @@ ghost use Rattle.laws.specs.Lists.{range};
 ghost use Rattle.bits.specs.Fields.{bitsOf};
 ghost use Rattle.constraint.specs.Value.{constraintOf};
 ghost use Rattle.table.specs.Value.{codeIn};
-ghost use Rattle.record.specs.Layout.{size};
-ghost use Rattle.record.specs.Checks.{headIn, codeAt};
+ghost use Rattle.record.specs.Layout.{headerBits, stateSize, size};
+ghost use Rattle.record.specs.Checks.{codeAt};
 ghost use Rattle.record.specs.Places.{nextIn, stateIn, Column, Reach, Small};
-use crate::Front;
+use crate::numbers::FRONT;
+use crate::numbers::STATE;
 use constraint::Constraint;
+use table::Head;
 use table::Table;
 
 // The next state at the bit place `at`, 255 for none.
@@ -27,7 +29,7 @@ fn next_of(bytes: &[u8], at: usize) -> u8
 
 // The constraint of `count` states.
 pub fn states_of(bytes: &[u8], count: usize) -> Constraint
-    requires { ⌜ (count ≤ 16) × (30 + count * 10 ≤ 8 * length (now bytes)) ⌝ }
+    requires { ⌜ (count ≤ 16) × (headerBits + count * stateSize ≤ 8 * length (now bytes)) ⌝ }
     ensures answer { λ r. ⌜ constraintOf r ≡ map (stateIn (bitsOf (now (bytes .entry)))) (range count) ⌝ }
     ensures kept { λ r. ⌜ r .states ≡ count ⌝ }
 {
@@ -35,8 +37,8 @@ pub fn states_of(bytes: &[u8], count: usize) -> Constraint
     let mut one = [0u8; 16];
     let mut s = 0;
     while s < count {
-        zero[s] = next_of(bytes, 30 + s * 10);
-        one[s] = next_of(bytes, 35 + s * 10);
+        zero[s] = next_of(bytes, FRONT + s * STATE);
+        one[s] = next_of(bytes, FRONT + 5 + s * STATE);
         s += 1;
     }
     Constraint {
@@ -69,13 +71,13 @@ pub fn column(
 }
 
 // The table of a record with the numbers f in front.
-pub fn table_of(bytes: &[u8], f: Front) -> Table
-    requires { ⌜ Small (headIn f) × (length (now bytes) ≡ size (headIn f)) ⌝ }
-    ensures answer { λ r. ⌜ codeIn r ≡ codeAt (headIn f) (bitsOf (now (bytes .entry))) ⌝ }
+pub fn table_of(bytes: &[u8], f: Head) -> Table
+    requires { ⌜ Small f × (length (now bytes) ≡ size f) ⌝ }
+    ensures answer { λ r. ⌜ codeIn r ≡ codeAt f (bitsOf (now (bytes .entry))) ⌝ }
 {
     let n = bits::power(f.p);
     let edges = f.states * n;
-    let first = 30 + f.count * 10;
+    let first = FRONT + f.count * STATE;
     let step = f.q + 7;
     let constraint = states_of(bytes, f.count);
     let word = column(bytes, n, edges, first, step, f.q);

@@ -1,20 +1,23 @@
 // The numbers in front of a record: "p 3 bits, q 4, states less one 7, m 4, a 4, K less one 4, constraint start 4".
 ghost use mathlib.Core.Path.{_≡_};
-ghost use mathlib.Core.Bool.{_&&_};
 ghost use Prim.Native.Nat.{_*_, _≤_};
-ghost use lib.Dec.{leb};
 ghost use lib.ListN.{length};
 ghost use Rattle.bits.specs.Fields.{read, bitsOf};
 ghost use Rattle.record.specs.Layout.{header, headOf, bitCount, size};
 ghost use Rattle.record.specs.Parse.{goodHead};
-ghost use Rattle.record.specs.Checks.{headIn};
 ghost use Rattle.record.specs.Places.{Small};
-use crate::Front;
+use table::Head;
+use table::ready::between;
+
+// How many bits the numbers in front have, and how many a constraint state.
+pub const FRONT: usize = 30;
+
+pub const STATE: usize = 10;
 
 // The numbers, each less than its field's width lets it be.
-pub fn front_of(bytes: &[u8]) -> Front
+pub fn front_of(bytes: &[u8]) -> Head
     requires { ⌜ 4 ≤ length (now bytes) ⌝ }
-    ensures answer { λ r. ⌜ headIn r ≡ headOf (read header (bitsOf (now (bytes .entry)))) ⌝ }
+    ensures answer { λ r. ⌜ r ≡ headOf (read header (bitsOf (now (bytes .entry)))) ⌝ }
 {
     let p = bits::get(bytes, 0, 3) as usize;
     let q = bits::get(bytes, 3, 4) as usize;
@@ -23,7 +26,7 @@ pub fn front_of(bytes: &[u8]) -> Front
     let lookahead = bits::get(bytes, 18, 4) as usize;
     let count = bits::get(bytes, 22, 4) as usize + 1;
     let start = bits::get(bytes, 26, 4) as usize;
-    Front {
+    Head {
         p: p,
         q: q,
         states: states,
@@ -34,19 +37,9 @@ pub fn front_of(bytes: &[u8]) -> Front
     }
 }
 
-// Whether x is from low to high.
-fn between(x: usize, low: usize, high: usize) -> bool
-    ensures answer { λ r. ⌜ r ≡ (leb low x && leb x high) ⌝ }
-{
-    if x < low {
-        return false;
-    }
-    x <= high
-}
-
 // Whether p, q and the constraint start are in range: otherwise refusal 7.
-pub fn good_front(f: Front) -> bool
-    ensures answer { λ r. ⌜ r ≡ goodHead (headIn f) ⌝ }
+pub fn good_front(f: Head) -> bool
+    ensures answer { λ r. ⌜ r ≡ goodHead f ⌝ }
 {
     if !between(f.p, 1, 4) {
         return false;
@@ -58,18 +51,18 @@ pub fn good_front(f: Front) -> bool
 }
 
 // How many bits the fields have.
-pub fn bit_count(f: Front) -> usize
-    requires { ⌜ Small (headIn f) ⌝ }
-    ensures answer { λ r. ⌜ r ≡ bitCount (headIn f) ⌝ }
+pub fn bit_count(f: Head) -> usize
+    requires { ⌜ Small f ⌝ }
+    ensures answer { λ r. ⌜ r ≡ bitCount f ⌝ }
 {
     let n = bits::power(f.p);
-    30 + 10 * f.count + f.states * (n * (f.q + 7))
+    FRONT + STATE * f.count + f.states * (n * (f.q + 7))
 }
 
 // The record's length in bytes.
-pub fn size_of(f: Front) -> usize
-    requires { ⌜ Small (headIn f) ⌝ }
-    ensures answer { λ r. ⌜ r ≡ size (headIn f) ⌝ }
+pub fn size_of(f: Head) -> usize
+    requires { ⌜ Small f ⌝ }
+    ensures answer { λ r. ⌜ r ≡ size f ⌝ }
 {
     (bit_count(f) + 7) / 8
 }

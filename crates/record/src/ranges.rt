@@ -6,12 +6,14 @@ ghost use lib.Dec.{eqb};
 ghost use lib.ListN.{length};
 ghost use Rattle.laws.specs.Lists.{all, range};
 ghost use Rattle.bits.specs.Fields.{bitsOf, field};
-ghost use Rattle.record.specs.Layout.{bitCount, size, fill};
+ghost use Rattle.record.specs.Layout.{headerBits, stateSize, bitCount, size, fill};
 ghost use Rattle.record.specs.Parse.{goodField};
-ghost use Rattle.record.specs.Checks.{headIn, restGood};
+ghost use Rattle.record.specs.Checks.{restGood};
 ghost use Rattle.record.specs.Places.{goodAt, goodTargetAt, edgesPlace, Small};
-use crate::Front;
 use crate::numbers;
+use crate::numbers::FRONT;
+use crate::numbers::STATE;
+use table::Head;
 
 // Whether the next state at the bit place `at` is one of `count` states, or absent and 0.
 fn good_next(bytes: &[u8], at: usize, count: usize) -> bool
@@ -28,12 +30,12 @@ fn good_next(bytes: &[u8], at: usize, count: usize) -> bool
 
 // Whether the next states of `count` constraint states are in range.
 fn good_states(bytes: &[u8], count: usize) -> bool
-    requires { ⌜ (count ≤ 16) × (30 + count * 10 ≤ 8 * length (now bytes)) ⌝ }
+    requires { ⌜ (count ≤ 16) × (headerBits + count * stateSize ≤ 8 * length (now bytes)) ⌝ }
     ensures answer { λ r. ⌜ r ≡ all (goodAt (bitsOf (now (bytes .entry))) count) (range (2 * count)) ⌝ }
 {
     let mut i = 0;
     while i < 2 * count {
-        if !good_next(bytes, 30 + i * 5, count) {
+        if !good_next(bytes, FRONT + i * 5, count) {
             return false;
         }
         i += 1;
@@ -42,12 +44,12 @@ fn good_states(bytes: &[u8], count: usize) -> bool
 }
 
 // Whether every edge leads to a state.
-fn good_targets(bytes: &[u8], f: Front, edges: usize) -> bool
-    requires { ⌜ Small (headIn f) × (edges ≤ 2048)
-        × (edgesPlace (headIn f) + edges * (f .q + 7) ≤ 8 * length (now bytes)) ⌝ }
-    ensures answer { λ r. ⌜ r ≡ all (goodTargetAt (bitsOf (now (bytes .entry))) (headIn f)) (range edges) ⌝ }
+fn good_targets(bytes: &[u8], f: Head, edges: usize) -> bool
+    requires { ⌜ Small f × (edges ≤ 2048)
+        × (edgesPlace f + edges * (f .q + 7) ≤ 8 * length (now bytes)) ⌝ }
+    ensures answer { λ r. ⌜ r ≡ all (goodTargetAt (bitsOf (now (bytes .entry))) f) (range edges) ⌝ }
 {
-    let first = 30 + f.count * 10 + f.q;
+    let first = FRONT + f.count * STATE + f.q;
     let step = f.q + 7;
     let states = f.states;
     let mut e = 0;
@@ -61,18 +63,18 @@ fn good_targets(bytes: &[u8], f: Front, edges: usize) -> bool
 }
 
 // Whether zero bits fill the last byte.
-fn good_fill(bytes: &[u8], f: Front) -> bool
-    requires { ⌜ Small (headIn f) × (length (now bytes) ≡ size (headIn f)) ⌝ }
-    ensures answer { λ r. ⌜ r ≡ eqb (field (bitsOf (now (bytes .entry))) (bitCount (headIn f)) (fill (headIn f))) 0 ⌝ }
+fn good_fill(bytes: &[u8], f: Head) -> bool
+    requires { ⌜ Small f × (length (now bytes) ≡ size f) ⌝ }
+    ensures answer { λ r. ⌜ r ≡ eqb (field (bitsOf (now (bytes .entry))) (bitCount f) (fill f)) 0 ⌝ }
 {
     let at = numbers::bit_count(f);
     bits::get(bytes, at, 8 * bytes.len() - at) == 0
 }
 
 // Whether all fields behind the header are in range: otherwise refusal 7.
-pub fn good_rest(bytes: &[u8], f: Front) -> bool
-    requires { ⌜ Small (headIn f) × (length (now bytes) ≡ size (headIn f)) ⌝ }
-    ensures answer { λ r. ⌜ r ≡ restGood (headIn f) (bitsOf (now (bytes .entry))) ⌝ }
+pub fn good_rest(bytes: &[u8], f: Head) -> bool
+    requires { ⌜ Small f × (length (now bytes) ≡ size f) ⌝ }
+    ensures answer { λ r. ⌜ r ≡ restGood f (bitsOf (now (bytes .entry))) ⌝ }
 {
     if !good_states(bytes, f.count) {
         return false;

@@ -6,13 +6,14 @@ ghost use lib.ListN.{length, drop};
 ghost use Rattle.bits.specs.Bytes.{spliced};
 ghost use Rattle.bits.specs.Fields.{bits, bitsOf};
 ghost use Rattle.constraint.specs.Value.{constraintOf};
-ghost use Rattle.table.specs.Value.{codeIn, rowsIn, Ready};
-ghost use Rattle.record.specs.Layout.{size, pack};
-ghost use Rattle.record.specs.Checks.{headIn};
-ghost use Rattle.record.specs.Parts.{tableHead, frontBits, nextBits, statesBits, rowsBits};
-use crate::Front;
+ghost use Rattle.table.specs.Value.{codeIn, rowsIn, tableHead, Ready};
+ghost use Rattle.record.specs.Layout.{headerBits, stateSize, size, pack};
+ghost use Rattle.record.specs.Parts.{frontBits, nextBits, statesBits, rowsBits};
 use crate::numbers;
+use crate::numbers::FRONT;
+use crate::numbers::STATE;
 use constraint::Constraint;
+use table::Head;
 use table::Table;
 
 // The lowest `width` bits of x become the field at the bit place `at`.
@@ -35,9 +36,9 @@ fn less_one(x: usize) -> usize
 }
 
 // The numbers in front.
-pub fn put_front(out: &mut [u8], f: Front)
+pub fn put_front(out: &mut [u8], f: Head)
     requires { ⌜ 4 ≤ length (now out) ⌝ }
-    ensures written { λ r. ⌜ bitsOf (now (out .exit)) ≡ spliced 0 (frontBits (headIn f))
+    ensures written { λ r. ⌜ bitsOf (now (out .exit)) ≡ spliced 0 (frontBits f)
         (bitsOf (now (out .entry))) ⌝ }
     ensures kept { λ r. ⌜ length (now (out .exit)) ≡ length (now (out .entry)) ⌝ }
 {
@@ -65,16 +66,16 @@ fn put_next(out: &mut [u8], at: usize, next: u8)
 
 // The constraint, behind the numbers in front.
 pub fn put_states(out: &mut [u8], constraint: Constraint)
-    requires { ⌜ (constraint .states ≤ 16) × (30 + constraint .states * 10 ≤ 8 * length (now out)) ⌝ }
-    ensures written { λ r. ⌜ bitsOf (now (out .exit)) ≡ spliced 30 (statesBits (constraintOf constraint))
+    requires { ⌜ (constraint .states ≤ 16) × (headerBits + constraint .states * stateSize ≤ 8 * length (now out)) ⌝ }
+    ensures written { λ r. ⌜ bitsOf (now (out .exit)) ≡ spliced headerBits (statesBits (constraintOf constraint))
         (bitsOf (now (out .entry))) ⌝ }
     ensures kept { λ r. ⌜ length (now (out .exit)) ≡ length (now (out .entry)) ⌝ }
 {
     let count = constraint.states;
     let mut s = 0;
     while s < count {
-        put_next(out, 30 + s * 10, constraint.zero[s]);
-        put_next(out, 35 + s * 10, constraint.one[s]);
+        put_next(out, FRONT + s * STATE, constraint.zero[s]);
+        put_next(out, FRONT + 5 + s * STATE, constraint.one[s]);
         s += 1;
     }
 }
@@ -99,30 +100,15 @@ pub fn put_edges(out: &mut [u8], t: Table, first: usize)
     }
 }
 
-// The numbers in front of a table's record.
-pub fn front_in(t: Table) -> Front
-    ensures answer { λ r. ⌜ headIn r ≡ tableHead t ⌝ }
-{
-    Front {
-        p: t.p,
-        q: t.q,
-        states: t.states,
-        memory: t.memory,
-        lookahead: t.lookahead,
-        count: t.constraint.states,
-        start: t.start,
-    }
-}
-
 // The whole record of a table, with the numbers f in front and `long` bytes.
-pub fn put_record(out: &mut [u8], t: Table, f: Front, long: usize)
-    requires { ⌜ Ready t × (headIn f ≡ tableHead t) × (long ≡ size (tableHead t)) × (long ≤ length (now out)) ⌝ }
+pub fn put_record(out: &mut [u8], t: Table, f: Head, long: usize)
+    requires { ⌜ Ready t × (f ≡ tableHead t) × (long ≡ size (tableHead t)) × (long ≤ length (now out)) ⌝ }
     ensures written { λ r. ⌜ now (out .exit) ≡ pack (codeIn t)
         ++ drop (length (pack (codeIn t))) (now (out .entry)) ⌝ }
 {
     let at = numbers::bit_count(f);
     put_front(out, f);
     put_states(out, t.constraint);
-    put_edges(out, t, 30 + f.count * 10);
+    put_edges(out, t, FRONT + f.count * STATE);
     bits::put(out, at, 8 * long - at, 0);
 }

@@ -2,9 +2,9 @@
 ghost use Rattle.text.specs.Texts.{Added};
 ghost use Rattle.record.specs.Checks.{outcomeIn};
 ghost use Rattle.trace.specs.Lines.{windowLine, ending};
-use record::Reading;
-use record::Verdict;
 use refusals::put_refusal_line;
+use answer::Verdict;
+use record::TableAnswer;
 use text::put;
 use views::phrases::put_number;
 
@@ -18,13 +18,13 @@ fn put_window(out: &mut [u8], at: usize, m: usize, a: usize) -> usize
 }
 
 // What compiling came to.
-pub fn put_ending(r: Reading, out: &mut [u8], at: usize) -> usize
+pub fn put_ending(r: TableAnswer, out: &mut [u8], at: usize) -> usize
     ensures written { λ e. ⌜ Added (ending (outcomeIn r)) at (now (out .entry)) (now (out .exit)) e ⌝ }
 {
     let v = r.verdict;
     let t = r.table;
     match v {
         Verdict::Bad(x) => put_refusal_line(out, at, x),
-        Verdict::Read => put_window(out, at, t.memory, t.lookahead),
+        Verdict::Good => put_window(out, at, t.memory, t.lookahead),
     }
 }

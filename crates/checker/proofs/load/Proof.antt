@@ -3,7 +3,7 @@
 use mathlib.Core.Path.{sym, _∙_}
 use borrow.Author.Needs.{needs}
 use denote.Ref.{now}
-use Rattle.checker.proofs.Follow.{judgeable, fields-read, parse-read, parse-bad}
+use Rattle.checker.proofs.Follow.{parse-read, parse-bad}
 use Rattle.checker.proofs.load.Statement.{statement}
 use Rattle.checker.proofs.load.Tie as tie
 
@@ -13,26 +13,22 @@ read-requires c κs = search needs
 enum-known-v : tie.Need-enum-known-v
 enum-known-v c = search needs
 
-bad-requires : tie.Need-bad-requires
-bad-requires c κs = search needs
+declined-requires : tie.Need-declined-requires
+declined-requires c κs = search needs
 
 enum-told : tie.Need-enum-told
 enum-told c = search needs
 
 judge-requires : tie.Need-judge-requires
-judge-requires c κs =
-    let r = c .before .before .before in
-    let xs = now (r .before .before .args .bytes) in
-    judgeable xs (r .read .result .table) (r .read .ensures .1 (c .enum-told .given .1))
-    (fields-read xs (r .read .result) (r .read .ensures .0) (c .enum-told .given .1))
+judge-requires c κs = c .before .before .before .read .ensures .1 (c .enum-told .given .1)
 
 returns : tie.Need-returns
 returns c =
     let v = c .before .before in
     let r = v .before .before .before in
     let xs = now (r .before .before .args .bytes) in (
-      c .bad .ensures .0 ∙ sym (parse-bad xs (r .read .result) _ (r .read .ensures .0) (v .v .given .1)),
-      λ e. absurd (c .bad .ensures .1 e),
+      c .declined .ensures .0 ∙ sym (parse-bad xs (r .read .result) _ (r .read .ensures .0) (v .v .given .1)),
+      λ e. absurd (c .declined .ensures .1 e),
     )
 
 returns-2 : tie.Need-returns-2
@@ -47,4 +43,4 @@ returns-2 c =
 pub load-spec : {M : Type 1} → statement M
 load-spec =
     tie.close
-    (tie.spec read-requires enum-known-v bad-requires enum-told judge-requires returns returns-2)
+    (tie.spec read-requires enum-known-v declined-requires enum-told judge-requires returns returns-2)

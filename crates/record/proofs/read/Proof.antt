@@ -12,46 +12,45 @@ use Rattle.bits.specs.Fields.{bitsOf}
 use Rattle.table.specs.Formed.{Ranges}
 use Rattle.record.specs.Parse.{goodHead}
 use Rattle.record.specs.Layout.{size}
-use Rattle.record.specs.Checks.{headIn}
 use Rattle.record.specs.Places.{Small}
 use Rattle.record.proofs.Sizes.{small-of}
-use Rattle.record.proofs.RecordReady.{ready-of}
+use Rattle.record.proofs.RecordRead.{read-ready}
 use Rattle.record.proofs.RecordReading.{below-bytes, ranges-in, checked-short, checked-front, checked-length}
 use Rattle.record.proofs.RecordReading.{checked-rest, checked-good}
 use Rattle.record.proofs.read.Statement.{statement}
 use Rattle.record.proofs.read.Tie as tie
 
 -- the header is good
-fronted : (c : tie.Else2) → goodHead (headIn (c .before .before .front-of .result)) ≡ true
+fronted : (c : tie.Else2) → goodHead (c .before .before .front-of .result) ≡ true
 fronted c =
     let g = c .before in
     sym (g .good-front .ensures) ∙ not-false (g .good-front .result) (c .if2 .left)
 
 -- so its numbers are in range
-ranged : (c : tie.Else2) → Ranges (headIn (c .before .before .front-of .result))
+ranged : (c : tie.Else2) → Ranges (c .before .before .front-of .result)
 ranged c =
     let f = c .before .before in
-    ranges-in (now (f .before .before .before .args .bytes)) (headIn (f .front-of .result)) (f .front-of .ensures)
+    ranges-in (now (f .before .before .before .args .bytes)) (f .front-of .result) (f .front-of .ensures)
     (fronted c)
 
 -- and small
-small : (c : tie.Else2) → Small (headIn (c .before .before .front-of .result))
+small : (c : tie.Else2) → Small (c .before .before .front-of .result)
 small c = small-of _ (ranged c)
 
 -- the length is what they say
 sized : (c : tie.Else3) → length (now (c .before .before .before .before .before .before .before .args .bytes))
-    ≡ size (headIn (c .before .before .before .before .front-of .result))
+    ≡ size (c .before .before .before .before .front-of .result)
 sized c = c .if3 .left ∙ c .before .size-of .ensures
 
-bad-requires : tie.Need-bad-requires
-bad-requires c κs = search needs
+declined-requires : tie.Need-declined-requires
+declined-requires c κs = search needs
 
 returns : tie.Need-returns
 returns c =
     let xs = now (c .before .before .before .args .bytes) in (
-      c .bad .ensures .0 ∙ sym (checked-short xs (lt-leb 4 (length xs) (c .before .if1 .taken))),
+      c .declined .ensures .0 ∙ sym (checked-short xs (lt-leb 4 (length xs) (c .before .if1 .taken))),
       λ e. absurd
-          (c .bad .ensures .1 e),
+          (c .declined .ensures .1 e),
     )
 
 front-of-requires : tie.Need-front-of-requires
@@ -60,43 +59,43 @@ front-of-requires c κs = search needs
 good-front-requires : tie.Need-good-front-requires
 good-front-requires c κs = search needs
 
-bad-requires-2 : tie.Need-bad-requires-2
-bad-requires-2 c κs = search needs
+declined-requires-2 : tie.Need-declined-requires-2
+declined-requires-2 c κs = search needs
 
 returns-2 : tie.Need-returns-2
 returns-2 c =
     let g = c .before .before in
     let f = g .before in
     let xs = now (f .before .before .before .args .bytes) in (
-      c .bad2 .ensures .0 ∙ sym (checked-front xs (headIn (f .front-of .result)) (f .front-of .ensures)
+      c .declined2 .ensures .0 ∙ sym (checked-front xs (f .front-of .result) (f .front-of .ensures)
           (le-leb 4 (length xs) (f .before .if1 .left))
           (sym (g .good-front .ensures) ∙ not-true (g .good-front .result) (c .before .if2 .taken))),
       λ e. absurd
-          (c .bad2 .ensures .1 e),
+          (c .declined2 .ensures .1 e),
     )
 
 size-of-requires : tie.Need-size-of-requires
 size-of-requires c κs = small c
 
-bad-requires-3 : tie.Need-bad-requires-3
-bad-requires-3 c κs = search needs
+declined-requires-3 : tie.Need-declined-requires-3
+declined-requires-3 c κs = search needs
 
 returns-3 : tie.Need-returns-3
 returns-3 c =
     let s = c .before .before in
     let f = s .before .before .before in
     let xs = now (f .before .before .before .args .bytes) in (
-      c .bad3 .ensures .0 ∙ sym (checked-length xs (headIn (f .front-of .result)) (f .front-of .ensures)
+      c .declined3 .ensures .0 ∙ sym (checked-length xs (f .front-of .result) (f .front-of .ensures)
           (le-leb 4 (length xs) (f .before .if1 .left)) (fronted (s .before))
           (ne-eqb _ _ (λ e. c .before .if3 .taken (e ∙ sym (s .size-of .ensures))))),
-      λ e. absurd (c .bad3 .ensures .1 e),
+      λ e. absurd (c .declined3 .ensures .1 e),
     )
 
 good-rest-requires : tie.Need-good-rest-requires
 good-rest-requires c κs = (small (c .before .before), sized c)
 
-bad-requires-4 : tie.Need-bad-requires-4
-bad-requires-4 c κs = search needs
+declined-requires-4 : tie.Need-declined-requires-4
+declined-requires-4 c κs = search needs
 
 returns-4 : tie.Need-returns-4
 returns-4 c =
@@ -104,10 +103,10 @@ returns-4 c =
     let s = g .before .before in
     let f = s .before .before .before in
     let xs = now (f .before .before .before .args .bytes) in (
-      c .bad4 .ensures .0 ∙ sym (checked-rest xs (headIn (f .front-of .result)) (f .front-of .ensures)
+      c .declined4 .ensures .0 ∙ sym (checked-rest xs (f .front-of .result) (f .front-of .ensures)
           (le-leb 4 (length xs) (f .before .if1 .left)) (fronted (s .before)) (eq-eqb _ _ (sized (g .before)))
           (sym (g .good-rest .ensures) ∙ not-true (g .good-rest .result) (c .before .if4 .taken))),
-      λ e. absurd (c .bad4 .ensures .1 e),
+      λ e. absurd (c .declined4 .ensures .1 e),
     )
 
 table-of-requires : tie.Need-table-of-requires
@@ -118,30 +117,28 @@ returns-5 c =
     let g = c .before .before in
     let s = g .before .before in
     let f = s .before .before .before in
-    let h = headIn (f .front-of .result) in
+    let h = f .front-of .result in
     let xs = now (f .before .before .before .args .bytes) in
-    let good = sym (g .good-rest .ensures) ∙ not-false (g .good-rest .result) (c .before .if4 .left) in (
-      ap done (c .table-of .ensures) ∙ sym (checked-good xs h (f .front-of .ensures)
-          (le-leb 4 (length xs) (f .before .if1 .left)) (fronted (s .before)) (eq-eqb _ _ (sized (g .before))) good),
-      λ e. ready-of h (ranged (s .before)) (bitsOf xs) (below-bytes xs) (subst T (sym good) tt) (c .table-of .result)
-          (c .table-of .ensures),
-    )
+    let good = sym (g .good-rest .ensures) ∙ not-false (g .good-rest .result) (c .before .if4 .left) in
+    let same = ap done (c .table-of .ensures) ∙ sym (checked-good xs h (f .front-of .ensures)
+    (le-leb 4 (length xs) (f .before .if1 .left)) (fronted (s .before)) (eq-eqb _ _ (sized (g .before))) good) in
+    (same, λ e. read-ready xs (c .table-of .result) same)
 
 pub read-spec : {M : Type 1} → statement M
 read-spec =
     tie.close
     (tie.spec
-    bad-requires
+    declined-requires
     returns
     front-of-requires
     good-front-requires
-    bad-requires-2
+    declined-requires-2
     returns-2
     size-of-requires
-    bad-requires-3
+    declined-requires-3
     returns-3
     good-rest-requires
-    bad-requires-4
+    declined-requires-4
     returns-4
     table-of-requires
     returns-5)

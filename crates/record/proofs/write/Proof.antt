@@ -1,52 +1,74 @@
--- `write` meets its contract: refusal 13 before any byte is written, otherwise the whole record.
+-- `write` meets its contract: refusals 7 and 13 before any byte is written, otherwise the whole record.
 -- Assumes nothing.
 use mathlib.Core.Path.{_≡_, sym, ap, subst, _∙_}
+use mathlib.Core.Bool.{true}
+use borrow.Author.Tests.{not-true, not-false}
 use borrow.Author.Needs.{needs}
 use denote.Ref.{now}
+use lib.Dec.{T}
 use lib.ListN.{length}
 use Rattle.answer.specs.declared.Answer.the-variants.{Done}
 use Rattle.answer.specs.Outcomes.{answerOf, outputOf}
+use Rattle.table.specs.Value.{tableHead, ready, Ready}
+use Rattle.table.proofs.ReadyTables.{ready→}
 use Rattle.record.specs.Layout.{size}
-use Rattle.record.specs.Parts.{tableHead}
 use Rattle.record.specs.Places.{Small}
-use Rattle.record.proofs.RecordWriting.{small-in, pack-long, pack-short, pack-fits}
+use Rattle.record.proofs.RecordWriting.{small-in, pack-field, pack-long, pack-short, pack-fits}
 use Rattle.record.proofs.write.Statement.{statement}
 use Rattle.record.proofs.write.Tie as tie
 
-front-in-requires : tie.Need-front-in-requires
-front-in-requires c κs = search needs
-
--- the length is that of the table's record
-sized : (c : tie.After-size-of) → c .size-of .result ≡ size (tableHead (c .before .before .before .args .t))
-sized c = c .size-of .ensures ∙ ap size (c .before .front-in .ensures)
-
-size-of-requires : tie.Need-size-of-requires
-size-of-requires c κs =
-    let s = c .before .before in
-    subst Small (sym (c .front-in .ensures)) (small-in (s .args .t) (s .pre))
+is-ready-requires : tie.Need-is-ready-requires
+is-ready-requires c κs = search needs
 
 returns : tie.Need-returns
 returns c =
+    let a = c .before .before .before .args in
+    let k = pack-field (a .t) (length (now (a .out)))
+    (sym (c .before .is-ready .ensures) ∙ not-true (c .before .is-ready .result) (c .if1 .taken)) in
+    (ap answerOf (sym k), ap (λ x. outputOf x (now (a .out))) (sym k))
+
+-- the table's fields are in range
+tested : (c : tie.Else1) → ready (c .before .before .before .args .t) ≡ true
+tested c = sym (c .before .is-ready .ensures) ∙ not-false (c .before .is-ready .result) (c .if1 .left)
+
+good : (c : tie.Else1) → Ready (c .before .before .before .args .t)
+good c = ready→ (c .before .before .before .args .t) (subst T (sym (tested c)) tt)
+
+head-of-requires : tie.Need-head-of-requires
+head-of-requires c κs = search needs
+
+size-of-requires : tie.Need-size-of-requires
+size-of-requires c κs =
+    subst Small (sym (c .head-of .ensures)) (small-in (c .before .before .before .before .args .t) (good (c .before)))
+
+-- the length is that of the table's record
+sized : (c : tie.After-size-of)
+    → c .size-of .result ≡ size (tableHead (c .before .before .before .before .before .args .t))
+sized c = c .size-of .ensures ∙ ap size (c .before .head-of .ensures)
+
+returns-2 : tie.Need-returns-2
+returns-2 c =
     let z = c .before in
-    let s = z .before .before .before .args in
-    let k = pack-short (s .t) (z .size-of .result) (length (now (s .out))) (sized z) (c .if1 .taken) in
+    let s = z .before .before .before .before .before .args in
+    let k = pack-short (s .t) (z .size-of .result) (length (now (s .out))) (sized z) (tested (z .before .before))
+    (c .if2 .taken) in
     (ap answerOf (sym k), ap (λ x. outputOf x (now (s .out))) (sym k))
 
 put-record-requires : tie.Need-put-record-requires
 put-record-requires c κs =
     let z = c .before .before in
-    let s = z .before .before .before in
-    (s .pre, z .before .front-in .ensures, sized z, c .before .if1 .left)
+    (good (z .before .before), z .before .head-of .ensures, sized z, c .before .if2 .left)
 
 same-length : tie.Need-same-length
 same-length c = search needs
 
-returns-2 : tie.Need-returns-2
-returns-2 c =
+returns-3 : tie.Need-returns-3
+returns-3 c =
     let p = c .before .before in
     let z = p .before .before .before in
-    let s = z .before .before .before .args in
-    let k = pack-fits (s .t) (z .size-of .result) (length (now (s .out))) (sized z) (p .before .before .if1 .left) in (
+    let s = z .before .before .before .before .before .args in
+    let k = pack-fits (s .t) (z .size-of .result) (length (now (s .out))) (sized z) (tested (z .before .before))
+    (p .before .before .if2 .left) in (
       ap Done (pack-long (s .t) (z .size-of .result) (length (now (s .out))) (sized z)) ∙ ap answerOf (sym k),
       p .put-record .ensures ∙ ap (λ x. outputOf x (now (s .out))) (sym k),
     )
@@ -54,4 +76,12 @@ returns-2 c =
 pub write-spec : {M : Type 1} → statement M
 write-spec =
     tie.close
-    (tie.spec front-in-requires size-of-requires returns put-record-requires same-length returns-2)
+    (tie.spec
+    is-ready-requires
+    returns
+    head-of-requires
+    size-of-requires
+    returns-2
+    put-record-requires
+    same-length
+    returns-3)

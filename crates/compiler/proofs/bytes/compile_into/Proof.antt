@@ -5,9 +5,9 @@ use lib.ListN.{length}
 use Rattle.record.specs.Parse.{packInto}
 use Rattle.compiler.specs.Compile.{compile}
 use Rattle.job.specs.JobValues.{jobIn}
-use Rattle.compiler.proofs.Onward.{read-bad, read-done, ends-bad, goes-on}
 use borrow.Author.Needs.{needs}
-use borrow.Author.Needs.{needs}
+use Rattle.compiler.proofs.Accepted.{compiled-ready}
+use Rattle.compiler.proofs.Onward.{read-bad, read-done, ends-bad, goes-packed}
 use Rattle.compiler.proofs.bytes.compile_into.Statement.{statement}
 use Rattle.compiler.proofs.bytes.compile_into.Tie as tie
 
@@ -21,9 +21,7 @@ enum-told : tie.Need-enum-told
 enum-told c = search needs
 
 write-requires : tie.Need-write-requires
-write-requires c κs =
-    let k = c .before .before .before .before .compile in
-    k .ensures .1 (c .before .enum-told .given .1) .ready
+write-requires c κs = search needs
 
 returns : tie.Need-returns
 returns c =
@@ -40,11 +38,12 @@ returns-2 : tie.Need-returns-2
 returns-2 c =
     let w = c .before .before .write in
     let k = c .before .before .before .before .before .before .before .compile in
-    let a = c .before .before .before .before .before .before .before .before .before .args in
-    let o = now (a .out) in
-    goes-on (compile (jobIn (a .j))) (λ c. packInto c (length o)) o _ (w .result) _
-    (read-done (k .result) _ (k .ensures .0) (c .before .before .before .before .enum-told .given .1))
-    (w .ensures .0) (w .ensures .1)
+    let s = c .before .before .before .before .before .before .before .before .before in
+    let j = jobIn (s .args .j) in
+    let e = read-done (k .result) (compile j) (k .ensures .0)
+    (c .before .before .before .before .enum-told .given .1) in
+    goes-packed (k .result .table) (compile j) (now (s .args .out)) _ (w .result)
+    (compiled-ready j (s .pre .allowed) (k .result .table) e) e (w .ensures .0) (w .ensures .1)
 
 pub compile-into-spec : {M : Type 1} → statement M
 compile-into-spec =

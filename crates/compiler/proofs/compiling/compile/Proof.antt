@@ -16,42 +16,42 @@ ways-requires c κs = c .pre .allowed .p₂
 component-of-requires : tie.Need-component-of-requires
 component-of-requires c κs = (c .before .pre, c .ways .ensures .0)
 
-bad-requires : tie.Need-bad-requires
-bad-requires c κs = search needs
+declined-requires : tie.Need-declined-requires
+declined-requires c κs = search needs
 
 returns : tie.Need-returns
 returns c =
     let f = c .before .before .before .component-of in
     let j = jobIn (c .before .before .before .before .before .args .j) in (
-      c .bad .ensures .0 ∙ sym (compile-none j (sym (f .ensures .total) ∙ c .before .if1 .taken)),
-      λ e. absurd (c .bad .ensures .1 e),
+      c .declined .ensures .0 ∙ sym (compile-none j (sym (f .ensures .total) ∙ c .before .if1 .taken)),
+      λ e. absurd (c .declined .ensures .1 e),
     )
 
-bad-requires-2 : tie.Need-bad-requires-2
-bad-requires-2 c κs = search needs
+declined-requires-2 : tie.Need-declined-requires-2
+declined-requires-2 c κs = search needs
 
 returns-2 : tie.Need-returns-2
 returns-2 c =
     let f = c .before .before .before .before .before .component-of in
     let j = jobIn (c .before .before .before .before .before .before .before .args .j) in (
-      c .bad2 .ensures .0
+      c .declined2 .ensures .0
           ∙ sym (compile-heavy j (omega (arith, f .ensures .total, c .before .before .before .if1 .left))
           (omega (arith, f .ensures .total, c .before .if2 .taken))),
-      λ e. absurd (c .bad2 .ensures .1 e),
+      λ e. absurd (c .declined2 .ensures .1 e),
     )
 
-bad-requires-3 : tie.Need-bad-requires-3
-bad-requires-3 c κs = search needs
+declined-requires-3 : tie.Need-declined-requires-3
+declined-requires-3 c κs = search needs
 
 returns-3 : tie.Need-returns-3
 returns-3 c =
     let f = c .before .before .before .before .before .before .component-of in
     let j = jobIn (c .before .before .before .before .before .before .before .before .args .j) in (
-      c .bad3 .ensures .0
+      c .declined3 .ensures .0
           ∙ sym (compile-crowded j (omega (arith, f .ensures .total, c .before .before .before .before .if1 .left))
           (omega (arith, f .ensures .total, c .before .before .if2 .left))
           (crowded-stays (ways j) (componentOf j) (sym (f .ensures .crowds) ∙ c .before .if3 .taken))),
-      λ e. absurd (c .bad3 .ensures .1 e),
+      λ e. absurd (c .declined3 .ensures .1 e),
     )
 
 split-and-window-requires : tie.Need-split-and-window-requires
@@ -78,11 +78,11 @@ compile-spec =
     (tie.spec
     ways-requires
     component-of-requires
-    bad-requires
+    declined-requires
     returns
-    bad-requires-2
+    declined-requires-2
     returns-2
-    bad-requires-3
+    declined-requires-3
     returns-3
     split-and-window-requires
     returns-4)

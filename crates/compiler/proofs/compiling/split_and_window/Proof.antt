@@ -15,19 +15,19 @@ split-all-requires c κs =
     let a = c .args in
     begun-splits (jobIn (a .j)) (c .pre .0 .allowed) (a .n) (a .g) (a .start) (c .pre .1)
 
-bad-requires : tie.Need-bad-requires
-bad-requires c κs = search needs
+declined-requires : tie.Need-declined-requires
+declined-requires c κs = search needs
 
 returns : tie.Need-returns
 returns c =
     let b = c .before .before .before in
     let a = b .args in
     let s = c .before .before .split-all in (
-      c .bad .ensures .0
+      c .declined .ensures .0
           ∙ sym (compile-crowded (jobIn (a .j)) (b .pre .1 .some) (b .pre .1 .light)
           (begun-crowded (jobIn (a .j)) (b .pre .0 .allowed) (a .n) (a .g) (a .start) (b .pre .1) (s .result)
           (s .ensures) (c .before .if1 .taken))),
-      λ e. absurd (c .bad .ensures .1 e),
+      λ e. absurd (c .declined .ensures .1 e),
     )
 
 finish-table-requires : tie.Need-finish-table-requires
@@ -66,7 +66,7 @@ split-and-window-spec =
     tie.close
     (tie.spec
     split-all-requires
-    bad-requires
+    declined-requires
     returns
     finish-table-requires
     with-window-requires

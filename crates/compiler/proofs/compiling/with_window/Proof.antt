@@ -16,16 +16,16 @@ least-window-requires c κs = c .pre
 memory-of-requires : tie.Need-memory-of-requires
 memory-of-requires c κs = search needs
 
-bad-requires : tie.Need-bad-requires
-bad-requires c κs = search needs
+declined-requires : tie.Need-declined-requires
+declined-requires c κs = search needs
 
 returns : tie.Need-returns
 returns c =
     let l = c .before .before .before in (
-      c .bad .ensures .0
+      c .declined .ensures .0
           ∙ sym (windowed-none (l .before .args .t) (l .least-window .result) (l .least-window .ensures) _
           (c .before .before .memory-of .ensures) (c .before .if1 .taken)),
-      λ e. absurd (c .bad .ensures .1 e),
+      λ e. absurd (c .declined .ensures .1 e),
     )
 
 lookahead-of-requires : tie.Need-lookahead-of-requires
@@ -54,7 +54,7 @@ with-window-spec =
     (tie.spec
     least-window-requires
     memory-of-requires
-    bad-requires
+    declined-requires
     returns
     lookahead-of-requires
     with-size-requires

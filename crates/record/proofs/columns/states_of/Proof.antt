@@ -7,6 +7,7 @@ use native.Mathlib.Omega.{arith}
 use denote.Ref.{now}
 use lib.ListN.{length, getD, length-set}
 use Rattle.bits.specs.Fields.{bitsOf}
+use Rattle.record.specs.Layout.{headerBits, stateSize}
 use Rattle.record.specs.Places.{nextIn}
 use Rattle.record.proofs.Fills.{fill-more, map-range}
 use Rattle.record.proofs.columns.states_of.Statement.{statement}
@@ -15,8 +16,8 @@ use Rattle.record.proofs.columns.states_of.Tie as tie
 abbrev Inv-loop : tie.InvT-loop
 Inv-loop bytes count zero₀ one₀ s₀ zero one s =
     (s ≤ count) × (length zero ≡ 16) × (length one ≡ 16)
-    × ((k : ℕ) → k < s → getD zero k 0 ≡ nextIn (bitsOf bytes) (30 + k * 10))
-    × ((k : ℕ) → k < s → getD one k 0 ≡ nextIn (bitsOf bytes) (35 + k * 10))
+    × ((k : ℕ) → k < s → getD zero k 0 ≡ nextIn (bitsOf bytes) (headerBits + k * stateSize))
+    × ((k : ℕ) → k < s → getD one k 0 ≡ nextIn (bitsOf bytes) (headerBits + 5 + k * stateSize))
 
 abbrev μ-loop : tie.MeasureT-loop
 μ-loop bytes count zero₀ one₀ s₀ zero one s = count - s
@@ -36,11 +37,14 @@ next-of-requires c κs = (omega arith, omega arith)
 array-write-zero : tie.Need-array-write-zero Inv-loop μ-loop
 array-write-zero c = omega arith
 
+add-next-of-2 : tie.Need-add-next-of-2 Inv-loop μ-loop
+add-next-of-2 c = omega arith
+
 mul-next-of-2 : tie.Need-mul-next-of-2 Inv-loop μ-loop
 mul-next-of-2 c = omega arith
 
-add-next-of-2 : tie.Need-add-next-of-2 Inv-loop μ-loop
-add-next-of-2 c = omega arith
+add-next-of-3 : tie.Need-add-next-of-3 Inv-loop μ-loop
+add-next-of-3 c = omega arith
 
 next-of-requires-2 : tie.Need-next-of-requires-2 Inv-loop μ-loop
 next-of-requires-2 c κs = (omega arith, omega arith)
@@ -62,9 +66,9 @@ loop-again c =
       omega arith,
       simp length-set (b .loop .inv .1),
       simp length-set (b .loop .inv .2),
-      fill-more (λ k. k) (λ k. nextIn bs (30 + k * 10)) (b .loop .zero) s (c .before .next-of .result) (λ k h q. q)
+      fill-more (λ k. k) (λ k. nextIn bs (headerBits + k * stateSize)) (b .loop .zero) s (c .before .next-of .result) (λ k h q. q)
           (omega arith) (c .before .next-of .ensures) (b .loop .inv .3),
-      fill-more (λ k. k) (λ k. nextIn bs (35 + k * 10)) (b .loop .one) s (c .next-of2 .result) (λ k h q. q)
+      fill-more (λ k. k) (λ k. nextIn bs (headerBits + 5 + k * stateSize)) (b .loop .one) s (c .next-of2 .result) (λ k h q. q)
           (omega arith) (c .next-of2 .ensures) (b .loop .inv .4),
     )
 
@@ -88,8 +92,9 @@ states-of-spec =
     add-next-of
     next-of-requires
     array-write-zero
-    mul-next-of-2
     add-next-of-2
+    mul-next-of-2
+    add-next-of-3
     next-of-requires-2
     array-write-one
     add-s

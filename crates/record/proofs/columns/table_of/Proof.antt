@@ -5,7 +5,6 @@ use borrow.Author.Needs.{needs}
 use denote.Ref.{now}
 use lib.ListN.{length}
 use Rattle.bits.specs.Fields.{bitsOf}
-use Rattle.record.specs.Checks.{headIn}
 use Rattle.record.proofs.Sizes.{edge-count-le, reach-words, reach-nexts}
 use Rattle.record.proofs.RecordTables.{code-is}
 use Rattle.record.proofs.columns.table_of.Statement.{statement}
@@ -20,7 +19,7 @@ mul-edges c =
     record {
       fits = omega (
         arith,
-        edge-count-le (headIn (b .args .f)) (c .before .power .result) (b .pre .0)
+        edge-count-le (b .args .f) (c .before .power .result) (b .pre .0)
             (c .before .power .ensures),
       );
     }
@@ -41,7 +40,7 @@ column-requires : tie.Need-column-requires
 column-requires c κs =
     let b = c .before .before .before .before in
     let a = b .before .before in
-    reach-words (headIn (a .args .f)) (b .power .result) (length (now (a .args .bytes))) (a .pre .0)
+    reach-words (a .args .f) (b .power .result) (length (now (a .args .bytes))) (a .pre .0)
     (b .power .ensures) (a .pre .1)
 
 add-column : tie.Need-add-column
@@ -51,7 +50,7 @@ column-requires-2 : tie.Need-column-requires-2
 column-requires-2 c κs =
     let b = c .before .before .before .before .before .before in
     let a = b .before .before in
-    reach-nexts (headIn (a .args .f)) (b .power .result) (length (now (a .args .bytes))) (a .pre .0)
+    reach-nexts (a .args .f) (b .power .result) (length (now (a .args .bytes))) (a .pre .0)
     (b .power .ensures) (a .pre .1)
 
 returns : tie.Need-returns
@@ -59,7 +58,7 @@ returns c =
     let s = c .before .before .before in
     let b = s .before .before .before .before in
     let a = b .before .before .args in
-    code-is (headIn (a .f)) (bitsOf (now (a .bytes))) (c .before .before .column .result) (c .column2 .result) _
+    code-is (a .f) (bitsOf (now (a .bytes))) (c .before .before .column .result) (c .column2 .result) _
     (b .power .result)
     (b .power .ensures) (s .states-of .ensures .0) (c .before .before .column .ensures) (c .column2 .ensures)
 

@@ -4,7 +4,7 @@ use mathlib.Core.Path.{ap}
 use Prim.Native.Nat.{_+_, _*_}
 use native.Mathlib.Omega.{arith}
 use borrow.Author.Needs.{needs}
-use Rattle.record.specs.Checks.{headIn}
+use Rattle.record.specs.Layout.{headerBits, stateSize}
 use Rattle.record.proofs.Sizes.{row-le, edges-le}
 use Rattle.record.proofs.numbers.bit_count.Statement.{statement}
 use Rattle.record.proofs.numbers.bit_count.Tie as tie
@@ -23,12 +23,12 @@ add-result-2 c = search needs
 
 mul-result-2 : tie.Need-mul-result-2
 mul-result-2 c =
-    let f = headIn (c .before .before .before .args .f) in
+    let f = c .before .before .before .args .f in
     record { fits = rw (c .before .before .power .ensures) (omega (arith, row-le f (c .before .before .before .pre))) }
 
 mul-result-3 : tie.Need-mul-result-3
 mul-result-3 c =
-    let f = headIn (c .before .before .before .before .args .f) in
+    let f = c .before .before .before .before .args .f in
     record {
       fits = rw (c .before .before .before .power .ensures)
           (omega (arith, edges-le f (c .before .before .before .before .pre)));
@@ -36,7 +36,7 @@ mul-result-3 c =
 
 add-result-3 : tie.Need-add-result-3
 add-result-3 c =
-    let f = headIn (c .before .before .before .before .args .f) in
+    let f = c .before .before .before .before .args .f in
     record {
       fits = rw (c .before .before .before .power .ensures)
           (omega (
@@ -49,7 +49,7 @@ add-result-3 c =
 returns : tie.Need-returns
 returns c =
     let f = c .before .before .before .before .args .f in
-    ap (λ n. 30 + 10 * f .count + f .states * (n * (f .q + 7))) (c .before .before .before .power .ensures)
+    ap (λ n. headerBits + stateSize * f .count + f .states * (n * (f .q + 7))) (c .before .before .before .power .ensures)
 
 pub bit-count-spec : {M : Type 1} → statement M
 bit-count-spec =

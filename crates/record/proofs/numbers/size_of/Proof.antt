@@ -2,7 +2,6 @@
 -- Assumes nothing.
 use native.Mathlib.Omega.{arith}
 use borrow.Author.Needs.{needs}
-use Rattle.record.specs.Checks.{headIn}
 use Rattle.record.proofs.Sizes.{bitCount-le}
 use Rattle.record.proofs.numbers.size_of.Statement.{statement}
 use Rattle.record.proofs.numbers.size_of.Tie as tie
@@ -13,7 +12,7 @@ bit-count-requires c κs = search needs
 add-result : tie.Need-add-result
 add-result c = record {
   fits = omega
-      (arith, c .bit-count .ensures, bitCount-le (headIn (c .before .args .f)) (c .before .pre));
+      (arith, c .bit-count .ensures, bitCount-le (c .before .args .f) (c .before .pre));
 }
 
 returns : tie.Need-returns

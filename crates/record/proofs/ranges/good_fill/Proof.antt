@@ -7,7 +7,6 @@ use borrow.Author.Needs.{needs}
 use denote.Ref.{now}
 use lib.Dec.{eqb}
 use Rattle.bits.specs.Fields.{bitsOf, field}
-use Rattle.record.specs.Checks.{headIn}
 use Rattle.record.proofs.Sizes.{bitCount-le}
 use Rattle.record.proofs.ranges.good_fill.Statement.{statement}
 use Rattle.record.proofs.ranges.good_fill.Tie as tie
@@ -18,7 +17,7 @@ bit-count-requires c κs = search needs
 mul-get : tie.Need-mul-get
 mul-get c =
     let a = c .before .before in
-    record { fits = omega (arith, bitCount-le (headIn (a .args .f)) (a .pre .0), a .pre .1) }
+    record { fits = omega (arith, bitCount-le (a .args .f) (a .pre .0), a .pre .1) }
 
 sub-get : tie.Need-sub-get
 sub-get c = search needs
@@ -29,7 +28,7 @@ get-requires c κs = search needs
 returns : tie.Need-returns
 returns c =
     let a = c .before .before .before in
-    let h = headIn (a .args .f) in
+    let h = a .args .f in
     ap (λ x. eqb x 0) (c .get .ensures ∙ ap₂ (λ o l. field (bitsOf (now (a .args .bytes))) o (8 * l - o))
     (c .before .bit-count .ensures) (a .pre .1))
 

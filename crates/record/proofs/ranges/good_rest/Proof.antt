@@ -10,7 +10,6 @@ use lib.ListN.{length}
 use Rattle.laws.specs.Lists.{all, range}
 use Rattle.bits.specs.Fields.{bitsOf}
 use Rattle.record.specs.Places.{goodTargetAt}
-use Rattle.record.specs.Checks.{headIn}
 use Rattle.record.proofs.Sizes.{edge-count-le, edges-end}
 use Rattle.record.proofs.RecordChecks.{rest-checked}
 use Rattle.record.proofs.ranges.good_rest.Statement.{statement}
@@ -23,7 +22,7 @@ returns : tie.Need-returns
 returns c =
     let a = c .before .before .before .args in
     rw (
-      rest-checked (headIn (a .f)) (bitsOf (now (a .bytes))),
+      rest-checked (a .f) (bitsOf (now (a .bytes))),
       ← c .before .good-states .ensures,
       not-true
           (c .before .good-states .result) (c .if1 .taken),
@@ -38,7 +37,7 @@ mul-edges c =
     record {
       fits = omega (
         arith,
-        edge-count-le (headIn (b .args .f)) (c .before .power .result) (b .pre .0)
+        edge-count-le (b .args .f) (c .before .power .result) (b .pre .0)
             (c .before .power .ensures),
       );
     }
@@ -46,7 +45,7 @@ mul-edges c =
 good-targets-requires : tie.Need-good-targets-requires
 good-targets-requires c κs =
     let b = c .before .before .before .before .before in
-    let h = headIn (b .args .f) in (
+    let h = b .args .f in (
       b .pre .0,
       edge-count-le h (c .before .power .result) (b .pre .0) (c .before .power .ensures),
       edges-end h (c .before .power .result) (length (now (b .args .bytes))) (c .before .power .ensures) (b .pre .1),
@@ -56,7 +55,7 @@ returns-2 : tie.Need-returns-2
 returns-2 c =
     let d = c .before .before .before in
     let a = d .before .before .before .before .args in
-    let h = headIn (a .f) in
+    let h = a .f in
     let bs = bitsOf (now (a .bytes)) in
     let t = c .before .good-targets .ensures ∙ ap (λ n. all (goodTargetAt bs h) (range (h .states * n)))
     (d .power .ensures) in
@@ -75,7 +74,7 @@ returns-3 : tie.Need-returns-3
 returns-3 c =
     let d = c .before .before .before .before in
     let a = d .before .before .before .before .args in
-    let h = headIn (a .f) in
+    let h = a .f in
     let bs = bitsOf (now (a .bytes)) in
     let t = c .before .before .good-targets .ensures
     ∙ ap (λ n. all (goodTargetAt bs h) (range (h .states * n))) (d .power .ensures) in

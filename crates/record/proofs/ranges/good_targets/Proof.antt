@@ -12,7 +12,7 @@ use denote.Ref.{now}
 use lib.ListN.{length}
 use lib.Dec.{ltb}
 use Rattle.bits.specs.Fields.{bitsOf, field}
-use Rattle.record.specs.Checks.{headIn}
+use Rattle.record.specs.Layout.{headerBits, stateSize}
 use Rattle.record.specs.Places.{goodTargetAt}
 use Rattle.record.proofs.Alls.{all-yes, all-not}
 use Rattle.record.proofs.Sizes.{place-le, product-le}
@@ -70,7 +70,7 @@ get-requires c κs =
     let a = c .before .before .before .before .before .before in
     let f = a .args .f in (
       omega arith,
-      place-le (30 + f .count * 10 + f .q) (a .args .edges) (f .q + 7) 7 (8 * length (now (a .args .bytes)))
+      place-le (headerBits + f .count * stateSize + f .q) (a .args .edges) (f .q + 7) 7 (8 * length (now (a .args .bytes)))
           (c .before .loop .e) (omega arith) (omega (arith, a .pre .2)),
     )
 
@@ -80,7 +80,7 @@ cast-if1 c = search needs
 returns : tie.Need-returns Inv-loop μ-loop
 returns c =
     let a = c .before .before .before .before .before .before .before .before .args in
-    all-not (goodTargetAt (bitsOf (now (a .bytes))) (headIn (a .f))) (a .edges) (c .before .before .before .loop .e)
+    all-not (goodTargetAt (bitsOf (now (a .bytes))) (a .f)) (a .edges) (c .before .before .before .loop .e)
     (omega arith)
     (ap (λ x. ltb x (a .f .states)) (sym (c .before .get .ensures)) ∙ le-ltb _ _ (c .if1 .taken))
 
@@ -101,7 +101,7 @@ loop-again c =
 returns-2 : tie.Need-returns-2 Inv-loop μ-loop
 returns-2 c =
     let a = c .before .before .before .before .before .before .args in
-    all-yes (goodTargetAt (bitsOf (now (a .bytes))) (headIn (a .f))) (a .edges)
+    all-yes (goodTargetAt (bitsOf (now (a .bytes))) (a .f)) (a .edges)
     (λ k h. c .before .loop .inv .1 k (omega arith))
 
 pub good-targets-spec : {M : Type 1} → statement M

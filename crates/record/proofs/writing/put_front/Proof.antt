@@ -6,7 +6,6 @@ use borrow.Author.Needs.{needs}
 use denote.Ref.{now}
 use Rattle.bits.specs.Fields.{bitsOf}
 use Rattle.bits.proofs.Puts.{length-bitsOf}
-use Rattle.record.specs.Checks.{headIn}
 use Rattle.record.proofs.RecordParts.{front-spliced}
 use Rattle.record.proofs.writing.put_front.Statement.{statement}
 use Rattle.record.proofs.writing.put_front.Tie as tie
@@ -51,7 +50,7 @@ returns c =
     let p2 = p3 .before .before .before .before .before in
     let p1 = p2 .before .before .before .before in
     let a = p1 .before .before .before in (
-      front-spliced (headIn (a .args .f)) _ _ (bitsOf (now (a .args .out))) _ _ _ _ _ _ _
+      front-spliced (a .args .f) _ _ (bitsOf (now (a .args .out))) _ _ _ _ _ _ _
           (omega (arith, length-bitsOf (now (a .args .out)), a .pre)) (p3 .before .less-one .ensures)
           (p6 .before .less-one2 .ensures)
           (p1 .put-low .ensures .0) (p2 .put-low2 .ensures .0) (p3 .put-low3 .ensures .0) (p4 .put-low4 .ensures .0)

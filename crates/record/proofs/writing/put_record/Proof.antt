@@ -11,12 +11,14 @@ use Rattle.bits.specs.Bytes.{spliced}
 use Rattle.bits.specs.Fields.{bitsOf}
 use Rattle.table.specs.Formed.{head}
 use Rattle.table.specs.Value.{codeIn}
+use Rattle.record.specs.Layout.{headerBits, stateSize}
 use Rattle.record.specs.Layout.{bitCount, size}
-use Rattle.record.specs.Checks.{headIn}
-use Rattle.record.specs.Parts.{tableHead, frontBits}
+use Rattle.table.specs.Value.{tableHead}
+use Rattle.record.specs.Parts.{frontBits}
 use Rattle.record.specs.Places.{Small}
+use Rattle.table.proofs.ReadyTables.{head-in}
 use Rattle.record.proofs.Sizes.{bitCount-le, size-holds, edges-end}
-use Rattle.record.proofs.RecordWriting.{head-in, small-in, below-all, even, whole-record}
+use Rattle.record.proofs.RecordWriting.{small-in, below-all, even, whole-record}
 use Rattle.record.proofs.writing.put_record.Statement.{statement}
 use Rattle.record.proofs.writing.put_record.Tie as tie
 
@@ -100,19 +102,19 @@ returns c =
     let r = q .before .before .before .before in
     let t = s .args .t in
     let o = now (s .args .out) in
-    let e : headIn (s .args .f) ≡ head (codeIn t) = s .pre .1 ∙ head-in t in
+    let e : s .args .f ≡ head (codeIn t) = s .pre .1 ∙ head-in t in
     let a = r .before .before .bit-count .ensures ∙ ap bitCount e in
     let z = s .pre .2 ∙ ap size (head-in t) in
     whole-record (codeIn t) (even t) o (d .put .last .0) (bitsOf (r .put-front .last .0))
     (bitsOf (q .put-states .last .0))
     (bitsOf (p .put-edges .last .0)) (r .before .before .bit-count .result)
     (8 * s .args .long - r .before .before .bit-count .result)
-    (30 + s .args .f .count * 10)
+    (headerBits + s .args .f .count * stateSize)
     (below-all 256 o (λ i. r .before .before .before .slice-known .given i .fits))
     (below-all 256 (d .put .last .0) (λ i. c .slice-known5 .given i .fits))
     (subst (λ n. n ≤ length o) z (s .pre .3))
     (d .put .ensures .1 ∙ p .put-edges .ensures .1 ∙ q .put-states .ensures .1 ∙ r .put-front .ensures .1)
-    (ap (λ h. 30 + h .count * 10) e) a (ap₂ (λ x y. 8 * x - y) z a)
+    (ap (λ h. headerBits + h .count * stateSize) e) a (ap₂ (λ x y. 8 * x - y) z a)
     (r .put-front .ensures .0 ∙ ap (λ h. spliced 0 (frontBits h) (bitsOf o)) e) (q .put-states .ensures .0)
     (p .put-edges .ensures .0)
     (d .put .ensures .0)

@@ -13,6 +13,7 @@ use Rattle.bits.specs.Bytes.{spliced}
 use Rattle.bits.specs.Fields.{bitsOf}
 use Rattle.bits.proofs.Puts.{length-bitsOf}
 use Rattle.constraint.specs.Value.{nextStatesAt}
+use Rattle.record.specs.Layout.{headerBits}
 use Rattle.record.specs.Parts.{statesBits}
 use Rattle.record.proofs.RecordRuns.{states-begin, states-next}
 use Rattle.record.proofs.writing.put_states.Statement.{statement}
@@ -21,7 +22,7 @@ use Rattle.record.proofs.writing.put_states.Tie as tie
 abbrev Inv-loop : tie.InvT-loop
 Inv-loop out₀ constraint count s₀ out s =
     (s ≤ count) × (length out ≡ length out₀)
-    × (bitsOf out ≡ spliced 30 (statesBits (map (nextStatesAt constraint) (range s))) (bitsOf out₀))
+    × (bitsOf out ≡ spliced headerBits (statesBits (map (nextStatesAt constraint) (range s))) (bitsOf out₀))
 
 abbrev μ-loop : tie.MeasureT-loop
 μ-loop out₀ constraint count s₀ out s = count - s
@@ -29,7 +30,7 @@ abbrev μ-loop : tie.MeasureT-loop
 loop-holds : tie.Need-loop-holds Inv-loop μ-loop
 loop-holds c =
     let a = c .before .args in
-    (omega arith, refl, states-begin (a .t2) (bitsOf (now (a .out))) 30)
+    (omega arith, refl, states-begin (a .t2) (bitsOf (now (a .out))) headerBits)
 
 mul-put-next : tie.Need-mul-put-next Inv-loop μ-loop
 mul-put-next c = search needs
@@ -43,11 +44,14 @@ element-copy-out-put-next c = omega arith
 put-next-requires : tie.Need-put-next-requires Inv-loop μ-loop
 put-next-requires c κs = omega arith
 
+add-put-next-2 : tie.Need-add-put-next-2 Inv-loop μ-loop
+add-put-next-2 c = search needs
+
 mul-put-next-2 : tie.Need-mul-put-next-2 Inv-loop μ-loop
 mul-put-next-2 c = search needs
 
-add-put-next-2 : tie.Need-add-put-next-2 Inv-loop μ-loop
-add-put-next-2 c = search needs
+add-put-next-3 : tie.Need-add-put-next-3 Inv-loop μ-loop
+add-put-next-3 c = search needs
 
 element-copy-out-put-next-2 : tie.Need-element-copy-out-put-next-2 Inv-loop μ-loop
 element-copy-out-put-next-2 c = omega arith
@@ -86,7 +90,7 @@ returns c =
     let l = c .before in
     let a = l .before .before .args in
     let e : l .loop .s ≡ a .t2 .states = omega arith in (
-      l .loop .inv .2 ∙ ap (λ k. spliced 30 (statesBits (map (nextStatesAt (a .t2)) (range k)))
+      l .loop .inv .2 ∙ ap (λ k. spliced headerBits (statesBits (map (nextStatesAt (a .t2)) (range k)))
           (bitsOf (now (a .out)))) e,
       l .loop .inv .1,
     )
@@ -102,8 +106,9 @@ put-states-spec =
     add-put-next
     element-copy-out-put-next
     put-next-requires
-    mul-put-next-2
     add-put-next-2
+    mul-put-next-2
+    add-put-next-3
     element-copy-out-put-next-2
     put-next-requires-2
     add-s

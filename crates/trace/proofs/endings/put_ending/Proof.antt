@@ -1,8 +1,8 @@
 -- `put_ending` meets its contract, verdict by verdict.
 -- Assumes nothing.
 use mathlib.Core.Path.{sym, ap}
+use Rattle.answer.specs.Outcomes.{verdictOn}
 use Rattle.table.specs.Value.{codeIn}
-use Rattle.record.specs.Checks.{verdictOf}
 use Rattle.text.proofs.Adding.{added-same}
 use Rattle.trace.specs.Lines.{ending}
 use borrow.Author.Needs.{needs}
@@ -26,7 +26,7 @@ same-length c = search needs
 
 returns : tie.Need-returns
 returns c =
-    added-same (sym (ap (λ v. ending (verdictOf v
+    added-same (sym (ap (λ v. ending (verdictOn v
     (codeIn (c .before .before .before .before .before .before .before .before .before .args .r .table))))
     (c .before .before .before .before .before .v .given .1)))
     (c .before .before .put-refusal-line .ensures)
@@ -36,7 +36,7 @@ same-length-2 c = search needs
 
 returns-2 : tie.Need-returns-2
 returns-2 c =
-    added-same (sym (ap (λ v. ending (verdictOf v
+    added-same (sym (ap (λ v. ending (verdictOn v
     (codeIn (c .before .before .before .before .before .before .before .before .args .r .table))))
     (c .before .before .before .before .enum-told .given .1)))
     (c .before .before .put-window .ensures)

@@ -1,8 +1,8 @@
 -- `between` meets its contract: the first test decides where it fails, otherwise the second does.
 -- Assumes nothing.
 use borrow.Author.Tests.{lt-leb, le-leb}
-use Rattle.record.proofs.numbers.between.Statement.{statement}
-use Rattle.record.proofs.numbers.between.Tie as tie
+use Rattle.table.proofs.ready.between.Statement.{statement}
+use Rattle.table.proofs.ready.between.Tie as tie
 
 returns : tie.Need-returns
 returns c = simp (lt-leb _ _ (c .if1 .taken))

@@ -1,0 +1,75 @@
+-- The constraint states below s have good next states; the first that has not ends the loop.
+use mathlib.Core.Path.{sym, subst, _∙_}
+use Prim.Native.Nat.{ℕ, _-_, _≤_, _<_}
+use native.Mathlib.Nat.{not-suc-le-zero}
+use native.Mathlib.Omega.{arith}
+use borrow.Author.Needs.{needs}
+use borrow.Author.Count.{below-more}
+use borrow.Author.Tests.{not-true, not-false}
+use lib.Dec.{T}
+use Rattle.table.specs.Entries.{goodNextAt}
+use Rattle.table.proofs.LoopTests.{all-passed, all-failed}
+use Rattle.table.proofs.ready.good_nexts.Statement.{statement}
+use Rattle.table.proofs.ready.good_nexts.Tie as tie
+
+abbrev Inv-loop : tie.InvT-loop
+Inv-loop c count s₀ s =
+    (s ≤ c .states) × (c .states ≤ 16) × ((i : ℕ) → i < s → T (goodNextAt c i))
+
+abbrev μ-loop : tie.MeasureT-loop
+μ-loop c count s₀ s = c .states - s
+
+loop-holds : tie.Need-loop-holds Inv-loop μ-loop
+loop-holds c = (omega arith, omega arith, λ i h. absurd (not-suc-le-zero h))
+
+element-copy-out-good-next : tie.Need-element-copy-out-good-next Inv-loop μ-loop
+element-copy-out-good-next c = search needs
+
+element-copy-out-good-next-2 : tie.Need-element-copy-out-good-next-2 Inv-loop μ-loop
+element-copy-out-good-next-2 c = search needs
+
+good-next-requires : tie.Need-good-next-requires Inv-loop μ-loop
+good-next-requires c κs = search needs
+
+returns : tie.Need-returns Inv-loop μ-loop
+returns c =
+    let l = c .before .before .before .before .before in
+    let k = l .before .args .t1 in
+    all-failed (goodNextAt k) (k .states) (l .loop .s) (omega arith)
+    (sym (c .before .good-next .ensures) ∙ not-true _ (c .if1 .taken))
+
+add-s : tie.Need-add-s Inv-loop μ-loop
+add-s c = search needs
+
+loop-less : tie.Need-loop-less Inv-loop μ-loop
+loop-less c = search needs
+
+loop-again : tie.Need-loop-again Inv-loop μ-loop
+loop-again c =
+    let l = c .before .before .before .before .before .loop in (
+      omega arith,
+      omega arith,
+      below-more _ (l .s) (l .inv .2) (subst T (sym (not-false _ (c .if1 .left)) ∙ c .before .good-next .ensures) tt),
+    )
+
+returns-2 : tie.Need-returns-2 Inv-loop μ-loop
+returns-2 c =
+    let l = c .before .loop in
+    let k = c .before .before .args .t1 in
+    all-passed (goodNextAt k) (k .states) (l .s) (omega arith) (l .inv .2)
+
+pub good-nexts-spec : {M : Type 1} → statement M
+good-nexts-spec =
+    tie.close
+    (tie.spec
+    Inv-loop
+    μ-loop
+    loop-holds
+    element-copy-out-good-next
+    element-copy-out-good-next-2
+    good-next-requires
+    returns
+    add-s
+    loop-less
+    loop-again
+    returns-2)
