@@ -1,6 +1,7 @@
 // The functions exported for C and Rust. Each takes bytes as pointer and length, and answers one number.
 ghost use mathlib.Core.Path.{_≡_};
 ghost use Prim.Native.Nat.{ℕ, _≤_, min};
+ghost use Rattle.answer.specs.Refusals.{most};
 ghost use Rattle.answer.specs.Outcomes.{answerOf, outputOf};
 ghost use lib.ListN.{length};
 ghost use Rattle.checker.specs.Parse.{checkedOnly};
@@ -23,9 +24,9 @@ fn hold(value: usize) -> u64
     72057594037927935
 }
 
-// A number times 2^56 plus a value. The premise holds of every answer: there are 13 refusals.
+// A number times 2^56 plus a value. The premise holds of every answer.
 fn join(number: u64, value: usize) -> u64
-    requires { ⌜ number ≤ 13 ⌝ }
+    requires { ⌜ number ≤ most ⌝ }
     ensures answer { λ r. ⌜ r ≡ joined number value ⌝ }
 {
     number * 72057594037927936 + hold(value)

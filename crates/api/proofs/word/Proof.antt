@@ -1,8 +1,9 @@
--- `word` meets its contract: an answer's number is at most 13.
+-- `word` meets its contract: an answer's number is at most the largest of a refusal.
 -- Assumes nothing.
 use mathlib.Core.Path.{_≡_, sym, ap₂, subst, _∙_}
 use Prim.Native.Nat.{_≤_}
 use borrow.Author.Needs.{needs}
+use Rattle.answer.specs.Refusals.{most}
 use Rattle.api.specs.Words.{joined, wordOf}
 use Rattle.api.proofs.Words.{number-le}
 use Rattle.api.proofs.word.Statement.{statement}
@@ -17,7 +18,7 @@ answer-value-requires c κs = search needs
 join-requires : tie.Need-join-requires
 join-requires c κs =
     let n = c .before in
-    subst (λ k. k ≤ 13) (sym (n .answer-number .ensures)) (number-le (n .before .args .a))
+    subst (λ k. k ≤ most) (sym (n .answer-number .ensures)) (number-le (n .before .args .a))
 
 returns : tie.Need-returns
 unfolding wordOf
