@@ -28,15 +28,15 @@ enum {
     SBC_DONE = 0,            /* none: a result */
     SBC_PARAMETERS = 1,      /* p, q or cap out of range */
     SBC_STATES = 2,          /* K, a next state, or d and k out of range */
-    SBC_NO_CODE = 3,         /* all weights 0: there is no code */
+    SBC_NO_CODE = 3,         /* no code: all weights 0 */
     SBC_TOO_HEAVY = 4,       /* the component's weights sum to over 128 */
-    SBC_TOO_MANY_EDGES = 5,  /* the component has over 2,048 edges, before any split or after one */
+    SBC_TOO_MANY_EDGES = 5,  /* over 2,048 edges, before any split or after one */
     SBC_NO_WINDOW = 6,       /* no window up to 15 and 15 */
     SBC_FIELD = 7,           /* record field out of range, absent state not 0, or fill not 0 */
     SBC_LENGTH = 8,          /* length is not what the fields say, or too short for them */
     SBC_DISOBEYS = 9,        /* some recording breaks the constraint */
     SBC_WINDOW_FAILS = 10,   /* the window fails */
-    SBC_BAD_BYTE = 11,       /* a block of 2^p or more, or a word of 2^q or more; the value is its place */
+    SBC_BAD_BYTE = 11,       /* block of 2^p or more, or word of 2^q or more, at place N: the value */
     SBC_TOO_FEW_WORDS = 12,  /* fewer than a words */
     SBC_SHORT_OUTPUT = 13    /* the output is too short */
 };
@@ -61,7 +61,7 @@ enum {
     SBC_LISTING_MAX = 14 + 128 * 16 * 20
 };
 
-/* The refusal of an answer: 0 for a result, otherwise 1 to 13. */
+/* The refusal of an answer: 0 for a result, otherwise its number. */
 static inline unsigned sbc_refusal(uint64_t answer)
 {
     return (unsigned)(answer >> 56);

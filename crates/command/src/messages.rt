@@ -1,60 +1,19 @@
 // What the command says on standard error.
 ghost use mathlib.Core.Path.{_≡_};
 ghost use Rattle.text.specs.Texts.{Added};
-ghost use Rattle.answer.specs.Refusals.{numberOf};
-ghost use Rattle.command.specs.Sayings.{phraseOf, saying, refusalLine, setRefusalLine, marksLine};
+ghost use Rattle.command.specs.Sayings.{saying, refusalLine, setRefusalLine, marksLine};
 use crate::Status;
 use answer::Refusal;
-use answer::refusal_number;
 use libc::STDERR_FILENO;
 use text::put;
 use text::put_number;
 
-// The condition of a refusal behind the first `at` bytes; the answer is the place behind it.
-fn put_phrase(out: &mut [u8], at: usize, r: Refusal) -> usize
-    ensures written { λ e. ⌜ Added (phraseOf r) at (now (out .entry)) (now (out .exit)) e ⌝ }
-{
-    match r {
-        Refusal::Parameters => put(out, at, b"p, q or cap out of range"),
-        Refusal::States => put(out, at, b"K, a next state, or d and k out of range"),
-        Refusal::NoCode => put(out, at, b"all weights 0"),
-        Refusal::TooHeavy => put(out, at, b"component's weights sum over 128"),
-        Refusal::TooManyEdges => put(
-            out,
-            at,
-            b"the component has over 2,048 edges, before any split or after one",
-        ),
-        Refusal::NoWindow => put(out, at, b"no window up to 15 and 15"),
-        Refusal::Field => put(
-            out,
-            at,
-            b"record field out of range, absent state not 0, or fill not 0",
-        ),
-        Refusal::Length => put(
-            out,
-            at,
-            b"length is not what the fields say, or too short for them",
-        ),
-        Refusal::Disobeys => put(out, at, b"some recording breaks the constraint"),
-        Refusal::WindowFails => put(out, at, b"the window fails"),
-        Refusal::BadByte(place) => put_number(
-            out,
-            at,
-            b"block 2^p or more, or word 2^q or more, at byte ",
-            place as u64,
-        ),
-        Refusal::TooFewWords => put(out, at, b"fewer than a words"),
-        Refusal::ShortOutput => put(out, at, b"lent output too short"),
-    }
-}
-
-// The number of a refusal and its condition in front; the answer is the place behind them.
+// The name of the command, the number of a refusal and its condition in front; the answer is the place behind them.
 fn put_saying(out: &mut [u8], r: Refusal) -> usize
     ensures written { λ e. ⌜ Added (saying r) 0 (now (out .entry)) (now (out .exit)) e ⌝ }
 {
-    let colon = put_number(out, 0, b"sbc: refused ", refusal_number(r));
-    let phrase = put(out, colon, b": ");
-    put_phrase(out, phrase, r)
+    let refused = put(out, 0, b"sbc: ");
+    refusals::put_refusal(out, refused, r)
 }
 
 // What is said of a refusal.
