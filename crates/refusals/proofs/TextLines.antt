@@ -31,7 +31,8 @@ drop-least k xs = go (decLe k (length xs))
     go (yes h) = ap (λ m. drop m xs) (min-eq-left h)
     go (no h) =
         let l : length xs ≤ k = omega arith in
-        ap (λ m. drop m xs) (min-eq-right l) ∙ drop-of-length-le xs {i = length xs} (omega arith) ∙ sym (drop-of-length-le xs l)
+        ap (λ m. drop m xs) (min-eq-right l) ∙ drop-of-length-le xs {i = length xs} (omega arith)
+        ∙ sym (drop-of-length-le xs l)
 
 -- the place behind the line at `from` is where the text without one line more starts
 pub rest-next : (xs : List ℕ) (i from end to : ℕ) → drop from xs ≡ rest i xs → end ≡ from + lineEnd (drop from xs)

@@ -14,7 +14,8 @@ returns c =
     let phrase = c .before .before in
     let colon = phrase .before .before .before .before in
     let number = colon .before .before .before .before .before in
-    let first = added-same (ap (told "refused ") (number .before .refusal-number .ensures)) (number .put-number .ensures) in
+    let same = ap (told "refused ") (number .before .refusal-number .ensures) in
+    let first = added-same same (number .put-number .ensures) in
     added-more (added-more first (colon .put .ensures)) (phrase .put-phrase .ensures)
 
 pub put-refusal-spec : {M : Type 1} → statement M
