@@ -106,6 +106,8 @@ uint64_t sbc_encode(const uint8_t *record, size_t record_length, const uint8_t *
 /* Reads words under a record by its window.
  * words: one byte each, below 2^q. Words that no recording has are read too.
  * out: one block a byte, a fewer than there are words; SBC_MARK where no edge reads the words.
+ * A bad word at i can spoil blocks i - a to i + m and no others: that is what is promised. A spoiled block may be wrong
+ * without SBC_MARK: marks are a hint, and no mark is no promise. Put a checksum over the data.
  * Answers how many blocks were written.
  * Refusals in order: those of sbc_check; 12; 13; 11 with the place of the first bad word. */
 uint64_t sbc_decode(const uint8_t *record, size_t record_length, const uint8_t *words, size_t words_length,

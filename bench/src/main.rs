@@ -2,6 +2,7 @@
 mod chains;
 mod compare;
 mod library;
+mod marks;
 mod plain;
 mod records;
 mod speed;
@@ -13,6 +14,7 @@ fn main() {
     match arguments.get(1).map(String::as_str) {
         Some("speed") => speed::all(),
         Some("sweep") => sweep::all(),
+        Some("marks") => marks::all("records"),
         Some("records") => records::all("records"),
         Some("stack") => match (arguments.get(2), arguments.get(3).and_then(|s| s.parse().ok())) {
             (Some(name), Some(kib)) => stack::once(name, kib),
@@ -22,6 +24,6 @@ fn main() {
             let seconds = arguments.get(2).and_then(|s| s.parse().ok()).unwrap_or(10);
             compare::for_seconds(seconds);
         }
-        _ => eprintln!("usage: bench/run speed | sweep | stack | records | compare SECONDS"),
+        _ => eprintln!("usage: bench/run speed | sweep | stack | records | marks | compare SECONDS"),
     }
 }
