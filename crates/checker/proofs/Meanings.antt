@@ -15,10 +15,11 @@ use Rattle.answer.proofs.Outcomes.{unless-true, unless-false}
 use Rattle.table.specs.Rows.{Code}
 use Rattle.windows.specs.Window.{Window}
 use Rattle.windows.specs.Works.{works}
-use Rattle.obeying.specs.Obeys.{Obeys, obeys}
+use Rattle.obeying.specs.Obeys.{Obeys, Breaks, obeys}
 use Rattle.table.specs.Formed.{formed}
 use Rattle.table.proofs.Formed.{formed→}
 use Rattle.obeying.proofs.Exact.{obeys-exact}
+use Rattle.obeying.proofs.Breaks.{breaks-exact}
 use Rattle.checker.proofs.Acceptance.{window-exact}
 use Rattle.record.specs.Layout.{pack}
 use Rattle.checker.specs.Parse.{parse}
@@ -34,19 +35,19 @@ fails false f = refl
 module _ (xs : List ℕ) (bytes : Below 256 xs) where
   -- 9: some recording breaks the constraint
   pub disobeys-exact : (parse xs ≡ refused Disobeys)
-      ↔ ((c : Code) × T (formed c) × (pack c ≡ xs) × (Obeys c → ⊥))
+      ↔ ((c : Code) × T (formed c) × (pack c ≡ xs) × Breaks c)
   disobeys-exact = ((λ e. there (subst (Reason xs) e (reason xs))), here)
     where
-      there : Reason xs (refused Disobeys) → (c : Code) × T (formed c) × (pack c ≡ xs) × (Obeys c → ⊥)
+      there : Reason xs (refused Disobeys) → (c : Code) × T (formed c) × (pack c ≡ xs) × Breaks c
       there (disobedient s r e) =
           let (f, k) = fields-again xs bytes (s .exact) (s .headed) r in
-          (codeFrom xs, f, k, λ o. subst T e (obeys-exact (codeFrom xs) (formed→ (codeFrom xs) f) .1 o))
+          (codeFrom xs, f, k, breaks-exact (codeFrom xs) (formed→ (codeFrom xs) f) .0 e)
 
-      here : (c : Code) × T (formed c) × (pack c ≡ xs) × (Obeys c → ⊥) → parse xs ≡ refused Disobeys
+      here : (c : Code) × T (formed c) × (pack c ≡ xs) × Breaks c → parse xs ≡ refused Disobeys
       here (c, f, k, n) =
           ap parse (sym k) ∙ parse-pack c f
           ∙ unless-false Disobeys (obeys c) (unless WindowFails (works (c .table) (c .window)) (done c))
-          (fails (obeys c) (λ t. n (obeys-exact c (formed→ c f) .0 t)))
+          (breaks-exact c (formed→ c f) .1 n)
 
   -- 10: every recording obeys it, and the window fails
   pub window-fails-exact : (parse xs ≡ refused WindowFails)
@@ -71,7 +72,7 @@ module _ (xs : List ℕ) (bytes : Below 256 xs) where
 
   -- every outcome with its reason, 9 and 10 by their meanings
   pub order : Reason xs (parse xs)
-      × ((parse xs ≡ refused Disobeys) ↔ ((c : Code) × T (formed c) × (pack c ≡ xs) × (Obeys c → ⊥)))
+      × ((parse xs ≡ refused Disobeys) ↔ ((c : Code) × T (formed c) × (pack c ≡ xs) × Breaks c))
       × ((parse xs ≡ refused WindowFails)
       ↔ ((c : Code) × T (formed c) × (pack c ≡ xs) × Obeys c × (Window (c .table) (c .window) → ⊥)))
   order = (reason xs, disobeys-exact, window-fails-exact)
