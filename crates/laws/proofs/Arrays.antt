@@ -1,0 +1,74 @@
+-- Arrays: their front as a list, and loops that fill them from the front.
+-- In order: take-is, take-same; Filled, fill-none, fill-more, an array filled from the front; put-more, map-more, bytes
+-- written behind one another; set-le, zeros, a bound on all places.
+-- Assumes nothing.
+use mathlib.Core.Path.{_≡_, refl, sym, ap, ap₂, _∙_}
+use mathlib.Core.List.{List, [], _∷_, _++_, map}
+use Prim.Native.Nat.{ℕ, zero, suc, _+_, _≤_, _<_}
+use native.Mathlib.Numerals.{add-one}
+use native.Mathlib.Omega.{arith}
+use borrow.Author.Count.{below-more}
+use lib.ListN.{length, getD, take, drop, set, length-set, length-map, replicate, length-replicate}
+use lib.Seq.{drop-cons, set-at, append-snoc, length-take-le, getD-take, ext-getD, getD-set-same, getD-set-other}
+use Rattle.laws.specs.Lists.{range}
+use Rattle.laws.proofs.Tests.{getD-map-lt}
+use Rattle.laws.proofs.Ranges.{length-map-range, map-range-more}
+
+-- ---- the front of an array
+pub take-is : {A : Type 0} (f : A → ℕ) (d : A) (R : List ℕ) (L : List A) (n : ℕ) → length L ≡ n → n ≤ length R
+    → ((x : ℕ) → x < n → getD R x 0 ≡ f (getD L x d)) → take n R ≡ map f L
+take-is f d R L n l r h =
+    ext-getD 0 (take n R) (map f L) (length-take-le n R r ∙ sym (length-map L f ∙ l))
+    (λ i k. let b : i < n = rw (length-take-le n R r) at k in
+    getD-take n R i 0 b ∙ h i b ∙ sym (getD-map-lt f L i d 0 (rw l b)))
+
+pub take-same : (R L : List ℕ) (n : ℕ) → length L ≡ n → n ≤ length R
+    → ((x : ℕ) → x < n → getD R x 0 ≡ getD L x 0) → take n R ≡ L
+take-same R L n l r h =
+    ext-getD 0 (take n R) L (length-take-le n R r ∙ sym l)
+    (λ i k. let b : i < n = rw (length-take-le n R r) at k in getD-take n R i 0 b ∙ h i b)
+
+-- places below i hold f
+pub record Filled {A : Type 0} (d : A) (f : ℕ → A) (k i : ℕ) (R : List A) : Type 0 where
+  pub long : length R ≡ k
+  pub holds : (x : ℕ) → x < i → getD R x d ≡ f x
+
+pub fill-none : {A : Type 0} (d : A) (f : ℕ → A) (k : ℕ) (v : A) → Filled d f k 0 (replicate k v)
+fill-none d f k v = record { long = length-replicate k v; holds = λ x l. absurd (omega arith) }
+
+pub fill-more : {A : Type 0} (d : A) (f : ℕ → A) (k i : ℕ) (R : List A) (v : A) → i < k → v ≡ f i → Filled d f k i R
+    → Filled d f k (i + 1) (set R i v)
+fill-more d f k i R v h e m = record {
+  long = length-set R i v ∙ m .long;
+  holds = below-more (λ x. getD (set R i v) x d ≡ f x) i
+      (λ x l. getD-set-other R i x v d (λ q. omega arith) ∙ m .holds x l)
+      (getD-set-same R i v d (let n = m .long in omega arith) ∙ e);
+}
+
+-- ---- bytes written behind one another
+pub put-more : (xs out : List ℕ) (i w : ℕ) → length xs ≡ i → i < length out
+    → set (xs ++ drop i out) i w ≡ (xs ++ w ∷ []) ++ drop (i + 1) out
+put-more xs out i w e h =
+    rw (drop-cons out i 0, add-one)
+    (set-at xs (getD out i 0) (drop (suc i) out) w i e ∙ sym (append-snoc xs w (drop (suc i) out)))
+
+-- one byte more of those that a function gives, place by place
+pub map-more : (f : ℕ → ℕ) (out₀ out : List ℕ) (i w : ℕ) → out ≡ map f (range i) ++ drop i out₀ → w ≡ f i
+    → i < length out₀ → set out i w ≡ map f (range (i + 1)) ++ drop (i + 1) out₀
+map-more f out₀ out i w b e h =
+    ap₂ (λ o v. set o i v) b e ∙ put-more (map f (range i)) out₀ i (f i) (length-map-range f i) h
+    ∙ ap (λ l. l ++ drop (i + 1) out₀) (sym (map-range-more f i))
+
+-- ---- a bound on all places
+pub set-le : (xs : List ℕ) (n v k m : ℕ) → v ≤ k → ((m : ℕ) → getD xs m 0 ≤ k) → getD (set xs n v) m 0 ≤ k
+set-le [] zero v k m h f = f m
+set-le [] (suc n) v k m h f = f m
+set-le (x ∷ xs) zero v k zero h f = h
+set-le (x ∷ xs) zero v k (suc m) h f = f (suc m)
+set-le (x ∷ xs) (suc n) v k zero h f = f zero
+set-le (x ∷ xs) (suc n) v k (suc m) h f = set-le xs n v k m h (λ i. f (suc i))
+
+pub zeros : (k n : ℕ) → getD (replicate {A = ℕ} k 0) n 0 ≡ 0
+zeros zero n = refl
+zeros (suc k) zero = refl
+zeros (suc k) (suc n) = zeros k n
