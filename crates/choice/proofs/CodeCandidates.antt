@@ -23,8 +23,8 @@ use Rattle.order.specs.EdgeKeys.{arcOf, keysFrom, admitted, firstKeys, keysIn}
 use Rattle.graph.proofs.Candidates.{any-sort}
 use Rattle.order.proofs.CodeKept.{same-arcs}
 use Rattle.order.proofs.CodeOrder.{sort-keys, keys-small, weights-small}
-use Rattle.graph.proofs.CodeFind.{first-yes, first-no}
-use Rattle.graph.proofs.CodeMaps.{map-take, filter-same, filter-map}
+use Rattle.laws.proofs.Firsts.{first-yes, first-no}
+use Rattle.laws.proofs.Maps.{map-take, filter-same, filter-map}
 
 -- the first that passes, of a list with one that does
 first-filter : {A B : Type 0} (p : B → Bool) (d : B) (f : A → B) (e : A) (l : List A) → any (λ x. p (f x)) l ≡ true

@@ -17,8 +17,8 @@ use Rattle.graph.specs.declared.Graph.{Graph}
 use Rattle.graph.specs.Arcs.{arc, leaves, out}
 use Rattle.graph.specs.Splitting.{greatest, lighter, splittable, chosen}
 use Rattle.graph.specs.Value.{arcAt, arcsIn, weightAt, weightsIn, Fits}
-use Rattle.graph.proofs.CodeLists.{length-map-range, map-range-more}
-use Rattle.graph.proofs.CodeFind.{first-least}
+use Rattle.laws.proofs.Ranges.{length-map-range, map-range-more}
+use Rattle.laws.proofs.Firsts.{first-least}
 
 greatest-snoc : (l : List ℕ) (x : ℕ) → greatest (l ++ (x ∷ [])) ≡ max (greatest l) x
 greatest-snoc [] x = omega arith

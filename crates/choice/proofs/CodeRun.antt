@@ -19,9 +19,9 @@ use Rattle.graph.specs.Arcs.{Arc}
 use Rattle.graph.specs.Weights.{weight, total}
 use Rattle.graph.specs.Splitting.{stretch, runsTo, divisible}
 use Rattle.choice.specs.ChoiceParts.{RunTo, FirstRun}
-use Rattle.graph.proofs.CodeLists.{any-false, length-map-range}
-use Rattle.graph.proofs.CodeFind.{first-at, first-part, first-none}
-use Rattle.graph.proofs.CodeMaps.{map-take, map-drop}
+use Rattle.laws.proofs.Ranges.{any-false, length-map-range}
+use Rattle.laws.proofs.Firsts.{first-at, first-part, first-none}
+use Rattle.laws.proofs.Maps.{map-take, map-drop}
 
 -- the sum of the run of i + 1 weights that ends at place j
 abbrev pub stretchSum : List ℕ → ℕ → ℕ → ℕ

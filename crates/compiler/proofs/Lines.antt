@@ -10,7 +10,7 @@ use lib.ListN.{length, length-append}
 use Rattle.laws.specs.Lists.{range, concat}
 use Rattle.table.specs.declared.Table.{Table}
 use Rattle.table.specs.Rows.{edge}
-use Rattle.graph.proofs.CodeLists.{map-range-more}
+use Rattle.laws.proofs.Ranges.{map-range-more}
 use Rattle.compiler.specs.Listing.{blank, newline}
 use Rattle.compiler.specs.Texts.{Put, numberText, wordText, edgeText, headText, lineAt, linesTo}
 use Rattle.compiler.proofs.Texts.{put-more}

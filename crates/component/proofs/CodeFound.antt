@@ -41,9 +41,9 @@ use Rattle.graph.specs.Value.{arcAt, arcsIn, weightsIn, workIn}
 use Rattle.weights.specs.PowerTable.{entryAt, wordAt, wordsAt, tabled, Powers}
 use Rattle.reach.specs.ReachSets.{rowsOf, Listed}
 use Rattle.component.specs.ComponentParts.{placeOf, rowKeeps, rowArc, rowArcs, rowOfState, Added, FoundIn}
-use Rattle.graph.proofs.CodeLists.{length-map-range, map-range-same}
-use Rattle.graph.proofs.CodeMaps.{filter-same, filter-map, filter-both, filter-concat, filter-never}
-use Rattle.graph.proofs.CodeMaps.{map-concat, map-each, map-map}
+use Rattle.laws.proofs.Ranges.{length-map-range, map-range-same}
+use Rattle.laws.proofs.Maps.{filter-same, filter-map, filter-both, filter-concat, filter-never}
+use Rattle.laws.proofs.Maps.{map-concat, map-each, map-map}
 use Rattle.graph.proofs.CodeValue.{fits-from, Bounded, Low}
 use Rattle.component.proofs.CodeLinked.{live-lt}
 
@@ -167,7 +167,7 @@ module _ (P : List ℕ) (words k : ℕ) (pw : Powers P words k) (v : List ℕ) (
         ap (map (renamed C)) (filter-both (both C) leadsOn on (concat (map (wordsAt P words) (range k)))
         ∙ filter-concat (both C) (wordsAt P words) (range k))
         ∙ map-concat (renamed C) (λ x. filter (both C) (wordsAt P words x)) (range k)
-        ∙ ap concat (map-range-same [] (λ x. map (renamed C) (filter (both C) (wordsAt P words x)))
+        ∙ ap concat (map-range-same (λ x. map (renamed C) (filter (both C) (wordsAt P words x)))
         (rowOfState P words I) k row-is)
       where
         on : (e : Arc) → T (both C e) → T (leadsOn e)

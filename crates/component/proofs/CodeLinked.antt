@@ -20,8 +20,8 @@ use Rattle.graph.specs.Component.{leadsInto, both, within, weighs, live}
 use Rattle.weights.specs.PowerTable.{entryAt, wordAt, wordsAt, tabled, Powers, wordLeads, wordCount}
 use Rattle.reach.specs.ReachSets.{linksInto, Linked, liveEdge}
 use Rattle.graph.proofs.CodeUpTo.{elem-kept}
-use Rattle.reach.proofs.CodeReach.{any-range-same}
-use Rattle.weights.proofs.CodeWeights.{place-state, place-target}
+use Rattle.laws.proofs.Ranges.{any-range-same}
+use Rattle.laws.proofs.Places.{quotient-of, remainder-of}
 
 filter-pos : (p : ℕ → Bool) (l : List ℕ) → T (any p l) → 0 < length (filter p l)
 filter-pos p [] t = absurd t
@@ -77,8 +77,8 @@ module _ (v : List ℕ) (k : ℕ) (few : k ≤ 16) (long : length v ≡ 16) wher
     edge-at s u h l =
         let x = s * 16 + u in
         let b : x < k * 16 = omega arith in
-        let p = place-state s u (omega arith) in
-        let q = place-target s u (omega arith) in
+        let p = quotient-of 16 s u (omega arith) in
+        let q = remainder-of 16 s u (omega arith) in
         edges x b
         ∙ ap₂ (λ y z. ltb 0 (getD v y 0) && (ltb 0 (getD v z 0) && ltb 0 (getD A x 0))) p q
         ∙ ap (λ c. ltb 0 (getD v s 0) && (ltb 0 (getD v u 0) && ltb 0 c)) (counts x b ∙ ap₂ (wordCount P words) p q)

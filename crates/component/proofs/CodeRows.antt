@@ -17,7 +17,8 @@ use Rattle.graph.specs.Arcs.{Arc}
 use Rattle.graph.specs.Value.{arcAt, arcsIn}
 use Rattle.weights.specs.PowerTable.{entryAt}
 use Rattle.component.specs.ComponentParts.{placeOf, rowKeeps, rowArc, rowArcs, Added}
-use Rattle.graph.proofs.CodeLists.{range-more, map-append, filter-append, length-map-range}
+use Rattle.laws.proofs.Ranges.{range-more, length-map-range}
+use Rattle.laws.proofs.Maps.{map-append, filter-append}
 use Rattle.graph.proofs.CodeValue.{withArc, appended}
 
 module _ (P I : List ℕ) (s : ℕ) where

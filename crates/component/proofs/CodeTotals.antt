@@ -10,14 +10,15 @@ use lib.ListN.{length, getD, take}
 use lib.Seq.{length-take-le, getD-take, take-suc}
 use Rattle.laws.specs.Lists.{range, sum}
 use Rattle.laws.proofs.Lists.{sum-append}
-use Rattle.graph.proofs.CodeMaps.{map-places}
-use Rattle.graph.proofs.CodeLists.{map-append, map-range-same, Filled}
+use Rattle.laws.proofs.Ranges.{map-places, map-range-same}
+use Rattle.laws.proofs.Maps.{map-append}
+use Rattle.laws.proofs.Arrays.{Filled}
 
 pub weights-filled : (v S : List ℕ) (n : ℕ) (W : List ℕ) → n ≤ length S
     → Filled 0 (λ i. getD v (getD S i 0) 0) 128 n W
     → map (λ i. getD W i 0) (range n) ≡ map (λ t. getD v t 0) (take n S)
 weights-filled v S n W h f =
-    map-range-same 0 (λ i. getD W i 0) (λ i. getD v (getD (take n S) i 0) 0) n
+    map-range-same (λ i. getD W i 0) (λ i. getD v (getD (take n S) i 0) 0) n
     (λ i l. f .holds i l ∙ ap (λ t. getD v t 0) (sym (getD-take n S i 0 l)))
     ∙ ap (λ k. map (λ i. getD v (getD (take n S) i 0) 0) (range k)) (sym (length-take-le n S h))
     ∙ sym (map-places 0 0 (λ t. getD v t 0) (take n S))

@@ -31,9 +31,9 @@ use Rattle.order.specs.EdgeKeys.{arcOf, keysFrom, admitted, firstKeys}
 use Rattle.finish.specs.Finishing.{Finished, enteredBy}
 use Rattle.graph.proofs.Reach.{Reaching, reaches-is, reach-trans, reach-edge}
 use Rattle.graph.proofs.Candidates.{each-sort}
-use Rattle.finish.proofs.TableOf.{union-each}
-use Rattle.graph.proofs.CodeLists.{length-map-range}
-use Rattle.graph.proofs.CodeMaps.{filter-same, map-take}
+use Rattle.laws.proofs.Totals.{union-each}
+use Rattle.laws.proofs.Ranges.{length-map-range}
+use Rattle.laws.proofs.Maps.{filter-same, map-take}
 use Rattle.order.proofs.CodeOrder.{sort-keys, keys-small, weights-small}
 use Rattle.graph.proofs.CodeValue.{fits-arcs, Bounded}
 

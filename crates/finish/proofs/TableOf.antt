@@ -1,5 +1,5 @@
 -- The table: each state has n edges, to states of the table, and each is an edge between the roots.
--- In order: Tabled, union-each, table-length, tabled, reached-first.
+-- In order: Tabled, table-length, tabled, reached-first.
 -- Assumes nothing.
 use mathlib.Core.Path.{_≡_, refl, ap, _∙_}
 use mathlib.Core.Bool.{Bool, true, false}
@@ -8,10 +8,11 @@ use Prim.Native.Nat.{ℕ, zero, suc, _≤_, _<_, zero-le, suc-le-suc}
 use native.Mathlib.Nat.{not-suc-le-zero}
 use lib.Dec.{T, eqb→eq}
 use lib.ListN.{length, getD, length-map}
+use lib.Seq.{length-take-le}
 use Rattle.laws.specs.Lists.{if_then_else_, from, range, filter, concat, elem, indexOf}
 use Rattle.laws.proofs.Tests.{getD-map-lt}
 use Rattle.laws.specs.Sums.{Each}
-use Rattle.laws.proofs.Sums.{each-map, each-always, each-both, each-front, each-back, each-filter, each-take}
+use Rattle.laws.proofs.Sums.{each-map, each-always, each-both, each-filter, each-take}
 use Rattle.graph.proofs.Arcs.{length-sort}
 use Rattle.graph.specs.Invariant.{Inside}
 use Rattle.graph.specs.Arcs.{Arc, arc, Work, leaves, out}
@@ -20,7 +21,8 @@ use Rattle.graph.specs.Component.{reachings, reaches}
 use Rattle.table.specs.Rows.{Edge, edge, Rows, edges, at}
 use Rattle.finish.specs.TableOf.{row, tableStates, named, tableOf}
 use Rattle.laws.proofs.Anys.{each-union, each-range}
-use Rattle.graph.proofs.Candidates.{each-sort, length-take-le}
+use Rattle.laws.proofs.Totals.{union-each}
+use Rattle.graph.proofs.Candidates.{each-sort}
 use Rattle.graph.proofs.Reach.{reaches-is, reach-trans, reach-edge}
 use Rattle.laws.proofs.Elems.{each-elem, elem-each, elem-filter, →elem-filter, each-at, elem-range, index-lt}
 use Rattle.laws.proofs.Elems.{at-index}
@@ -31,12 +33,6 @@ pub record Tabled (P : ℕ → ℕ → ℕ → Type 0) (n : ℕ) (t : Rows) (roo
   pub full : (s : ℕ) → s < length t → length (edges t s) ≡ n
   pub next : (s d : ℕ) → s < length t → d < n → at t s d .next < length t
   pub over : (s d : ℕ) → s < length t → d < n → P (root s) (at t s d .word) (root (at t s d .next))
-
-pub union-each : {A B : Type 0} (P : A → Type 0) (h : B → List A) (l : List B) → Each P (concat (map h l))
-    → Each (λ y. Each P (h y)) l
-union-each P h [] e = tt
-union-each P h (x ∷ l) e =
-    (each-front P (h x) (concat (map h l)) e, union-each P h l (each-back P (h x) (concat (map h l)) e))
 
 module _ (n : ℕ) (x : Work) (i : Each (Inside (length (x .weights))) (x .arcs)) (pos : 0 < length (x .weights)) where
   abbrev K : ℕ

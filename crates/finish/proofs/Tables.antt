@@ -31,8 +31,8 @@ use Rattle.graph.specs.Value.{arcsIn, weightAt, weightsIn, workIn}
 use Rattle.order.specs.EdgeKeys.{arcOf, keysFrom, admitted, firstKeys, keysIn}
 use Rattle.finish.specs.Finishing.{Finished, rank, rowEdge, TableIn, RowPut}
 use Rattle.graph.proofs.Arcs.{length-sort}
-use Rattle.graph.proofs.CodeLists.{length-map-range, map-range-same}
-use Rattle.graph.proofs.CodeMaps.{filter-same, map-map, map-places}
+use Rattle.laws.proofs.Ranges.{length-map-range, map-range-same, map-places}
+use Rattle.laws.proofs.Maps.{filter-same, map-map}
 use Rattle.order.proofs.CodeOrder.{keys-small}
 use Rattle.graph.proofs.CodeUpTo.{upTo, index-kept}
 use Rattle.finish.proofs.Closure.{row-keys, row-inside, row-stays}
@@ -171,7 +171,7 @@ module _ (n : ℕ) (g : Graph) (F : Finished n g) where
             let (m, b) = elem-filter (member S) s (range K) u in
             let hs : s < K = elem-each (λ x. x < K) s (range K) b (each-range K) in
             let q : rank S s ≡ j = sym (index-is s hs m) ∙ index-at states once j h in
-            map-range-same (edge 0 0) (rowEdge r j)
+            map-range-same (rowEdge r j)
             (λ d. edge (getD (keysAt s) d 0 / 128) (indexOf (getD (keysAt s) d 0 % 128) states)) n
             (λ d l. let k = key-stays s hs m d l in
             ap₂ edge (ap (λ x. getD (r .word) (x * 16 + d) 0) (sym q) ∙ c .word s hs m d l)
@@ -189,7 +189,7 @@ module _ (n : ℕ) (g : Graph) (F : Finished n g) where
           few = omega (arith, c .counted, rank-small S K, F .fits .few);
           rows =
               ap (λ k. map (λ s. map (rowEdge r s) (range n)) (range k)) (c .counted)
-              ∙ map-range-same [] (λ s. map (rowEdge r s) (range n))
+              ∙ map-range-same (λ s. map (rowEdge r s) (range n))
               (λ j. tableRow n (workIn g) states (getD states j 0))
               (length states) row-laid
               ∙ sym (map-places 0 [] (tableRow n (workIn g) states) states)

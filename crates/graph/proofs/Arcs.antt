@@ -2,7 +2,7 @@
 -- In order: same→eq, same-refl, same-is, among→count, count→among, each-among, tot-insert, tot-sort, length-sort,
 -- tot-same, pick.
 -- Assumes nothing.
-use mathlib.Core.Path.{_≡_, refl, sym, ap, ap₂, subst, _∙_}
+use mathlib.Core.Path.{_≡_, refl, sym, ap₂, subst, _∙_}
 use mathlib.Core.Bool.{Bool, true, false, _&&_, _||_}
 use mathlib.Core.List.{List, [], _∷_}
 use Prim.Native.Nat.{ℕ, _+_, _*_, _≤_, _<_}
@@ -13,9 +13,10 @@ use lib.ListN.{length}
 use Rattle.laws.specs.Lists.{if_then_else_}
 use Rattle.laws.proofs.Tests.{and→, →and, →orL, →orR, so, nay, Whether, T→true}
 use Rattle.laws.specs.Sums.{Each, tot, mask, one}
-use Rattle.laws.proofs.Sums.{each-map, each-always, tot-eq, tot-add, tot-zero, tot-length, any→count, count→any}
+use Rattle.laws.proofs.Sorted as sorted
+use Rattle.laws.proofs.Sums.{each-map, each-always, tot-eq, tot-add, tot-zero, any→count, count→any}
 use Rattle.graph.specs.Arcs.{Arc}
-use Rattle.graph.specs.Splitting.{earlier, insert, sort, same, among}
+use Rattle.graph.specs.Splitting.{earlier, sort, same, among}
 use Rattle.graph.specs.Invariant.{count}
 
 -- ---- a test with what it says
@@ -61,21 +62,11 @@ each-among (x ∷ l) = (
 )
 
 -- ---- sorting changes no sum
-pub tot-insert : (f : Arc → ℕ) (e : Arc) (l : List Arc) → tot f (insert e l) ≡ f e + tot f l
-tot-insert f e [] = refl
-tot-insert f e (x ∷ l) = go (earlier e x) (tot-insert f e l)
-  where
-    go : (b : Bool) → tot f (insert e l) ≡ f e + tot f l
-        → tot f (if b then e ∷ x ∷ l else x ∷ insert e l) ≡ f e + (f x + tot f l)
-    go true q = refl
-    go false q = omega arith
-
 pub tot-sort : (f : Arc → ℕ) (l : List Arc) → tot f (sort l) ≡ tot f l
-tot-sort f [] = refl
-tot-sort f (x ∷ l) = tot-insert f x (sort l) ∙ ap (λ k. f x + k) (tot-sort f l)
+tot-sort f l = sorted.tot-sort earlier f l
 
 pub length-sort : (l : List Arc) → length (sort l) ≡ length l
-length-sort l = sym (tot-length (sort l)) ∙ tot-sort (λ x. 1) l ∙ tot-length l
+length-sort l = sorted.length-sort earlier l
 
 -- ---- the sum over those arcs of g that are among keep
 pub tot-same : (f : Arc → ℕ) (k : Arc) (g : List Arc) → tot (mask (λ e. same e k) f) g ≡ tot (one (same k)) g * f k

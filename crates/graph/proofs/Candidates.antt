@@ -1,25 +1,27 @@
 -- The n edges among which the run is sought: they are edges of the state, n of them, and weigh less than n M.
--- In order: each-insert, each-sort, any-sort, tot-take-le, tot-drop-le, length-take-le, candidates-length,
--- candidates-tot, candidates-lt, candidates-each.
+-- In order: each-sort, any-sort, candidates-length, candidates-tot, candidates-lt, candidates-each.
 -- Assumes nothing.
-use mathlib.Core.Path.{_≡_, refl, sym, ap, _∙_}
+use mathlib.Core.Path.{_≡_, sym, ap, _∙_}
 use mathlib.Core.Bool.{Bool, true, false, not}
-use mathlib.Core.List.{List, [], _∷_}
-use Prim.Native.Nat.{ℕ, zero, suc, _+_, _*_, _-_, _≤_, _<_}
-use native.Mathlib.Nat.{le-of-suc-le-suc, not-suc-le-zero, zero-add, add-zero}
+use mathlib.Core.List.{List}
+use Prim.Native.Nat.{ℕ, _+_, _*_, _-_, _≤_, _<_}
+use native.Mathlib.Nat.{zero-add, add-zero}
 use native.Mathlib.Omega.{arith}
 use lib.Dec.{T}
-use lib.ListN.{length, take, drop}
+use lib.ListN.{length, take}
+use lib.Seq.{length-take-le}
 use Rattle.laws.specs.Lists.{if_then_else_, filter, any, first}
 use Rattle.laws.proofs.Tests.{→orL}
 use Rattle.laws.specs.Sums.{Each, tot, mask, one}
+use Rattle.laws.proofs.Sorted as sorted
 use Rattle.laws.proofs.Sums.{each-map, each-always, each-filter, each-take, first-passes, tot-filter, tot-eq}
-use Rattle.laws.proofs.Sums.{tot-add, tot-length, tot-take-drop, any→count, count→any}
+use Rattle.laws.proofs.Sums.{tot-add, tot-length, any→count, count→any}
+use Rattle.laws.proofs.Totals.{tot-take-le}
 use Rattle.graph.proofs.Arcs.{among→count, each-among, tot-sort, tot-same}
 use Rattle.graph.specs.Invariant.{count}
 use Rattle.graph.specs.Arcs.{Arc, arc}
 use Rattle.graph.specs.Weights.{total}
-use Rattle.graph.specs.Splitting.{earlier, insert, sort, same, among, greatest, lighter, other, candidates}
+use Rattle.graph.specs.Splitting.{earlier, sort, same, among, greatest, lighter, other, candidates}
 use Rattle.graph.proofs.Choice.{total-lt}
 
 -- a sum is the sum over those that pass and those that do not
@@ -34,31 +36,11 @@ tot-split f p l =
     go x false = add-zero (f x)
 
 -- sorting changes neither what is in the list nor what holds of each
-pub each-insert : (P : Arc → Type 0) (e : Arc) (l : List Arc) → P e → Each P l → Each P (insert e l)
-each-insert P e [] p h = (p, tt)
-each-insert P e (x ∷ l) p h = go (earlier e x) (each-insert P e l p (h .1))
-  where
-    go : (b : Bool) → Each P (insert e l) → Each P (if b then e ∷ x ∷ l else x ∷ insert e l)
-    go true r = (p, h)
-    go false r = (h .0, r)
-
 pub each-sort : (P : Arc → Type 0) (l : List Arc) → Each P l → Each P (sort l)
-each-sort P [] h = tt
-each-sort P (x ∷ l) h = each-insert P x (sort l) (h .0) (each-sort P l (h .1))
+each-sort P l h = sorted.each-sort earlier P l h
 
 pub any-sort : (p : Arc → Bool) (l : List Arc) → T (any p l) → T (any p (sort l))
 any-sort p l t = count→any p (sort l) (rw (tot-sort (one p) l) (any→count p l t))
-
-pub tot-take-le : {A : Type 0} (f : A → ℕ) (k : ℕ) (l : List A) → tot f (take k l) ≤ tot f l
-tot-take-le f k l = omega (arith, tot-take-drop f k l)
-
-pub tot-drop-le : {A : Type 0} (f : A → ℕ) (k : ℕ) (l : List A) → tot f (drop k l) ≤ tot f l
-tot-drop-le f k l = omega (arith, tot-take-drop f k l)
-
-pub length-take-le : {A : Type 0} (k : ℕ) (l : List A) → k ≤ length l → length (take k l) ≡ k
-length-take-le zero l h = refl
-length-take-le (suc k) [] h = absurd (not-suc-le-zero h)
-length-take-le (suc k) (x ∷ l) h = ap suc (length-take-le k l (le-of-suc-le-suc h))
 
 -- es: the sorted edges of the state; M: its weight, the greatest
 module _ (n : ℕ) (v : List ℕ) (es : List Arc) (hn : 0 < n) (many : n < length es)

@@ -1,5 +1,5 @@
 -- The state to split: there is one, of greatest weight, with more than n edges.
--- In order: greatest-ge, greatest-at, total-le, total-lt, each-for, ripe-some, Chosen, chosen-is.
+-- In order: greatest-ge, greatest-at, total-le, total-lt, ripe-some, Chosen, chosen-is.
 -- Assumes nothing.
 use mathlib.Core.Path.{_≡_, refl, sym, _∙_}
 use mathlib.Core.Logic.{_⊎_, inl, inr}
@@ -19,6 +19,7 @@ use Rattle.laws.specs.Sums.{Each}
 use Rattle.laws.proofs.Sums.{each-map, each-always, each-both, filter-each, each-any, first-passes, tot-le}
 use Rattle.laws.proofs.Sums.{tot-const}
 use Rattle.laws.proofs.Anys.{each-range}
+use Rattle.laws.proofs.Totals.{each-for}
 use Rattle.graph.specs.Invariant.{Inside, Stays, Inv}
 use Rattle.graph.specs.Arcs.{Arc, Work, leaves, out}
 use Rattle.graph.specs.Weights.{weight, total}
@@ -58,11 +59,6 @@ total-lt v (e ∷ es) t = go (or→ (lighter v (greatest v) e) (any (lighter v (
     go (inl u) k = rw (sucs (length es)) (omega (arith, ltb→lt (weight v e) (greatest v) u, total-le v es))
     go (inr u) k = rw (sucs (length es)) (omega (arith, k u, greatest-ge v (e .target)))
 
-pub each-for {ℓ} : {A : Type ℓ} {B : Type 0} (P : B → A → Type 0) (l : List A) → ((y : B) → Each (P y) l)
-    → Each (λ x. (y : B) → P y x) l
-each-for P [] h = tt
-each-for P (x ∷ l) h = (λ y. h y .0, each-for P l (λ y. h y .1))
-
 module _ (n S : ℕ) (x : Work) (I : Inv n S x) where
   abbrev v : List ℕ
   v = x .weights
@@ -76,9 +72,6 @@ module _ (n S : ℕ) (x : Work) (I : Inv n S x) where
   seen = each-for _ g (λ s. filter-each
       (λ e. T (lighter v (greatest v) e) → T (any (lighter v (greatest v)) (out g s))) (leaves s) g
       (each-any (lighter v (greatest v)) (out g s)))
-
-  heaviest : ℕ → Bool
-  heaviest s = eqb (getD v s 0) (greatest v)
 
   -- if no state is ripe, the heaviest are closed
   stays : (T (any (splittable v g) (range (length v))) → ⊥) → Each (Stays (λ s. eqb (getD v s 0) (greatest v))) g

@@ -12,7 +12,8 @@ use lib.ListN.{length}
 use Rattle.laws.specs.Lists.{if_then_else_, from, range, filter, elem, indexOf}
 use Rattle.laws.proofs.Tests.{bool-eq}
 use Rattle.laws.proofs.Elems.{elem-filter, →elem-filter, elem-range}
-use Rattle.graph.proofs.CodeLists.{range-more, filter-append}
+use Rattle.laws.proofs.Ranges.{range-more}
+use Rattle.laws.proofs.Maps.{filter-append}
 
 module _ (q : ℕ → Bool) where
   abbrev pub upTo : ℕ → List ℕ

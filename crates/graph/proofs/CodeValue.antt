@@ -15,7 +15,7 @@ use Rattle.laws.proofs.Anys.{each-range}
 use Rattle.graph.specs.declared.Graph.{Graph}
 use Rattle.graph.specs.Arcs.{Arc, arc}
 use Rattle.graph.specs.Value.{arcAt, arcsIn, weightAt, weightsIn, Fits}
-use Rattle.graph.proofs.CodeLists.{length-map-range, map-range-more, map-range-same}
+use Rattle.laws.proofs.Ranges.{length-map-range, map-range-more, map-range-same}
 use lib.Seq.{getD-set-same, getD-set-other}
 
 -- ---- a graph that fits, by its lists
@@ -71,7 +71,7 @@ appended h m s w t ls lw lt =
     let r : Graph = withArc h m s w t in
     map-range-more (arcAt r) m
     ∙ ap₂ (λ x y. x ++ (y ∷ []))
-    (map-range-same (arc 0 0 0) (arcAt r) (arcAt h) m (λ k l. cc (
+    (map-range-same (arcAt r) (arcAt h) m (λ k l. cc (
       getD-set-other (h .source) m k s 0 (λ q. omega arith),
       getD-set-other (h .word) m k w 0 (λ q. omega arith),
       getD-set-other (h .target) m k t 0 (λ q. omega arith),

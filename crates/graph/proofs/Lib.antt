@@ -21,11 +21,7 @@ pub mod PartedBack
 pub mod Split
 pub mod Loop
 pub mod Roots
-pub mod CodeLists
-pub mod CodeFind
-pub mod CodeMaps
 pub mod CodeUpTo
 pub mod CodeValue
-pub mod Firsts
 pub mod Passed
 pub mod Reachable

@@ -1,27 +1,21 @@
 -- All splits: they end with no state short of edges, or with too many edges, and never for want of rounds.
--- In order: length-le-sum, splits-on, splits-off, states-le, splits-end, splitted-end, splitted-full.
+-- In order: splits-on, splits-off, states-le, splits-end, splitted-end, splitted-full.
 -- Assumes nothing.
 use mathlib.Core.Path.{_≡_, refl, sym, subst}
 use mathlib.Core.Bool.{Bool, true, false, not}
-use mathlib.Core.List.{List, [], _∷_}
-use Prim.Native.Nat.{ℕ, zero, suc, _+_, _≤_, _<_, zero-le, suc-le-suc}
-use native.Mathlib.Nat.{le-refl, le-trans, le-of-eq}
+use Prim.Native.Nat.{ℕ, zero, suc, _+_, _≤_, _<_}
+use native.Mathlib.Nat.{le-trans, le-of-eq}
 use native.Mathlib.Omega.{arith}
 use lib.Dec.{T, ltb}
 use borrow.Author.Tests.{ltb-false, le-ltb}
-use lib.ListN.{length, getD}
+use lib.ListN.{length}
 use Rattle.laws.specs.Lists.{sum}
 use Rattle.laws.proofs.Tests.{and→, →and, →any-below}
+use Rattle.laws.proofs.Totals.{length-le-sum}
 use Rattle.graph.specs.Invariant.{Inv}
 use Rattle.graph.specs.Arcs.{Work, out}
 use Rattle.graph.specs.Splitting.{split, fewEdges, unfinished, goesOn, splits, splitAll}
 use Rattle.graph.proofs.Split.{split-inv, split-length}
-
--- weights of at least 1
-pub length-le-sum : (v : List ℕ) → ((i : ℕ) → i < length v → 0 < getD v i 0) → length v ≤ sum v
-length-le-sum [] h = le-refl 0
-length-le-sum (x ∷ v) h = let k : 0 < x = h 0 (suc-le-suc zero-le) in
-    omega (arith, length-le-sum v (λ i l. h (suc i) (suc-le-suc l)))
 
 -- a round, and the end
 pub splits-on : (k n : ℕ) (x : Work) → goesOn n x ≡ true → splits (suc k) n x ≡ splits k n (split n x)

@@ -19,9 +19,6 @@ use Rattle.graph.specs.Arcs.{Arc, arc, leaves, enters}
 use Rattle.graph.specs.Splitting.{same, among, moved, redirected, doubled}
 use Rattle.graph.proofs.PartedSums.{Fate, goes, remains, apart, fate}
 
-one-false : (b : Bool) → b ≡ false → (k : ℕ) → (if b then 1 else 0) ≤ k
-one-false b q k = rw q zero-le
-
 and-false : (a b : Bool) → b ≡ false → (a && b) ≡ false
 and-false true b q = q
 and-false false b q = refl

@@ -1,11 +1,11 @@
 -- The graph of words: its edges are distinct, lead to states, and are readings of the constraint.
--- In order: tot-union, power-distinct, power-reads, power-inside.
+-- In order: power-distinct, power-reads, power-inside.
 -- Assumes nothing.
-use mathlib.Core.Path.{_≡_, refl, ap, _∙_}
+use mathlib.Core.Path.{_≡_, refl, _∙_}
 use mathlib.Core.Logic.{inl, inr}
 use mathlib.Core.Bool.{Bool, true, false, not, _&&_}
-use mathlib.Core.List.{List, [], _∷_, map}
-use Prim.Native.Nat.{ℕ, _+_, _≤_, _<_, zero-le, _^_}
+use mathlib.Core.List.{map}
+use Prim.Native.Nat.{ℕ, _≤_, _<_, zero-le, _^_}
 use native.Mathlib.Nat.{le-refl, le-trans, le-of-eq}
 use lib.Dec.{T, eqb}
 use borrow.Author.Tests.{eq-eqb}
@@ -13,7 +13,8 @@ use lib.ListN.{length}
 use Rattle.laws.specs.Lists.{if_then_else_, range, concat}
 use Rattle.laws.proofs.Tests.{Whether, so, nay, eqb-is}
 use Rattle.laws.specs.Sums.{Each, tot, one}
-use Rattle.laws.proofs.Sums.{each-map, each-always, each-filter, each-image, tot-append, tot-le, tot-zero, tot-map}
+use Rattle.laws.proofs.Sums.{each-map, each-always, each-filter, each-image, tot-le, tot-zero, tot-map}
+use Rattle.laws.proofs.Totals.{tot-union}
 use Rattle.graph.specs.Invariant.{count, Inside}
 use Rattle.graph.specs.Arcs.{Arc, wordFrom, wordsFrom, leadsOn, power, Reads}
 use Rattle.graph.specs.Splitting.{same}
@@ -21,11 +22,6 @@ use Rattle.constraint.specs.Walking.{Constraint, none, walk, Target, Well}
 use Rattle.laws.proofs.Anys.{each-union, each-range}
 use Rattle.laws.proofs.Elems.{range-once, tot-filter-le}
 use Rattle.constraint.proofs.Walking.{walk-target}
-
-pub tot-union : {A B : Type 0} (f : A → ℕ) (h : B → List A) (l : List B)
-    → tot f (concat (map h l)) ≡ tot (λ y. tot f (h y)) l
-tot-union f h [] = refl
-tot-union f h (x ∷ l) = tot-append f (h x) (concat (map h l)) ∙ ap (λ k. tot f (h x) + k) (tot-union f h l)
 
 and-le : (a b c : Bool) → (if a && (b && c) then 1 else 0) ≤ (if b then 1 else 0)
 and-le true true true = le-refl 1

@@ -1,13 +1,12 @@
 -- Reaching: its steps, and that a closed set which holds a state holds all that it reaches.
 -- In order: Reaching, reaches-is, reach-trans, reach-edge.
 -- Assumes nothing.
-use mathlib.Core.Path.{_≡_, refl, sym, ap, subst, _∙_}
+use mathlib.Core.Path.{_≡_, refl, sym, subst, _∙_}
 use mathlib.Core.Logic.{_⊎_, inl, inr}
 use mathlib.Core.Bool.{Bool, true, false, not, _||_}
 use mathlib.Core.List.{List, [], _∷_, map}
-use Prim.Native.Nat.{ℕ, zero, suc, _≤_, _<_, zero-le, suc-le-suc}
-use native.Mathlib.Nat.{le-refl, le-trans, le-of-eq}
-use native.Mathlib.Omega.{arith}
+use Prim.Native.Nat.{ℕ, _<_}
+use native.Mathlib.Nat.{le-trans, le-of-eq}
 use lib.Dec.{T, eqb, eqb→eq, eqb-refl}
 use lib.ListN.{length, getD, length-map}
 use Rattle.laws.specs.Lists.{range, any}
@@ -18,42 +17,9 @@ use Rattle.graph.specs.Invariant.{Inside, Stays}
 use Rattle.graph.specs.Arcs.{Arc}
 use Rattle.laws.specs.Sets.{member}
 use Rattle.graph.specs.Component.{leadsInto, withSources, reaching, reachings, reaches}
+use Rattle.laws.proofs.Grids.{missing, missing-le, grow-sub}
+use Rattle.laws.proofs.Members.{member-lt}
 use Rattle.laws.proofs.Settle.{iterate-keeps, settles}
-
-missing : List Bool → ℕ
-missing [] = 0
-missing (true ∷ S) = missing S
-missing (false ∷ S) = suc (missing S)
-
-missing-le : (S : List Bool) → missing S ≤ length S
-unfolding missing
-missing-le [] = le-refl 0
-missing-le (true ∷ S) = omega (arith, missing-le S)
-missing-le (false ∷ S) = suc-le-suc (missing-le S)
-
--- a set that grows is the same, or misses fewer
-grow : (S′ S : List Bool) → length S′ ≡ length S → ((i : ℕ) → T (member S i) → T (member S′ i))
-    → (S′ ≡ S) ⊎ (missing S′ < missing S)
-unfolding missing
-grow [] [] l h = inl refl
-grow [] (y ∷ S) l h = absurd (omega arith)
-grow (x ∷ S′) [] l h = absurd (omega arith)
-grow (x ∷ S′) (y ∷ S) l h = go x y (h 0) (grow S′ S (omega arith) (λ i. h (suc i)))
-  where
-    go : (x y : Bool) → (T y → T x) → (S′ ≡ S) ⊎ (missing S′ < missing S)
-        → (x ∷ S′ ≡ y ∷ S) ⊎ (missing (x ∷ S′) < missing (y ∷ S))
-    go true true k (inl e) = inl (ap (λ l. true ∷ l) e)
-    go true true k (inr m) = inr m
-    go true false k (inl e) = inr (rw e (le-refl (suc (missing S))))
-    go true false k (inr m) = inr (omega arith)
-    go false true k r = absurd (k tt)
-    go false false k (inl e) = inl (ap (λ l. false ∷ l) e)
-    go false false k (inr m) = inr (suc-le-suc m)
-
-member-lt : (S : List Bool) (i : ℕ) → T (member S i) → i < length S
-member-lt [] i t = absurd t
-member-lt (x ∷ S) zero t = suc-le-suc zero-le
-member-lt (x ∷ S) (suc i) t = suc-le-suc (member-lt S i t)
 
 before-length : (g : List Arc) (S : List Bool) → length (withSources g S) ≡ length S
 before-length g S = length-map (range (length S)) (λ s. member S s || any (leadsInto S s) g)
@@ -78,7 +44,7 @@ module _ (K : ℕ) (g : List Arc) (t : ℕ) where
   reaching-fixed : withSources g (reaching K g t) ≡ reaching K g t
   reaching-fixed =
       settles (withSources g) missing (λ S. length S ≡ K) (λ S e. before-length g S ∙ e)
-      (λ S e. grow (withSources g S) S (before-length g S) (before-more g S)) K start start-length
+      (λ S e. grow-sub S (withSources g S) (sym (before-length g S)) (before-more g S)) K start start-length
       (le-trans (missing-le start) (le-of-eq start-length))
 
   reaching-self : t < K → T (member (reaching K g t) t)

@@ -8,7 +8,7 @@ use Prim.Native.Nat.{ℕ, _<_, zero-le}
 use native.Mathlib.Omega.{arith}
 use lib.Dec.{T, lt→ltb, ltb→lt}
 use lib.ListN.{length, getD}
-use Rattle.laws.specs.Lists.{if_then_else_, range, filter, any, first, elem}
+use Rattle.laws.specs.Lists.{if_then_else_, range, filter, first, elem}
 use Rattle.laws.specs.Sums.{Each}
 use Rattle.laws.proofs.Tests.{and→, →and, imp→, →imp}
 use Rattle.laws.proofs.Sums.{each-map, each-always, each-both, each-filter}
@@ -23,7 +23,7 @@ use Rattle.graph.proofs.Reach.{reaches-is, reach-trans, reach-edge}
 use Rattle.graph.proofs.Component.{good-some}
 use Rattle.graph.proofs.Found.{inside-l, in-K, s-is}
 use Rattle.graph.proofs.Start.{all-of, start-first}
-use Rattle.graph.proofs.Firsts.{first-least}
+use Rattle.laws.proofs.Firsts.{none-lower}
 
 -- the first that passes p, of those that pass q
 first-filter : (p q : ℕ → Bool) (d : ℕ) (l : List ℕ) → first p d (filter q l) ≡ first (λ x. q x && p x) d l
@@ -102,7 +102,7 @@ module _ (v : List ℕ) (g : List Arc) (i : Each (Inside (length v)) g) (z : ℕ
   lowest u h w b =
       let k : u < K = omega (arith, lt s (s-is v g i z ez .1)) in
       let e = first-filter good (weighs v) 0 (range K) in
-      first-least (λ x. weighs v x && good x) 0 0 K
+      none-lower (λ x. weighs v x && good x) 0 0 K
       (subst T (any-filter good (weighs v) (range K))
       (good-some K L gl reach (reaches-is K gl) (inside-l v g i z ez) (in-K v g i z ez) z ez))
       u zero-le (subst (λ x. u < x) e h)

@@ -8,12 +8,13 @@ use native.Mathlib.Nat.{add-comm}
 use native.Mathlib.Omega.{arith}
 use native.Mathlib.Decide.{decLt}
 use lib.Dec.{T, eqb→eq}
-use lib.ListN.{length, take, drop}
+use lib.ListN.{take, drop}
 use lib.Seq.{drop-drop}
 use Rattle.graph.specs.Arcs.{Arc}
 use Rattle.graph.specs.Weights.{weight, total}
 use Rattle.graph.specs.Splitting.{stretch, divisible}
-use Rattle.graph.proofs.Runs.{mod-diff, tot-take-add}
+use Rattle.graph.proofs.Runs.{mod-diff}
+use Rattle.laws.proofs.Totals.{tot-take-add}
 
 module _ (n : ℕ) (v : List ℕ) (es : List Arc) where
   -- the longer run is the shorter with a run before it

@@ -1,11 +1,11 @@
 -- A run whose weights sum to a multiple of n: there is one among n edges, and what it weighs.
--- In order: mod-diff, tot-take-add, run-exists, PartOf, run-is.
+-- In order: mod-diff, run-exists, PartOf, run-is.
 -- Assumes nothing.
-use mathlib.Core.Path.{_≡_, refl, sym, ap, _∙_}
+use mathlib.Core.Path.{_≡_, ap, _∙_}
 use mathlib.Core.List.{List, [], _∷_, map}
 use Prim.Native.Nat.{ℕ, zero, suc, _+_, _*_, _-_, _/_, _%_, _≤_, _<_, zero-le, suc-le-suc}
-use native.Mathlib.Nat.{le-of-suc-le-suc, not-suc-le-zero, le-trans, zero-add, mod-add-div, mod-lt}
-use native.Mathlib.Nat.{mod-eq-zero-of-dvd, dvd-sub, dvd-mul-right, mod-add-div', suc-add}
+use native.Mathlib.Nat.{le-of-suc-le-suc, not-suc-le-zero, le-trans, mod-add-div, mod-lt}
+use native.Mathlib.Nat.{mod-eq-zero-of-dvd, dvd-sub, dvd-mul-right, mod-add-div'}
 use native.Mathlib.Omega.{arith}
 use lib.Dec.{T, eqb→eq}
 use lib.ListN.{length, take, drop}
@@ -18,7 +18,7 @@ use Rattle.graph.specs.Arcs.{Arc}
 use Rattle.graph.specs.Weights.{weight, total}
 use Rattle.graph.specs.Splitting.{stretch, runs, divisible, firstRun}
 use Rattle.laws.proofs.Pigeon.{Twice, pigeon}
-use Rattle.graph.proofs.Candidates.{tot-take-le, tot-drop-le}
+use Rattle.laws.proofs.Totals.{tot-take-add, tot-take-le, tot-drop-le}
 use Rattle.laws.proofs.Anys.{each-range, any-image, each-union, any-union}
 
 -- ---- equal remainders
@@ -28,16 +28,6 @@ mod-diff n a b h =
     let r = a / n in
     let e : b ≡ n * q - n * r = omega (arith, mod-add-div (a + b) n, mod-add-div a n) in
     rw e (mod-eq-zero-of-dvd n (dvd-sub n (dvd-mul-right n q) (dvd-mul-right n r)))
-
-pub tot-take-add : {A : Type 0} (f : A → ℕ) (i k : ℕ) (l : List A)
-    → tot f (take (i + k) l) ≡ tot f (take i l) + tot f (take k (drop i l))
-tot-take-add f zero k l = rw (zero-add k) (sym (zero-add _))
-tot-take-add f (suc i) k [] = rw (suc-add i k) (nil k)
-  where
-    nil : (k : ℕ) → 0 ≡ 0 + tot f (take k [])
-    nil zero = refl
-    nil (suc k) = refl
-tot-take-add f (suc i) k (x ∷ l) = rw (suc-add i k) (omega (arith, tot-take-add f i k l))
 
 module _ (n : ℕ) (v : List ℕ) (es : List Arc) (hn : 0 < n) (size : length es ≡ n) where
   -- among n edges there is a run whose weights sum to a multiple of n

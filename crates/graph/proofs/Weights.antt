@@ -1,5 +1,5 @@
 -- Weights: the greatest vector with A v ≥ n v and entries up to cap.
--- In order: enough-total, weights-length, weights-fixed, weights-enough, weights-lead, weights-greatest,
+-- In order: enough-total, weights-length, weights-fixed, weights-enough, weights-greatest,
 -- weights-cap.
 -- Assumes nothing.
 use mathlib.Core.Path.{_≡_, refl, sym, ap, ap₂, _∙_}
@@ -7,21 +7,18 @@ use mathlib.Core.Logic.{_⊎_, inl, inr}
 use mathlib.Core.List.{List, [], _∷_}
 use Prim.Native.Nat.{ℕ, zero, suc, _*_, _/_, _≤_, _<_, zero-le, min}
 use native.Mathlib.Nat.{le-of-suc-le-suc, not-suc-le-zero, le-trans, le-of-eq, add-le-add, min-le-left}
-use native.Mathlib.Nat.{le-min, zero-min, le-div-iff-mul-le, mul-le-mul}
+use native.Mathlib.Nat.{le-min, zero-min, le-div-iff-mul-le}
 use native.Mathlib.Omega.{arith}
 use native.Mathlib.Decide.{decLt}
-use lib.Dec.{T, eqb→eq}
 use lib.ListN.{length, getD, length-map, replicate, length-replicate, List·getD-eq-default, getD-replicate}
 use Rattle.laws.specs.Lists.{range, sum}
 use Rattle.laws.proofs.Lists.{sum-replicate}
 use Rattle.laws.proofs.Tests.{length-from, map-range-at}
-use Rattle.graph.specs.Arcs.{Arc, leaves, out}
+use Rattle.graph.specs.Arcs.{Arc, out}
 use Rattle.graph.specs.Weights.{lower, lowered, weights, Enough, AtMost, product, total, weight}
-use Rattle.graph.specs.Splitting.{among}
 use Rattle.laws.proofs.Settle.{iterate-keeps, settles}
-use Rattle.graph.proofs.Arcs.{each-among}
 use Rattle.graph.proofs.Exchange.{exchange}
-use Rattle.laws.proofs.Sums.{tot-le, tot-some, each-always, each-map, each-filter}
+use Rattle.laws.proofs.Sums.{tot-le, each-always}
 
 product-mono : (u v : List ℕ) → AtMost u v → (g : List Arc) (s : ℕ) → product g u s ≤ product g v s
 product-mono u v h g s =
@@ -93,17 +90,6 @@ module _ (n : ℕ) (g : List Arc) where
       let e : getD w i 0 ≡ min (getD w i 0) (product g w i / n) =
       sym (ap (λ v. getD v i 0) (weights-fixed cap K)) ∙ lowered-at n g w i in
       le-div-iff-mul-le p .0 (omega arith)
-
-  -- a state of weight above 0 has an edge to a state of weight above 0
-  pub weights-lead : (cap K : ℕ) → 0 < n → (s : ℕ) → 0 < getD (weights n cap K g) s 0
-      → (e : Arc) × (0 < weight (weights n cap K g) e) × (T (among g e) × (e .source ≡ s))
-  weights-lead cap K p s h =
-      let w = weights n cap K g in
-      let b : 1 * 1 ≤ getD w s 0 * n = mul-le-mul h p in
-      let a : 0 < total w (out g s) = le-trans b (enough-total n g w (weights-enough cap K p) s) in
-      tot-some (weight w) (λ e. T (among g e) × (e .source ≡ s)) (out g s) a
-      (each-filter _ (leaves s) g
-      (each-map (λ e. T (among g e)) _ (λ e u q. (u, eqb→eq (e .source) s q)) g (each-among g)))
 
   lowered-keeps : (u v : List ℕ) → 0 < n → Enough n g u → AtMost u v → AtMost u (lowered n g v)
   lowered-keeps u v p e h i =

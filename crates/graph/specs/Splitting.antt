@@ -9,6 +9,7 @@ use Prim.Native.Nat.{ℕ, zero, suc, _+_, _-_, _/_, _%_, max}
 use lib.Dec.{ltb, eqb}
 use lib.ListN.{length, getD, take, drop, set}
 use Rattle.laws.specs.Lists.{if_then_else_, range, sum, filter, any, first, concat}
+use Rattle.laws.specs.Sorted.{insertBy, sortBy}
 use Rattle.graph.specs.Arcs.{Arc, arc, Work, leaves, enters, out}
 use Rattle.graph.specs.Weights.{weight, total}
 
@@ -18,13 +19,11 @@ earlier e f = ltb (e .word) (f .word) || (eqb (e .word) (f .word) && ltb (e .tar
 
 -- an edge put into edges in order
 abbrev pub insert : Arc → List Arc → List Arc
-insert e [] = e ∷ []
-insert e (f ∷ fs) = let r = insert e fs in if earlier e f then e ∷ f ∷ fs else f ∷ r
+insert = insertBy earlier
 
 -- edges by word, then target
 abbrev pub sort : List Arc → List Arc
-sort [] = []
-sort (e ∷ es) = insert e (sort es)
+sort = sortBy earlier
 
 -- e and f are one edge
 abbrev pub same : Arc → Arc → Bool

@@ -5,7 +5,7 @@
 use mathlib.Core.Path.{_≡_, refl, sym, ap, ap₂, _∙_}
 use mathlib.Core.Bool.{Bool, true, false, not, _&&_, _||_}
 use mathlib.Core.List.{List, []}
-use Prim.Native.Nat.{ℕ, _-_, _≤_, _<_}
+use Prim.Native.Nat.{ℕ, _≤_, _<_}
 use native.Mathlib.Omega.{arith}
 use lib.Dec.{ltb}
 use lib.ListN.{length, getD, take}
@@ -17,16 +17,9 @@ use Rattle.laws.proofs.Sums.{each-map}
 use Rattle.laws.proofs.Anys.{each-range}
 use Rattle.graph.specs.Component.{reaches, returns, returning, weighs, live}
 use Rattle.reach.specs.ReachSets.{reachAt, rowOf, rowsOf}
-use Rattle.graph.proofs.CodeFind.{first-least}
-use Rattle.graph.proofs.CodeMaps.{filter-same}
-use Rattle.reach.proofs.CodeTests.{
-  all-filter,
-  all-range-false,
-  all-range-true,
-  filter-fuse,
-  first-filter,
-  first-range-none,
-}
+use Rattle.laws.proofs.Firsts.{first-least}
+use Rattle.laws.proofs.Maps.{filter-same, all-filter, filter-fuse, first-filter}
+use Rattle.laws.proofs.Ranges.{all-range-false, all-range-true, first-range-none}
 
 module _ (M : List Bool) (v : List ℕ) (k : ℕ) (few : k ≤ 16) (long : length v ≡ 16) where
   abbrev R : List (List Bool)

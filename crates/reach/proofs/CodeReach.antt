@@ -1,39 +1,21 @@
 -- Which states can reach which: rounds over all states at once.
--- In order: any-range-more, any-range-same; step-row; Rounds, rounds-start, rounds-more, rounds-still, rounds-end.
+-- In order: step-row; Rounds, rounds-start, rounds-more, rounds-still, rounds-end.
 -- Assumes nothing.
 use mathlib.Core.Path.{_≡_, refl, sym, ap, ap₂, _∙_}
-use mathlib.Core.Bool.{Bool, true, false, not, _&&_, _||_, or-false, Bool·beq}
-use mathlib.Core.List.{List, [], _∷_, map}
+use mathlib.Core.Bool.{Bool, true, false, not, _&&_, _||_, Bool·beq}
+use mathlib.Core.List.{List, map}
 use Prim.Native.Nat.{ℕ, suc, _+_, _-_, _*_, _/_, _%_, _≤_, _<_}
 use native.Mathlib.Omega.{arith}
 use lib.Dec.{eqb}
 use lib.ListN.{length, getD}
 use Rattle.laws.specs.Lists.{range, any, iterate}
-use Rattle.laws.specs.Sums.{Each}
 use Rattle.laws.proofs.Tests.{map-range-at}
-use Rattle.laws.proofs.Anys.{any-append, each-range}
-use Rattle.laws.proofs.Sums.{each-map}
 use Rattle.laws.proofs.Settle.{iterate-fixed}
 use Rattle.graph.specs.Arcs.{Arc}
 use Rattle.graph.specs.Component.{reachesInto, withSources, reaching, reachings}
 use Rattle.reach.specs.ReachSets.{reachAt, rowOf, rowsOf, linksInto, Linked, passesOn}
-use Rattle.graph.proofs.CodeLists.{range-more, length-map-range, map-range-same}
-use Rattle.weights.proofs.CodeWeights.{place-state, place-target}
-
-pub any-range-more : (p : ℕ → Bool) (i : ℕ) → any p (range (i + 1)) ≡ (any p (range i) || p i)
-any-range-more p i =
-    ap (any p) (range-more i) ∙ any-append p (range i) (i ∷ []) ∙ ap (λ b. any p (range i) || b) (or-false (p i))
-
-pub any-range-no : (p : ℕ → Bool) (i : ℕ) → any p (range i) ≡ false → p i ≡ false → any p (range (i + 1)) ≡ false
-any-range-no p i a b = any-range-more p i ∙ ap₂ (λ x y. x || y) a b
-
-any-each-same : {A : Type 0} (p q : A → Bool) (l : List A) → Each (λ x. p x ≡ q x) l → any p l ≡ any q l
-any-each-same p q [] h = refl
-any-each-same p q (x ∷ l) h = ap₂ (λ a b. a || b) (h .0) (any-each-same p q l (h .1))
-
-pub any-range-same : (p q : ℕ → Bool) (n : ℕ) → ((i : ℕ) → i < n → p i ≡ q i) → any p (range n) ≡ any q (range n)
-any-range-same p q n h =
-    any-each-same p q (range n) (each-map (λ i. i < n) (λ i. p i ≡ q i) (λ i l. h i l) (range n) (each-range n))
+use Rattle.laws.proofs.Ranges.{length-map-range, map-range-same, any-range-same}
+use Rattle.laws.proofs.Places.{quotient-of, remainder-of}
 
 module _ (E : List Bool) (k : ℕ) (few : k ≤ 16) where
   -- after i rounds the rounds left lead to the states that can reach each state
@@ -52,9 +34,9 @@ module _ (E : List Bool) (k : ℕ) (few : k ≤ 16) where
     leads = λ g e t h.
         let z : k - 0 ≡ k = omega arith in
         ap₂ (iterate (withSources g)) z
-        (map-range-same false (reachAt M t) (eqb t) k
+        (map-range-same (reachAt M t) (eqb t) k
         (λ s b. f (t * 16 + s) (place-lt t s h b)
-        ∙ ap₂ eqb (place-state t s (omega arith)) (place-target t s (omega arith))));
+        ∙ ap₂ eqb (quotient-of 16 t s (omega arith)) (remainder-of 16 t s (omega arith))));
   }
 
   module _ (M R : List Bool)
@@ -62,10 +44,10 @@ module _ (E : List Bool) (k : ℕ) (few : k ≤ 16) where
       → getD R x false ≡ (getD M x false || any (passesOn E M (x / 16) (x % 16)) (range k))) where
     step-row : (g : List Arc) → Linked E k g → (t : ℕ) → t < k → rowOf R k t ≡ withSources g (rowOf M k t)
     step-row g e t h =
-        map-range-same false (reachAt R t) (reachesInto g (rowOf M k t)) k
+        map-range-same (reachAt R t) (reachesInto g (rowOf M k t)) k
         (λ s b. step (t * 16 + s) (place-lt t s h b)
-        ∙ ap₂ (λ a c. reachAt M t s || any (passesOn E M a c) (range k)) (place-state t s (omega arith))
-        (place-target t s (omega arith))
+        ∙ ap₂ (λ a c. reachAt M t s || any (passesOn E M a c) (range k)) (quotient-of 16 t s (omega arith))
+        (remainder-of 16 t s (omega arith))
         ∙ ap₂ (λ a c. a || c) (sym (map-range-at (reachAt M t) k s false b))
         (any-range-same (passesOn E M t s) (linksInto E (rowOf M k t) s) k
         (λ u l. ap (λ c. getD E (s * 16 + u) false && c) (sym (map-range-at (reachAt M t) k u false l)))
@@ -86,9 +68,9 @@ module _ (E : List Bool) (k : ℕ) (few : k ≤ 16) where
           → (g : List Arc) → Linked E k g → rowsOf M k ≡ reachings k g
       unfolding rowsOf
       rounds-still f g e =
-          map-range-same [] (rowOf M k) (reaching k g) k
+          map-range-same (rowOf M k) (reaching k g) k
           (λ t b. sym (iterate-fixed (withSources g) (k - i) (rowOf M k t)
-          (sym (step-row g e t b) ∙ map-range-same false (reachAt R t) (reachAt M t) k
+          (sym (step-row g e t b) ∙ map-range-same (reachAt R t) (reachAt M t) k
           (λ s l. f (t * 16 + s) (place-lt t s b l))))
           ∙ c .leads g e t b)
 
@@ -96,7 +78,7 @@ module _ (E : List Bool) (k : ℕ) (few : k ≤ 16) where
       ≡ reachings k g
   unfolding rowsOf
   rounds-end M i h c g e =
-      map-range-same [] (rowOf M k) (reaching k g) k
+      map-range-same (rowOf M k) (reaching k g) k
       (λ t b. let z : k - i ≡ 0 = omega arith in
       ap (λ m. iterate (withSources g) m (rowOf M k t)) (sym z) ∙ c .leads g e t b)
 

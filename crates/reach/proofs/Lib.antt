@@ -1,5 +1,4 @@
 pub mod CodeReach
-pub mod CodeTests
 pub mod CodeNumbers
 pub mod CodeMembers
 pub mod CodeFails

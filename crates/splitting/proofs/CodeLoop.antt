@@ -5,7 +5,7 @@
 use mathlib.Core.Path.{_≡_, refl, sym, ap, ap₂, subst, _∙_}
 use mathlib.Core.Bool.{Bool, true, false, not, _&&_}
 use mathlib.Core.List.{List, [], _∷_, _++_, map, append-nil}
-use Prim.Native.Nat.{ℕ, zero, suc, _+_, _-_, _≤_, _<_}
+use Prim.Native.Nat.{ℕ, zero, suc, _+_, _≤_, _<_}
 use native.Mathlib.Omega.{arith}
 use native.Mathlib.Decide.{ℕ-discrete}
 use borrow.Author.Tests.{lt-ltb, le-ltb, eq-eqb, ne-eqb}
@@ -24,7 +24,8 @@ use Rattle.splitting.specs.SplitParts.{SplitInto, Splits, SplitAllInto}
 use Rattle.graph.proofs.Choice.{ripe-some}
 use Rattle.graph.proofs.Split.{split-inv, split-length}
 use Rattle.graph.proofs.Loop.{splits-on, splits-off, states-le}
-use Rattle.graph.proofs.CodeLists.{filter-append, map-range-more, length-map-range, any-false, any-true}
+use Rattle.laws.proofs.Maps.{filter-append}
+use Rattle.laws.proofs.Ranges.{map-range-more, length-map-range, any-false, any-true}
 
 -- ---- counting
 -- the edges below i out of s

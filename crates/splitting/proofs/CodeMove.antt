@@ -1,11 +1,11 @@
 -- Moving the edges of a state that the run does not keep.
--- In order: map-map-range; Resourced, sources as f says below i; withSource; resource-none, resource-put,
+-- In order: Resourced, sources as f says below i; withSource; resource-none, resource-put,
 -- resource-stay; newSource, new-off, new-kept, new-moved; resource-end.
 -- Assumes nothing.
 use mathlib.Core.Path.{_≡_, refl, sym, ap, ap₂, _∙_}
 use mathlib.Core.Bool.{Bool, true, false, not, _&&_}
-use mathlib.Core.List.{List, [], _∷_, map}
-use Prim.Native.Nat.{ℕ, _+_, _-_, _≤_, _<_}
+use mathlib.Core.List.{List, map}
+use Prim.Native.Nat.{ℕ, _+_, _≤_, _<_}
 use native.Mathlib.Omega.{arith}
 use borrow.Author.Count.{below-more}
 use borrow.Author.Tests.{eq-eqb, ne-eqb}
@@ -17,15 +17,8 @@ use Rattle.graph.specs.Arcs.{Arc, arc, leaves}
 use Rattle.graph.specs.Splitting.{among, moved}
 use Rattle.graph.specs.Value.{arcAt}
 use Rattle.splitting.specs.SplitParts.{Moved}
-use Rattle.graph.proofs.CodeLists.{map-range-same}
-
-pub map-map-range : {A B : Type 0} (d : B) (f : A → B) (h : ℕ → A) (n : ℕ) → map f (map h (range n))
-    ≡ map (λ k. f (h k)) (range n)
-map-map-range d f h n = go (range n)
-  where
-    go : (l : List ℕ) → map f (map h l) ≡ map (λ k. f (h k)) l
-    go [] = refl
-    go (x ∷ l) = ap (λ y. f (h x) ∷ y) (go l)
+use Rattle.laws.proofs.Maps.{map-map}
+use Rattle.laws.proofs.Ranges.{map-range-same}
 
 -- ---- moving
 -- h is g, but its sources below i are as f says
@@ -119,11 +112,11 @@ module _ (g : Graph) (s : ℕ) (keep : List Arc) where
   resource-end h c = record {
     arcs =
         ap (λ m. map (arcAt h) (range m)) (c .edges)
-        ∙ map-range-same (arc 0 0 0) (arcAt h) (λ k. moved s (g .states) keep (arcAt g k)) (g .edges)
+        ∙ map-range-same (arcAt h) (λ k. moved s (g .states) keep (arcAt g k)) (g .edges)
         (λ k l. ap₂ (λ w t. arc (getD (h .source) k 0) (getD w k 0) (getD t k 0)) (c .word) (c .target)
         ∙ ap (λ x. arc x (getD (g .word) k 0) (getD (g .target) k 0)) (c .done k l)
         ∙ same k (leaves s (arcAt g k) && not (among keep (arcAt g k))))
-        ∙ sym (map-map-range (arc 0 0 0) (moved s (g .states) keep) (arcAt g) (g .edges));
+        ∙ sym (map-map (moved s (g .states) keep) (arcAt g) (range (g .edges)));
     edges = c .edges;
     states = c .states;
     weight = c .weight;

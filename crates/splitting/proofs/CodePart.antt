@@ -18,7 +18,8 @@ use Rattle.graph.specs.Arcs.{Arc, enters}
 use Rattle.graph.specs.Splitting.{redirected}
 use Rattle.graph.specs.Value.{arcAt, arcsIn, weightAt, weightsIn}
 use Rattle.splitting.specs.SplitParts.{entering, Doubled, Weighed}
-use Rattle.graph.proofs.CodeLists.{map-append, filter-append, map-range-more, length-map-range}
+use Rattle.laws.proofs.Maps.{map-append, filter-append}
+use Rattle.laws.proofs.Ranges.{map-range-more, length-map-range}
 use Rattle.graph.proofs.CodeValue.{withArc, appended}
 
 -- ---- counting and doubling

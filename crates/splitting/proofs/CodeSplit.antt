@@ -4,7 +4,7 @@
 use mathlib.Core.Path.{_≡_, sym, ap, subst, _∙_}
 use mathlib.Core.Bool.{true, false}
 use mathlib.Core.List.{List}
-use Prim.Native.Nat.{ℕ, _+_, _-_, _/_, _≤_, _<_}
+use Prim.Native.Nat.{ℕ, _+_, _/_, _≤_, _<_}
 use native.Mathlib.Omega.{arith}
 use borrow.Author.Tests.{lt-ltb, le-ltb}
 use lib.Dec.{T, eqb, eqb→eq}
@@ -20,7 +20,7 @@ use Rattle.graph.specs.Splitting.{greatest, lighter, splittable, chosen, kept, 
 use Rattle.graph.specs.Value.{arcAt, arcsIn, weightsIn, workIn}
 use Rattle.splitting.specs.SplitParts.{entering, PartedInto, SplitInto}
 use Rattle.graph.proofs.PartedBack.{parted-count}
-use Rattle.graph.proofs.CodeLists.{length-map-range}
+use Rattle.laws.proofs.Ranges.{length-map-range}
 
 module _ (n : ℕ) (g : Graph) where
   abbrev v : List ℕ

@@ -27,8 +27,8 @@ use Rattle.choice.specs.ChoiceParts.{FirstRun}
 use Rattle.splitting.specs.SplitParts.{keptArcs, Moved, entering, Doubled, Weighed, PartedInto}
 use Rattle.graph.proofs.Choice.{total-le}
 use Rattle.graph.proofs.Candidates.{each-sort, any-sort}
-use Rattle.graph.proofs.CodeLists.{length-map-range}
-use Rattle.graph.proofs.CodeMaps.{map-take, map-drop, map-each}
+use Rattle.laws.proofs.Ranges.{length-map-range}
+use Rattle.laws.proofs.Maps.{map-take, map-drop, map-each}
 use Rattle.graph.proofs.CodeValue.{Bounded, Low, fits-arcs, fits-from, fits-weights}
 use Rattle.splitting.proofs.CodeMoved.{each-parted, each-set, entering-moved}
 

@@ -15,7 +15,7 @@ use Rattle.graph.specs.Arcs.{Work, out}
 use Rattle.graph.specs.Weights.{total}
 use Rattle.graph.specs.Splitting.{greatest, lighter, splittable, chosen, candidates, kept, sort}
 use Rattle.graph.specs.Value.{weightAt, weightsIn, arcsIn, workIn, Fits}
-use Rattle.graph.proofs.CodeLists.{length-map-range}
+use Rattle.laws.proofs.Ranges.{length-map-range}
 use Rattle.order.specs.EdgeKeys.{keysIn, arcOf, keyWeight}
 use Rattle.choice.specs.ChoiceParts.{FirstRun}
 use Rattle.splitting.specs.SplitParts.{keptArcs}

@@ -10,7 +10,7 @@ use native.Mathlib.Omega.{arith}
 use lib.ListN.{length, getD, take, drop, length-drop}
 use lib.Seq.{length-take-le, getD-take, getD-drop, take-all, take-take}
 use Rattle.laws.specs.Lists.{concat}
-use Rattle.graph.proofs.CodeMaps.{map-map}
+use Rattle.laws.proofs.Maps.{map-map}
 use Rattle.order.specs.EdgeKeys.{arcOf}
 use Rattle.text.specs.Words.{told}
 use Rattle.trace.specs.Lines.{listed, arcText}

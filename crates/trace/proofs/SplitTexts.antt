@@ -19,7 +19,7 @@ use Rattle.graph.specs.Arcs.{Work}
 use Rattle.graph.specs.Splitting.{unfinished, crowded, goesOn, split}
 use Rattle.finish.specs.TableOf.{tableOf}
 use Rattle.graph.specs.Value.{arcAt, arcsIn, weightAt, weightsIn, workIn}
-use Rattle.graph.proofs.CodeLists.{length-map-range}
+use Rattle.laws.proofs.Ranges.{length-map-range}
 use Rattle.graph.proofs.Split.{split-inv, split-length}
 use Rattle.graph.proofs.Loop.{states-le}
 use Rattle.splitting.specs.SplitParts.{SplitInto, Splits, SplitAllInto}

@@ -15,8 +15,8 @@ use Rattle.constraint.specs.Walking.{Constraint, walk}
 use Rattle.graph.specs.Arcs.{Arc, arc, leaves, enters, out, wordFrom, wordsFrom, leadsOn, power}
 use Rattle.graph.specs.Weights.{wordsBetween}
 use Rattle.weights.specs.PowerTable.{entryAt, wordAt, wordsAt, tabled, wordLeads, wordCount}
-use Rattle.graph.proofs.CodeLists.{filter-append, map-range-same}
-use Rattle.graph.proofs.CodeMaps.{filter-map, filter-filter, filter-both}
+use Rattle.laws.proofs.Maps.{filter-append, filter-map, filter-filter, filter-both}
+use Rattle.laws.proofs.Ranges.{map-range-same}
 
 module _ {A : Type 0} (p : A → Bool) (f : ℕ → List A) (s : ℕ) (own : filter p (f s) ≡ f s)
     (others : (j : ℕ) → (j ≡ s → ⊥) → filter p (f j) ≡ []) where
@@ -77,5 +77,5 @@ pub tabled-power : (c : Constraint) (q : ℕ) (P : List ℕ)
 unfolding tabled power
 tabled-power c q P h =
     ap (λ l. filter leadsOn (concat l))
-    (map-range-same [] (wordsAt P (2 ^ q)) (wordsFrom c q) (length c)
-    (λ s b. map-range-same (arc 0 0 0) (wordAt P s) (wordFrom c q s) (2 ^ q) (λ w k. ap (arc s w) (h s w b k))))
+    (map-range-same (wordsAt P (2 ^ q)) (wordsFrom c q) (length c)
+    (λ s b. map-range-same (wordAt P s) (wordFrom c q s) (2 ^ q) (λ w k. ap (arc s w) (h s w b k))))

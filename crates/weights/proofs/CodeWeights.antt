@@ -1,35 +1,29 @@
 -- Rounds of weights by the counts of words.
--- In order: count-yes, count-no; tot-more; lower-is; lowered-is; Round, round-start, round-more, round-still,
+-- In order: count-yes, count-no; lower-is; lowered-is; Round, round-start, round-more, round-still,
 -- round-end.
 -- Assumes nothing.
 use mathlib.Core.Path.{_≡_, refl, sym, ap, ap₂, _∙_}
 use mathlib.Core.Bool.{Bool, true, false}
 use mathlib.Core.List.{List, [], _∷_, _++_, append-nil}
 use Prim.Native.Nat.{ℕ, zero, suc, _+_, _-_, _*_, _/_, _%_, _≤_, _<_, min}
-use native.Mathlib.Nat.{
-  le-trans,
-  add-zero,
-  mul-add-div-right,
-  mul-add-mod-self-right,
-  div-eq-of-lt,
-  mod-eq-of-lt,
-  mul-le-mul,
-}
+use native.Mathlib.Nat.{le-trans, mul-le-mul}
 use native.Mathlib.Omega.{arith}
 use borrow.Author.Tests.{eq-eqb, ne-eqb}
-use lib.Dec.{lit<}
 use lib.ListN.{length, getD, take, length-append, replicate, length-replicate, getD-replicate}
 use lib.Seq.{length-take-le, getD-take}
 use Rattle.laws.specs.Lists.{if_then_else_, range, filter, iterate}
 use Rattle.laws.specs.Sums.{tot}
-use Rattle.laws.proofs.Sums.{each-map, tot-eq, tot-append}
+use Rattle.laws.proofs.Sums.{each-map, tot-eq}
 use Rattle.laws.proofs.Tests.{map-range-at, length-from}
 use Rattle.laws.proofs.Anys.{each-range}
 use Rattle.laws.proofs.Settle.{iterate-fixed}
 use Rattle.graph.specs.Arcs.{Arc}
 use Rattle.graph.specs.Weights.{wordsBetween, term, lower, lowered, weights}
 use Rattle.weights.specs.PowerTable.{entryAt, tabled, wordLeads, wordCount, termBy, lowerBy}
-use Rattle.graph.proofs.CodeLists.{filter-append, range-more, length-map-range, take-same}
+use Rattle.laws.proofs.Maps.{filter-append}
+use Rattle.laws.proofs.Places.{quotient-of, remainder-of}
+use Rattle.laws.proofs.Ranges.{range-more, length-map-range}
+use Rattle.laws.proofs.Arrays.{take-same}
 use Rattle.weights.proofs.CodeTabled.{between-count}
 
 -- ---- counting words
@@ -56,18 +50,7 @@ module _ (P : List ℕ) (s t : ℕ) where
       ∙ ap (λ b. filter (wordLeads P s t) (range w) ++ (if b then w ∷ [] else [])) (ne-eqb (entryAt P s w) t q)
       ∙ append-nil (filter (wordLeads P s t) (range w)))
 
--- ---- places s * 16 + t
-pub place-state : (s t : ℕ) → t < 16 → (s * 16 + t) / 16 ≡ s
-place-state s t h = mul-add-div-right {m = 16} (lit< tt) s t ∙ ap (λ x. s + x) (div-eq-of-lt h) ∙ add-zero s
-
-pub place-target : (s t : ℕ) → t < 16 → (s * 16 + t) % 16 ≡ t
-place-target s t h = mul-add-mod-self-right s 16 t ∙ mod-eq-of-lt h
-
--- ---- sums
-pub tot-more : (f : ℕ → ℕ) (i : ℕ) → tot f (range (i + 1)) ≡ tot f (range i) + f i
-tot-more f i = ap (tot f) (range-more i) ∙ tot-append f (range i) (i ∷ [])
-    ∙ ap (λ k. tot f (range i) + k) (add-zero (f i))
-
+-- ---- a term of a sum
 pub term-small : (a b : ℕ) → a ≤ 256 → b ≤ 16 → a * b ≤ 4096
 term-small a b h k = mul-le-mul h k
 
@@ -80,7 +63,7 @@ module _ (P A : List ℕ) (words K : ℕ) (few : K ≤ 16)
   count-at : (s t : ℕ) → s < K → t < K → getD A (s * 16 + t) 0 ≡ wordsBetween g s t
   count-at s t h l =
       is (s * 16 + t) (omega arith)
-      ∙ ap₂ (wordCount P words) (place-state s t (omega arith)) (place-target s t (omega arith))
+      ∙ ap₂ (wordCount P words) (quotient-of 16 s t (omega arith)) (remainder-of 16 s t (omega arith))
       ∙ sym (between-count P words K s t h (λ e. omega arith))
 
   module _ (n : ℕ) (v : List ℕ) (long : length v ≡ 16) where

@@ -3,7 +3,7 @@ use mathlib.Core.Path.{_≡_, refl, subst}
 use Prim.Native.Nat.{_-_, _≤_}
 use native.Mathlib.Omega.{arith}
 use lib.ListN.{length, getD}
-use Rattle.graph.proofs.CodeLists.{Filled, fill-none, fill-more}
+use Rattle.laws.proofs.Arrays.{Filled, fill-none, fill-more}
 use Rattle.component.proofs.CodeTotals.{weights-filled}
 use borrow.Author.Needs.{needs}
 use Rattle.component.proofs.component_graph.with_weights.Statement.{statement}

@@ -4,7 +4,7 @@ use mathlib.Core.Logic.{⊎-elim}
 use Prim.Native.Nat.{_-_, _≤_}
 use native.Mathlib.Omega.{arith}
 use Rattle.finish.specs.Finishing.{rank}
-use Rattle.graph.proofs.CodeLists.{Filled, fill-none, fill-more}
+use Rattle.laws.proofs.Arrays.{Filled, fill-none, fill-more}
 use Rattle.finish.proofs.Ranks.{rank-none, rank-yes, rank-no}
 use borrow.Author.Needs.{needs}
 use Rattle.finish.proofs.finish_table.ranks.Statement.{statement}

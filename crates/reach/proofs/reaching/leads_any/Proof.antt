@@ -5,12 +5,11 @@ use mathlib.Core.Bool.{true, false, _&&_}
 use Prim.Native.Nat.{_+_, _-_, _*_, _≤_}
 use native.Mathlib.Omega.{arith}
 use denote.Ref.{now}
-use lib.Dec.{T}
 use lib.ListN.{getD}
 use Rattle.laws.specs.Lists.{range, any}
 use Rattle.laws.proofs.Tests.{T→true, →any-below}
 use Rattle.reach.specs.ReachSets.{passesOn}
-use Rattle.reach.proofs.CodeReach.{any-range-no}
+use Rattle.laws.proofs.Ranges.{any-range-no}
 use borrow.Author.Needs.{needs}
 use Rattle.reach.proofs.reaching.leads_any.Statement.{statement}
 use Rattle.reach.proofs.reaching.leads_any.Tie as tie

@@ -6,7 +6,7 @@ use denote.Ref.{now}
 use lib.ListN.{getD}
 use Rattle.laws.specs.Lists.{range, any}
 use Rattle.reach.specs.ReachSets.{passesOn}
-use Rattle.graph.proofs.CodeLists.{Filled, fill-none, fill-more}
+use Rattle.laws.proofs.Arrays.{Filled, fill-none, fill-more}
 use borrow.Author.Needs.{needs}
 use Rattle.reach.proofs.reaching.reach_step.Statement.{statement}
 use Rattle.reach.proofs.reaching.reach_step.Tie as tie

@@ -4,7 +4,7 @@ use mathlib.Core.Bool.{false}
 use Prim.Native.Nat.{_-_, _/_, _%_, _≤_}
 use native.Mathlib.Omega.{arith}
 use lib.Dec.{eqb}
-use Rattle.graph.proofs.CodeLists.{Filled, fill-none, fill-more}
+use Rattle.laws.proofs.Arrays.{Filled, fill-none, fill-more}
 use borrow.Author.Needs.{needs}
 use Rattle.reach.proofs.reaching.themselves.Statement.{statement}
 use Rattle.reach.proofs.reaching.themselves.Tie as tie

@@ -3,7 +3,7 @@ use Prim.Native.Nat.{_-_, _≤_}
 use native.Mathlib.Omega.{arith}
 use denote.Ref.{now}
 use Rattle.weights.specs.PowerTable.{lowerBy}
-use Rattle.graph.proofs.CodeLists.{Filled, fill-none, fill-more}
+use Rattle.laws.proofs.Arrays.{Filled, fill-none, fill-more}
 use borrow.Author.Needs.{needs}
 use Rattle.weights.proofs.state_weights.lower_weights.Statement.{statement}
 use Rattle.weights.proofs.state_weights.lower_weights.Tie as tie
