@@ -1,8 +1,10 @@
--- Answers as numbers of 64 bits fit.
--- In order: number-le, set-number-le.
+-- Answers as numbers of 64 bits fit, and their parts are got back.
+-- In order: number-le, set-number-le; joined-parts.
 -- Assumes nothing.
-use Prim.Native.Nat.{_≤_}
+use mathlib.Core.Path.{_≡_}
+use Prim.Native.Nat.{ℕ, _+_, _*_, _/_, _%_, _^_, _≤_, _<_, min}
 use native.Mathlib.Omega.{arith}
+use lib.Arith.{digits-div, digits-mod}
 use Rattle.answer.specs.declared.Answer.{Answer}
 use Rattle.answer.specs.declared.Answer.the-variants.{Done, Refused}
 use Rattle.answer.specs.Refusals.{most}
@@ -11,6 +13,7 @@ use Rattle.answer.proofs.Cases.{number-most}
 use Rattle.sets.specs.declared.SetAnswer.{SetAnswer}
 use Rattle.sets.specs.declared.SetAnswer.the-variants.{Good, Bad}
 use Rattle.sets.specs.Results.{setNumber}
+use Rattle.api.specs.Words.{held, joined}
 
 pub number-le : (a : Answer) → answerNumber a ≤ most
 number-le (Done n) = omega arith
@@ -19,3 +22,10 @@ number-le (Refused r) = number-most r
 pub set-number-le : (a : SetAnswer) → setNumber a ≤ most
 set-number-le (Good n) = omega arith
 set-number-le (Bad i r) = number-most r
+
+-- a number and a held value are got back from their word
+pub joined-parts : (n v : ℕ) → (joined n v / 2 ^ 56 ≡ n) × (joined n v % 2 ^ 56 ≡ held v)
+joined-parts n v = (digits-div n less, digits-mod n less)
+  where
+    less : held v < 72057594037927936
+    less = omega arith
