@@ -1,2 +1,3 @@
 pub mod Main
+pub mod Extensions
 pub mod Examples

@@ -1,140 +1,220 @@
--- The main theorems, each written out in full; its proof is one citation.
--- In order: no-code, greatest, each-split, splits-end, shortest-idle, least-window, no-window, compiled-passes,
--- checker-exact, record-order, records, returns, recognised, demand-3, local, different-data, sets.
+-- The main theorems, each written out in full; its proof is one citation. A `Kind` is one of the two kinds of job.
+-- In order: allowed, no-code, greatest, component, each-split, splits-end, shortest-idle, least-window, refusals,
+-- calls, written, max-record, compiled-passes; checker-exact, record-order, records; encodes, decodes, returns,
+-- recognised, one-datum, demand-3, reach, local, different-data, loaded; sets, good-places; words.
 -- Assumes nothing.
 use mathlib.Core.Path.{_≡_}
-use mathlib.Core.Logic.{_↔_}
+use mathlib.Core.Logic.{_⊎_, _↔_}
 use mathlib.Core.List.{List, []}
-use Prim.Native.Nat.{ℕ, _+_, _-_, _/_, _^_, _≤_, _<_}
+use Prim.Native.Nat.{ℕ, suc, _+_, _-_, _/_, _%_, _^_, _≤_, _<_}
 use lib.Dec.{T}
 use lib.ListN.{length, getD, take, drop}
-use Rattle.laws.specs.Lists.{sum}
+use Rattle.laws.specs.Lists.{sum, elem}
 use Rattle.laws.specs.Sums.{Below}
-use Rattle.answer.specs.declared.Refusal.the-variants.{NoCode, NoWindow}
+use Rattle.answer.specs.declared.Refusal.{Refusal}
+use Rattle.answer.specs.declared.Refusal.the-variants.{NoCode, TooHeavy, TooManyEdges, NoWindow, ShortOutput}
+use Rattle.answer.specs.declared.Refusal.the-variants.{Disobeys, WindowFails}
+use Rattle.answer.specs.Refusals.{numberOf}
 use Rattle.answer.specs.Outcomes.{done, refused}
+use Rattle.table.specs.declared.Table.{Table}
 use Rattle.table.specs.Rows.{Size, Code}
 use Rattle.table.specs.Paths.{Blocks, recording}
+use Rattle.table.specs.Value.{codeIn, ready}
+use Rattle.table.specs.Formed.{formed, Formed}
 use Rattle.windows.specs.Window.{Window, NoLater}
-use Rattle.table.specs.Formed.{formed}
+use Rattle.obeying.specs.Obeys.{Obeys, Breaks}
 use Rattle.checker.specs.Accepted.{Accepted}
 use Rattle.record.specs.Layout.{pack}
 use Rattle.checker.specs.Parse.{parse, judged, checkedOnly}
-use Rattle.checker.proofs.Parse.{parse-pack}
 use Rattle.checker.specs.Reasons.{Reason}
-use Rattle.checker.proofs.Reasons.{reason}
-use Rattle.checker.proofs.Accepted.{check-exact, parse-canonical}
-use Rattle.reading.specs.Reading.{mark, block}
+use Rattle.reading.specs.Reading.{mark, block, decode}
 use Rattle.codec.specs.Answers.{encodeUnder, decodeUnder}
-use Rattle.codec.specs.Damage.{StandsClear, Recording}
-use Rattle.codec.proofs.Local.{block-local, block-local-start}
-use Rattle.codec.proofs.Promises as codec
-use Rattle.graph.specs.Arcs.{Arc, Work, out}
-use Rattle.graph.specs.Weights.{AtMost, total}
-use Rattle.graph.specs.Splitting.{stretch, divisible, chosen, kept, unfinished}
-use Rattle.graph.specs.Invariant.{Inv, Part}
-use Rattle.graph.proofs.Split.{split-part}
-use Rattle.graph.proofs.RunUnique as runs
-use Rattle.job.specs.Jobs.{Job, readJob, readRunLength, Allowed}
-use Rattle.compiler.specs.Compile.{ways, Vector, weightsOf, componentOf, finishedOf, tableFor, compile, compileJob}
-use Rattle.compiler.specs.Compile.{compileRunLength}
-use Rattle.compiler.proofs.Compile.{no-code-exact, weights-vector, greatest-vector}
-use Rattle.compiler.proofs.Promises as compiler
+use Rattle.codec.specs.With.{encodedWith, decodedWith}
+use Rattle.codec.specs.Found.{found}
+use Rattle.codec.specs.Damage.{StandsClear, Recording, SameOutside}
+use Rattle.graph.specs.Arcs.{Arc, out}
+use Rattle.graph.specs.Weights.{AtMost}
+use Rattle.graph.specs.Component.{within, live, componentStates}
+use Rattle.graph.specs.Reachable.{Reachable, ReachedBack}
+use Rattle.graph.specs.Splitting.{sort, chosen, candidates, stretch, divisible, kept, split, goesOn, splits}
+use Rattle.graph.specs.Rule.{Rule}
+use Rattle.job.specs.Jobs.{Job, Allowed}
+use Rattle.compiler.specs.Compile.{ways, graphOf, Vector, weightsOf, componentOf, finishedOf, tableFor, code, compile}
+use Rattle.compiler.specs.Kinds.{Kind, readAs, compileAs}
+use Rattle.sets.specs.declared.Place.the-variants.{At}
 use Rattle.sets.specs.Sets.{codes, readSet, writeSet, Readable}
-use Rattle.sets.proofs.Sets.{set-back, set-canonical}
+use Rattle.sets.specs.Offsets.{recordPlace}
+use Rattle.api.specs.Words.{held, joined}
 
--- The compiler says "no code" exactly when no vector of whole numbers from 0 to cap, not all 0, meets the inequality.
-pub no-code : (j : Job) → Allowed j
-    → (compile j ≡ refused NoCode) ↔ ((u : List ℕ) → Vector j u → (s : ℕ) → getD u s 0 ≡ 0)
-no-code = no-code-exact
+-- A job that is read from bytes is allowed: what is said below of allowed jobs holds of every call.
+pub allowed : (k : Kind) (xs : List ℕ) (j : Job) → readAs k xs ≡ done j → Allowed j
+allowed = Rattle.compiler.proofs.Written.as-allowed
+
+-- "No code" is said exactly when no vector of numbers from 0 to cap, not all 0, meets the inequality; from bytes too.
+pub no-code : ((j : Job) → Allowed j
+    → (compile j ≡ refused NoCode) ↔ ((u : List ℕ) → Vector j u → (s : ℕ) → getD u s 0 ≡ 0))
+    × ((k : Kind) (xs : List ℕ) (room : ℕ) → (compileAs k xs room ≡ refused NoCode)
+    ↔ ((j : Job) × (readAs k xs ≡ done j) × ((u : List ℕ) → Vector j u → (s : ℕ) → getD u s 0 ≡ 0)))
+no-code = (Rattle.compiler.proofs.Compile.no-code-exact, Rattle.compiler.proofs.Written.none)
 
 -- Otherwise it uses the greatest one: the weights meet the inequality, and every other vector is at most the weights.
 pub greatest : (j : Job) → Vector j (weightsOf j) × ((u : List ℕ) → Vector j u → AtMost u (weightsOf j))
-greatest j = (weights-vector j, greatest-vector j)
+greatest j = (Rattle.compiler.proofs.Compile.weights-vector j, Rattle.compiler.proofs.Compile.greatest-vector j)
 
--- While some state has fewer than n edges the rule's state, list and run exist: the run sums to n × w, 0 < w < M.
-pub each-split : (n S : ℕ) (x : Work) → 0 < n → Inv n S x → T (unfinished n x)
-    → let s = chosen (x .weights) (x .arcs) in let keep = kept n (x .weights) (x .arcs) s in
-    Part n x s keep (total (x .weights) keep / n)
-each-split = split-part
+-- The component is what its first state reaches: the lowest, of weight above 0, that all states it reaches reach back.
+pub component : (j : Job) → Allowed j → 0 < sum (componentOf j .weights)
+    → let v = weightsOf j in let g = within (live v) (graphOf j) in let C = componentStates v (graphOf j) in
+    let s = getD C 0 0 in
+    (0 < getD v s 0) × ReachedBack g s × ((u : ℕ) → u < s → 0 < getD v u 0 → ReachedBack g u → ⊥)
+    × ((t : ℕ) → T (elem t C) ↔ Reachable g s t)
+component j a h = let c = Rattle.compiler.proofs.ByRule.component j a h in (c .live, c .back, c .lowest, c .states)
+
+-- Each graph that splitting passes through is split by the rule's state, list and run; the last is the finished one.
+pub each-split : (j : Job) → Allowed j → 0 < sum (componentOf j .weights) → (k : ℕ)
+    → let n = ways j in let x = splits k n (componentOf j) in let s = chosen (x .weights) (x .arcs) in
+    (T (goesOn n x) → (splits (suc k) n (componentOf j) ≡ split n x)
+    × Rule n x s (candidates n (x .weights) (getD (x .weights) s 0) (sort (out (x .arcs) s)))
+    (kept n (x .weights) (x .arcs) s)) × ((T (goesOn n x) → ⊥) → finishedOf j ≡ x)
+each-split = Rattle.compiler.proofs.ByRule.splits-by-rule
 
 -- Splitting ends, with no more states than the component's weights sum to, and n edges a state or refusal 5.
 pub splits-end : (j : Job) → Allowed j → 0 < sum (componentOf j .weights)
-    → (length (finishedOf j .weights) ≤ sum (componentOf j .weights))
-    × (length (finishedOf j .arcs) ≤ 2048
+    → (length (finishedOf j .weights) ≤ sum (componentOf j .weights)) × (length (finishedOf j .arcs) ≤ 2048
     → (s : ℕ) → s < length (finishedOf j .weights) → ways j ≤ length (out (finishedOf j .arcs) s))
-splits-end = compiler.split-ends
+splits-end = Rattle.compiler.proofs.Promises.split-ends
 
 -- "And of those the shortest" never decides: of the runs that end first there is one only.
 pub shortest-idle : (n : ℕ) (v : List ℕ) (es : List Arc) (j i i′ : ℕ)
     → ((k d : ℕ) → k < j → d ≤ k → T (divisible n v (stretch es k d)) → ⊥)
     → i ≤ j → i′ ≤ j → T (divisible n v (stretch es j i)) → T (divisible n v (stretch es j i′)) → i ≡ i′
-shortest-idle = runs.shortest-idle
+shortest-idle = Rattle.graph.proofs.RunUnique.shortest-idle
 
 -- The window written does what a window must, and is the first of all that do: least m + a, then least a.
-pub least-window : (j : Job) → Allowed j → (c : Code) → compile j ≡ done c
-    → Window (c .table) (c .window)
+pub least-window : (j : Job) → Allowed j → (c : Code) → compile j ≡ done c → Window (c .table) (c .window)
     × ((y : Size) → y .memory ≤ 15 → y .lookahead ≤ 15 → Window (c .table) y → NoLater (c .window) y)
-least-window = compiler.least-window
+least-window = Rattle.compiler.proofs.Promises.least-window
 
--- Refusal 6 comes exactly when no window up to 15 and 15 does what a window must.
-pub no-window : (j : Job) → Allowed j → 0 < sum (componentOf j .weights) → sum (componentOf j .weights) ≤ 128
-    → length (finishedOf j .arcs) ≤ 2048
-    → (compile j ≡ refused NoWindow) ↔ ((y : Size) → y .memory ≤ 15 → y .lookahead ≤ 15 → Window (tableFor j) y → ⊥)
-no-window = compiler.no-window-exact
+-- Refusals 4 (weight over 128), 5 (over 2,048 edges) and 6 (no window) come exactly where due and none before is.
+pub refusals : (j : Job) → Allowed j → let w = sum (componentOf j .weights) in let e = length (finishedOf j .arcs) in
+    ((compile j ≡ refused TooHeavy) ↔ (128 < w))
+    × ((compile j ≡ refused TooManyEdges) ↔ ((0 < w) × (w ≤ 128) × (2048 < e)))
+    × ((compile j ≡ refused NoWindow) ↔ ((0 < w) × (w ≤ 128) × (e ≤ 2048)
+    × ((y : Size) → y .memory ≤ 15 → y .lookahead ≤ 15 → Window (tableFor j) y → ⊥)))
+refusals = Rattle.compiler.proofs.Exact.refusals
+
+-- From bytes, 3 to 6 come exactly when the job's compiling is refused so, 13 when its record is longer than the room.
+pub calls : (k : Kind) (xs : List ℕ) (room : ℕ) → ((r : Refusal) → 3 ≤ numberOf r → numberOf r ≤ 6
+    → (compileAs k xs room ≡ refused r) ↔ ((j : Job) × (readAs k xs ≡ done j) × (compile j ≡ refused r)))
+    × ((compileAs k xs room ≡ refused ShortOutput)
+    ↔ ((j : Job) × (c : Code) × (readAs k xs ≡ done j) × (compile j ≡ done c) × (room < length (pack c))))
+calls k xs room = (Rattle.compiler.proofs.Written.calls k xs room, Rattle.compiler.proofs.Written.short k xs room)
+
+-- With a vector not all 0, within the limits, with some window up to 15 and 15 and room, the job's record is written.
+pub written : (k : Kind) (xs : List ℕ) (room : ℕ) (j : Job) → readAs k xs ≡ done j
+    → (u : List ℕ) → Vector j u → (s : ℕ) → 0 < getD u s 0 → sum (componentOf j .weights) ≤ 128
+    → length (finishedOf j .arcs) ≤ 2048 → (y : Size) → y .memory ≤ 15 → y .lookahead ≤ 15 → Window (tableFor j) y
+    → length (pack (code j (tableFor j))) ≤ room → compileAs k xs room ≡ done (pack (code j (tableFor j)))
+written = Rattle.compiler.proofs.Written.written
+
+-- A record has at most 3,864 bytes, so with that room the compiler never says 13.
+pub max-record : ((c : Code) → Formed c → length (pack c) ≤ 3864)
+    × ((k : Kind) (xs : List ℕ) (room : ℕ) → 3864 ≤ room → compileAs k xs room ≡ refused ShortOutput → ⊥)
+max-record = (Rattle.record.proofs.RecordBytes.pack-short, Rattle.compiler.proofs.Written.never-short)
 
 -- The compiler's record always passes the checker, and is read as the code that was compiled: from bytes to bytes.
-pub compiled-passes : (xs : List ℕ) (room : ℕ) (r : List ℕ)
-    → (compileJob xs room ≡ done r
-    → (j : Job) × (c : Code) × (readJob xs ≡ done j) × (compile j ≡ done c) × (pack c ≡ r) × (parse r ≡ done c))
-    × (compileRunLength xs room ≡ done r
-    → (j : Job) × (c : Code) × (readRunLength xs ≡ done j) × (compile j ≡ done c) × (pack c ≡ r) × (parse r ≡ done c))
-compiled-passes xs room r = (compiler.job-passes xs room r, compiler.run-length-passes xs room r)
+pub compiled-passes : (k : Kind) (xs : List ℕ) (room : ℕ) (r : List ℕ) → compileAs k xs room ≡ done r
+    → (j : Job) × (c : Code) × (readAs k xs ≡ done j) × (compile j ≡ done c) × (pack c ≡ r) × (parse r ≡ done c)
+compiled-passes = Rattle.compiler.proofs.Written.passes
 
 -- The checker accepts exactly the tables whose every recording obeys and whose every window settles its block.
 pub checker-exact : (xs : List ℕ) → Below 256 xs
     → (checkedOnly xs ≡ done []) ↔ ((c : Code) × T (formed c) × (pack c ≡ xs) × Accepted c)
-checker-exact = check-exact
+checker-exact = Rattle.checker.proofs.Accepted.check-exact
 
--- Each refusal of a record comes exactly where the order says: 8, 7, 8, 7, 9, 10.
-pub record-order : (xs : List ℕ) → Reason xs (parse xs)
-record-order = reason
+-- A record is refused in order: 8, 7, 8, 7; 9 exactly if a recording breaks the constraint, 10 if the window fails.
+pub record-order : (xs : List ℕ) → Below 256 xs → Reason xs (parse xs)
+    × ((parse xs ≡ refused Disobeys) ↔ ((c : Code) × T (formed c) × (pack c ≡ xs) × Breaks c))
+    × ((parse xs ≡ refused WindowFails)
+    ↔ ((c : Code) × T (formed c) × (pack c ≡ xs) × Obeys c × (Window (c .table) (c .window) → ⊥)))
+record-order = Rattle.checker.proofs.Meanings.order
 
 -- A record is read as it was written, up to refusals 9 and 10, and written as it was read.
 pub records : ((c : Code) → T (formed c) → parse (pack c) ≡ judged c)
     × ((xs : List ℕ) → Below 256 xs → (c : Code) → parse xs ≡ done c → pack c ≡ xs)
-records = (parse-pack, parse-canonical)
+records = (Rattle.checker.proofs.Parse.parse-pack, Rattle.checker.proofs.Accepted.parse-canonical)
+
+-- Under an accepted record good blocks and room give their recording, N + a words for N blocks.
+pub encodes : (rec : List ℕ) (c : Code) → parse rec ≡ done c → (room : ℕ) (ds : List ℕ) → Blocks c ds
+    → length ds + c .window .lookahead ≤ room → (encodeUnder rec room ds ≡ done (recording c ds))
+    × (length (recording c ds) ≡ length ds + c .window .lookahead)
+encodes = Rattle.codec.proofs.Done.encodes
+
+-- And a or more good words and room give the blocks that the reading rule makes of them, W − a for W words.
+pub decodes : (rec : List ℕ) (c : Code) → parse rec ≡ done c → (room : ℕ) (L : List ℕ) → Below (2 ^ c .q) L
+    → c .window .lookahead ≤ length L → length L - c .window .lookahead ≤ room
+    → (decodeUnder rec room L ≡ done (decode c L)) × (length (decode c L) ≡ length L - c .window .lookahead)
+decodes = Rattle.codec.proofs.Done.decodes
 
 -- Decoding a recording returns its data.
 pub returns : (rec : List ℕ) → Below 256 rec → (room room′ : ℕ) (ds R : List ℕ) → length ds ≤ room′
     → encodeUnder rec room ds ≡ done R → decodeUnder rec room′ R ≡ done ds
-returns = codec.demand-2-returns
+returns = Rattle.codec.proofs.Promises.demand-2-returns
 
 -- A list of words is a recording exactly when encoding its decoded blocks rebuilds it.
 pub recognised : (rec : List ℕ) → Below 256 rec → (c : Code) → parse rec ≡ done c → (room : ℕ) (L : List ℕ)
-    → length L ≤ room → Recording c L
-    ↔ ((ds : List ℕ) × (decodeUnder rec room L ≡ done ds) × (encodeUnder rec room ds ≡ done L))
-recognised = codec.demand-2-recognised
+    → length L ≤ room
+    → Recording c L ↔ ((ds : List ℕ) × (decodeUnder rec room L ≡ done ds) × (encodeUnder rec room ds ≡ done L))
+recognised = Rattle.codec.proofs.Promises.demand-2-recognised
+
+-- Under an accepted record all readings of a block whose window lies in the list are one datum, for any words.
+pub one-datum : (rec : List ℕ) → Below 256 rec → (c : Code) → parse rec ≡ done c → (L : List ℕ) (j : ℕ)
+    → j + c .window .lookahead < length L → (d e : ℕ) → T (elem d (found c L j)) → T (elem e (found c L j)) → d ≡ e
+one-datum = Rattle.codec.proofs.Reach.only-datum
 
 -- Demand 3: every block that stands clear is decoded exactly as written, whatever the rest of the list holds.
 pub demand-3 : (rec : List ℕ) → Below 256 rec → (c : Code) → parse rec ≡ done c → (ds L : List ℕ) (room : ℕ)
     → Blocks c ds → Below (2 ^ c .q) L → c .window .lookahead ≤ length L → length L - c .window .lookahead ≤ room
     → (out : List ℕ) × (decodeUnder rec room L ≡ done out)
     × ((i j : ℕ) → i < length ds → StandsClear c (recording c ds) L i j → getD out j mark ≡ getD ds i 0)
-demand-3 = codec.demand-3
+demand-3 = Rattle.codec.proofs.Promises.demand-3
+
+-- If L and the recording differ in no word outside x to y, blocks outside x − a to y + m come out as written.
+pub reach : (rec : List ℕ) → Below 256 rec → (c : Code) → parse rec ≡ done c → (ds L : List ℕ) → Blocks c ds
+    → Below (2 ^ c .q) L → (x y room : ℕ) → SameOutside x y L (recording c ds) → length ds ≤ room
+    → (out : List ℕ) × (decodeUnder rec room L ≡ done out) × ((j : ℕ) → j < length ds
+    → (j < x - c .window .lookahead) ⊎ (y + c .window .memory < j) → getD out j mark ≡ getD ds j 0)
+reach = Rattle.codec.proofs.Reach.words-reach
 
 -- The reading of a block depends on its window alone: on words j − m to j + a, and below m on words 0 to j + a.
 pub local : (c : Code) → let m = c .window .memory in let a = c .window .lookahead in
     ((L L′ : List ℕ) (j j′ : ℕ) → m ≤ j → m ≤ j′
     → take (m + 1 + a) (drop (j - m) L) ≡ take (m + 1 + a) (drop (j′ - m) L′) → block c L j ≡ block c L′ j′)
     × ((L L′ : List ℕ) (j : ℕ) → j < m → take (j + 1 + a) L ≡ take (j + 1 + a) L′ → block c L j ≡ block c L′ j)
-local c = (block-local c, block-local-start c)
+local c = (Rattle.codec.proofs.Local.block-local c, Rattle.codec.proofs.Local.block-local-start c)
 
 -- Recordings of different data differ.
 pub different-data : (rec : List ℕ) → Below 256 rec → (room room′ : ℕ) (ds es R : List ℕ)
     → encodeUnder rec room ds ≡ done R → encodeUnder rec room′ es ≡ done R → ds ≡ es
-different-data = codec.different-data
+different-data = Rattle.codec.proofs.Promises.different-data
 
--- A set of readable codes is read as it was written, and a set that the walk accepts is written as it was read.
-pub sets : ((cs : List Code) → Readable cs → readSet (writeSet cs) ≡ codes cs)
-    × ((xs : List ℕ) (cs : List Code) → Below 256 xs → readSet xs ≡ codes cs → (writeSet cs ≡ xs) × Readable cs)
-sets = (set-back, set-canonical)
+-- A table by value that is ready and whose code the record holds encodes and decodes as the record does.
+pub loaded : (rec : List ℕ) (t : Table) → T (ready t) → parse rec ≡ done (codeIn t) → (room : ℕ) (ys : List ℕ)
+    → (encodedWith t room ys ≡ encodeUnder rec room ys) × (decodedWith t room ys ≡ decodeUnder rec room ys)
+loaded = Rattle.codec.proofs.Done.loaded
+
+-- Up to 255 readable codes are written as bytes and read back; a set that is walked to its end is such a set.
+pub sets : ((cs : List Code) → length cs ≤ 255 → Readable cs
+    → Below 256 (writeSet cs) × (readSet (writeSet cs) ≡ codes cs))
+    × ((xs : List ℕ) (cs : List Code) → Below 256 xs → readSet xs ≡ codes cs
+    → (length cs ≤ 255) × (writeSet cs ≡ xs) × Readable cs)
+sets = (Rattle.sets.proofs.Counts.set-written, Rattle.sets.proofs.Counts.set-walked)
+
+-- In a good set record i stands at the place of number i, and its bytes hold code i.
+pub good-places : (s : List ℕ) (cs : List Code) → readSet s ≡ codes cs → (length cs ≡ getD s 0 0)
+    × ((i : ℕ) (d : Code) → i < length cs → (start : ℕ) × (len : ℕ)
+    × (recordPlace s i ≡ At start len) × (parse (take len (drop start s)) ≡ done (getD cs i d)))
+good-places = Rattle.sets.proofs.Records.good-places
+
+-- The word that a call for C answers gives back its number by / 2^56 and its value, held to 2^56 − 1, by % 2^56.
+pub words : (number value : ℕ) → (joined number value / 2 ^ 56 ≡ number) × (joined number value % 2 ^ 56 ≡ held value)
+words = Rattle.api.proofs.Words.joined-parts

@@ -1,0 +1,3 @@
+-- The theorems of what was asked for after the first delivery, each written out in full as on the main page.
+-- In order: none yet.
+-- Assumes nothing.
