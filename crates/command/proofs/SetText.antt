@@ -13,6 +13,7 @@ use Rattle.laws.specs.Lists.{if_then_else_, range}
 use Rattle.laws.proofs.Tests.{length-from}
 use Rattle.text.specs.Texts.{Added}
 use Rattle.text.proofs.Adding.{added-same, added-more}
+use Rattle.text.proofs.Rows.{concat-more}
 use Rattle.answer.specs.declared.Refusal.{Refusal}
 use Rattle.answer.specs.Outcomes.{Outcome, done, refused, verdictOn}
 use Rattle.table.specs.declared.Table.{Table}
@@ -25,7 +26,6 @@ use Rattle.sets.specs.declared.Place.{Place}
 use Rattle.sets.specs.declared.Place.the-variants.{At, Nowhere}
 use Rattle.sets.specs.Offsets.{placeAt, offsetOf, recordPlace}
 use Rattle.sets.proofs.Offsets.{place→}
-use Rattle.compiler.proofs.Lines.{concat-more}
 use Rattle.command.specs.SetText.{placeText, kindText, recordLine, placedLine, recordText, linesTo}
 
 -- ---- where a record stands

@@ -1,19 +1,19 @@
--- The fewest digits that hold a number are as many as it has.
--- In order: Sized, size-sized; fewest-size; decimal-is, hex-is.
+-- The fewest digits that hold a number are as many as it has; and how many that can be.
+-- In order: Sized, size-sized; fewest-size; decimal-is, hex-is; decimal-long, decimal-short.
 -- Assumes nothing.
 use mathlib.Core.Path.{_≡_, refl, sym, ap, subst, _∙_}
 use mathlib.Core.Bool.{Bool, true, false}
-use mathlib.Core.List.{List}
-use Prim.Native.Nat.{ℕ, zero, suc, _+_, _*_, _-_, _/_, _^_, _≤_, _<_, min, max}
+use mathlib.Core.List.{List, [], _∷_}
+use Prim.Native.Nat.{ℕ, zero, suc, _+_, _*_, _-_, _/_, _%_, _^_, _≤_, _<_, min, max}
 use native.Mathlib.Nat.{pow-suc, pow-zero, pow-le-pow-right, le-div-iff-mul-le, div-lt-iff-lt-mul}
 use native.Mathlib.Nat.{max-eq-left, max-eq-right, one-mul, le-max-right, min-eq-left, min-eq-right}
 use native.Mathlib.Omega.{arith}
 use native.Mathlib.Decide.{decLt, decLe}
 use borrow.Author.Tests.{ltb-true, ltb-false}
 use lib.Dec.{ltb}
-use lib.ListN.{length, take}
+use lib.ListN.{length, length-append}
 use Rattle.laws.specs.Lists.{if_then_else_}
-use Rattle.io.specs.Digits.{digits, Fewest}
+use Rattle.io.specs.Digits.{glyph, digits, Fewest}
 use Rattle.text.specs.Texts.{size, decimal, hex}
 
 -- s digits hold n, and no fewer do
@@ -68,7 +68,7 @@ module _ (b : ℕ) (two : 1 < b) where
       go f true e = one-digit n (ltb-true n b e)
       go f false e = more-digits n _ (ltb-false n b e) (f less)
 
-  pow-less : (x y : ℕ) → b ^ x < b ^ y → x < y
+  pub pow-less : (x y : ℕ) → b ^ x < b ^ y → x < y
   pow-less x y h = go (decLt x y)
     where
       go : Dec (x < y) → x < y
@@ -125,3 +125,39 @@ hex-is w n r h f =
         go : Dec (m ≤ 16) → 1 ≤ min m 16
         go (yes l) = subst (λ k. 1 ≤ k) (sym (min-eq-left l)) h
         go (no l) = let e : min m 16 ≡ 16 = min-eq-right (let k : 16 ≤ m = omega arith in k) in omega arith
+
+-- ---- how many digits there can be
+length-digits : (b k n : ℕ) → length (digits b k n) ≡ k
+length-digits b zero n = refl
+length-digits b (suc k) n =
+    let l = length-append (digits b k (n / b)) (glyph (n % b) ∷ []) in
+    let e = length-digits b k (n / b) in
+    omega arith
+
+size-most : (b k n : ℕ) → size b k n ≤ k
+size-most b zero n = omega arith
+size-most b (suc k) n = go (ltb n b) (size-most b k (n / b))
+  where
+    go : (t : Bool) → size b k (n / b) ≤ k → (if t then 1 else suc (size b k (n / b))) ≤ suc k
+    go true h = omega arith
+    go false h = omega arith
+
+pub decimal-long : (n : ℕ) → length (decimal n) ≤ 20
+unfolding decimal
+decimal-long n = omega (arith, length-digits 10 (size 10 20 n) n, size-most 10 20 n)
+
+pub decimal-short : (n : ℕ) → n < 1000 → length (decimal n) ≤ 3
+unfolding decimal
+decimal-short n h =
+    let l = few (size 10 20 n) (size-sized 10 (omega arith) 19 n (omega arith)) in
+    omega (arith, length-digits 10 (size 10 20 n) n)
+  where
+    few : (s : ℕ) → Sized 10 n s → s ≤ 3
+    few s z = go (decLe s 3)
+      where
+        go : Dec (s ≤ 3) → s ≤ 3
+        go (yes l) = l
+        go (no l) =
+            let g = z .least (omega arith) in
+            let k = pow-less 10 (omega arith) (s - 1) 3 (omega arith) in
+            absurd (omega arith)

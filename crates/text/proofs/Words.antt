@@ -1,20 +1,37 @@
--- When two texts are the same.
--- In order: same-refl, same→; other-length; same-on, same-off, same-end, place by place.
+-- Words in binary digit by digit, and when two texts are the same.
+-- In order: bit-none, bit-one; binary-more; length-binary; same-refl, same→, same-is.
 -- Assumes nothing.
 use mathlib.Core.Path.{_≡_, refl, sym, ap, ap₂, subst, _∙_}
 use mathlib.Core.Bool.{Bool, true, false}
-use mathlib.Core.List.{List, [], _∷_}
-use Prim.Native.Nat.{ℕ, zero, suc, _+_, _<_}
-use native.Mathlib.Numerals.{add-one}
+use mathlib.Core.List.{List, [], _∷_, _++_, append-assoc}
+use Prim.Native.Nat.{ℕ, zero, suc, _-_, _/_, _%_, _^_, _<_}
 use native.Mathlib.Omega.{arith}
-use borrow.Author.Tests.{eqb-true, eq-eqb, ne-eqb}
+use borrow.Author.Tests.{eqb-true, eq-eqb}
 use lib.Dec.{T, eqb}
-use lib.ListN.{length, getD, drop}
-use lib.Seq.{drop-cons, drop-length}
+use lib.ListN.{length, length-map}
 use Rattle.laws.specs.Lists.{if_then_else_}
-use Rattle.text.specs.Words.{same}
+use Rattle.bits.specs.Fields.{bits}
+use Rattle.bits.proofs.Fields.{length-bits}
+use Rattle.text.specs.Words.{digit, binary, same}
 
--- ---- what the test means
+-- ---- words in binary
+pub bit-none : (b : ℕ) → b ≡ 0 → 48 ∷ [] ≡ digit b ∷ []
+bit-none b e = ap (λ x. digit x ∷ []) (sym e)
+
+pub bit-one : (x : ℕ) → (x % 2 ≡ 0 → ⊥) → 49 ∷ [] ≡ digit (x % 2) ∷ []
+bit-one x h = let e : 1 ≡ x % 2 = omega arith in ap (λ y. digit y ∷ []) e
+
+pub binary-more : (X : List ℕ) (q k w : ℕ) → 0 < k → X ++ binary k w ≡ binary q w
+    → (X ++ (digit (w / 2 ^ (k - 1) % 2) ∷ [])) ++ binary (k - 1) w ≡ binary q w
+binary-more X q zero w h e = absurd (omega arith)
+binary-more X q (suc k) w h e =
+    let z : suc k - 1 ≡ k = omega arith in
+    rw z (append-assoc X (digit (w / 2 ^ k % 2) ∷ []) (binary k w) ∙ e)
+
+pub length-binary : (q w : ℕ) → length (binary q w) ≡ q
+length-binary q w = length-map (bits q w) digit ∙ length-bits q w
+
+-- ---- the same text
 pub same-refl : (xs : List ℕ) → same xs xs ≡ true
 unfolding same
 same-refl [] = refl
@@ -32,28 +49,11 @@ same→ (x ∷ xs) (y ∷ ys) e = go (eqb x y) refl e (same→ xs ys)
     go true q e f = ap₂ _∷_ (eqb-true x y q) (f e)
     go false q e f = absurd (subst T (sym e) tt)
 
--- ---- what the code tests
-pub other-length : (xs ys : List ℕ) → (length xs ≡ length ys → ⊥) → same xs ys ≡ false
-unfolding same
-other-length [] [] h = absurd (h refl)
-other-length [] (y ∷ ys) h = refl
-other-length (x ∷ xs) [] h = refl
-other-length (x ∷ xs) (y ∷ ys) h = go (eqb x y) (other-length xs ys (λ e. h (ap suc e)))
+-- THEOREM: an answer that is true exactly of the same text
+pub same-is : (r : Bool) (xs ys : List ℕ) → (r ≡ true → xs ≡ ys) → (xs ≡ ys → r ≡ true) → r ≡ same xs ys
+same-is true xs ys f g = sym (ap (same xs) (sym (f refl)) ∙ same-refl xs)
+same-is false xs ys f g = go (same xs ys) refl
   where
-    go : (b : Bool) → same xs ys ≡ false → (if b then same xs ys else false) ≡ false
-    go true e = e
+    go : (b : Bool) → same xs ys ≡ b → false ≡ b
+    go true e = absurd (subst T (sym (g (same→ xs ys e))) tt)
     go false e = refl
-
-module _ (xs ys : List ℕ) (i : ℕ) where
-  pub same-on : i < length xs → i < length ys → getD xs i 0 ≡ getD ys i 0
-      → same (drop i xs) (drop i ys) ≡ same (drop (i + 1) xs) (drop (i + 1) ys)
-  unfolding same
-  same-on h k e = rw (drop-cons xs i 0, drop-cons ys i 0, eq-eqb _ _ e, add-one)
-
-  pub same-off : i < length xs → i < length ys → (getD xs i 0 ≡ getD ys i 0 → ⊥) → same (drop i xs) (drop i ys) ≡ false
-  unfolding same
-  same-off h k e = rw (drop-cons xs i 0, drop-cons ys i 0, ne-eqb _ _ e)
-
-  pub same-end : i ≡ length xs → i ≡ length ys → same (drop i xs) (drop i ys) ≡ true
-  unfolding same
-  same-end e f = ap₂ same (ap (λ k. drop k xs) e ∙ drop-length xs) (ap (λ k. drop k ys) f ∙ drop-length ys)

@@ -2,11 +2,11 @@
 // a premise.
 ghost use mathlib.Core.Path.{_≡_};
 ghost use mathlib.Core.List.{[], _∷_, _++_};
-ghost use Prim.Native.Nat.{_+_, _≤_, min};
+ghost use Prim.Native.Nat.{_+_, _/_, _%_, _^_, _≤_, _<_, min};
 ghost use lib.ListN.{length};
 ghost use lib.Seq.{paste};
 ghost use Rattle.text.specs.Texts.{decimal, hex, Added};
-ghost use Rattle.text.specs.Words.{same};
+ghost use Rattle.text.specs.Words.{digit, binary, same};
 
 // The smaller of two numbers.
 fn least(a: usize, b: usize) -> usize
@@ -77,19 +77,34 @@ pub fn put_line(out: &mut [u8], at: usize, name: &[u8], n: u64) -> usize
     put(out, end, b"\n")
 }
 
+// Bit k of w, counted from the lowest.
+fn put_bit(out: &mut [u8], at: usize, w: usize, k: usize) -> usize
+    requires { ⌜ k < 8 ⌝ }
+    ensures written { λ r. ⌜ Added (digit (w / 2 ^ k % 2) ∷ []) at (now (out .entry)) (now (out .exit)) r ⌝ }
+{
+    if w / bits::power(k) % 2 == 0 {
+        return put(out, at, b"0");
+    }
+    put(out, at, b"1")
+}
+
+// A word as q binary digits behind the first `at` bytes; the answer is the place behind them.
+pub fn put_word(out: &mut [u8], at: usize, q: usize, w: usize) -> usize
+    requires { ⌜ q ≤ 8 ⌝ }
+    ensures written { λ r. ⌜ Added (binary q w) at (now (out .entry)) (now (out .exit)) r ⌝ }
+{
+    let mut end = put(out, at, b"");
+    let mut k = q;
+    while 0 < k {
+        k -= 1;
+        end = put_bit(out, end, w, k);
+    }
+    end
+}
+
 // Whether two texts are the same.
 pub fn is_same(a: &[u8], b: &[u8]) -> bool
     ensures answer { λ r. ⌜ r ≡ same (now (a .entry)) (now (b .entry)) ⌝ }
 {
-    if a.len() != b.len() {
-        return false;
-    }
-    let mut i = 0;
-    while i < a.len() {
-        if a[i] != b[i] {
-            return false;
-        }
-        i += 1;
-    }
-    true
+    check::same(a, b)
 }

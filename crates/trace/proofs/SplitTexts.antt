@@ -27,8 +27,7 @@ use Rattle.splitting.proofs.CodeLoop.{Going, going-grows}
 use Rattle.finish.specs.declared.finish_table.TableRows.{TableRows}
 use Rattle.finish.specs.Finishing.{TableIn}
 use Rattle.text.specs.Texts.{bytes, Added}
-use Rattle.text.proofs.Adding.{added-same}
-use Rattle.views.proofs.Behind.{_then_}
+use Rattle.text.proofs.Adding.{added-same, _then_}
 use Rattle.trace.specs.Lines.{sizeText, graphLine, splitLine, splitLines, tableLine}
 use Rattle.trace.specs.Traced.{splitText}
 

@@ -13,10 +13,9 @@ use Rattle.table.specs.Rows.{Code}
 use Rattle.graph.specs.Arcs.{Arc, Work}
 use Rattle.graph.specs.Weights.{total}
 use Rattle.graph.specs.Splitting.{chosen, kept, split, goesOn}
-use Rattle.compiler.specs.Listing.{binary}
 use Rattle.views.specs.Phrases.{counted}
 use Rattle.text.specs.Texts.{bytes}
-use Rattle.text.specs.Words.{told}
+use Rattle.text.specs.Words.{told, binary}
 use Rattle.refusals.specs.Phrases.{refusalLine}
 
 -- numbers, a blank in front of each

@@ -6,14 +6,14 @@ use refusals::put_refusal_line;
 use answer::Verdict;
 use record::TableAnswer;
 use text::put;
-use views::phrases::put_number;
+use text::put_number;
 
 // The line of a window.
 fn put_window(out: &mut [u8], at: usize, m: usize, a: usize) -> usize
     ensures written { λ r. ⌜ Added (windowLine m a) at (now (out .entry)) (now (out .exit)) r ⌝ }
 {
-    let lookahead = put_number(out, at, b"window of memory ", m);
-    let end = put_number(out, lookahead, b" and lookahead ", a);
+    let lookahead = put_number(out, at, b"window of memory ", m as u64);
+    let end = put_number(out, lookahead, b" and lookahead ", a as u64);
     put(out, end, b"\n")
 }
 

@@ -10,14 +10,14 @@ ghost use Rattle.trace.specs.Lines.{listed, edgeText};
 ghost use Rattle.trace.specs.ChoiceParts.{keyText};
 use order::keys::Keys;
 use text::put;
-use views::phrases::put_number;
-use views::phrases::put_word;
+use text::put_number;
+use text::put_word;
 
 // A number behind a blank.
 fn put_item(out: &mut [u8], at: usize, n: usize) -> usize
     ensures written { λ r. ⌜ Added (told " " n) at (now (out .entry)) (now (out .exit)) r ⌝ }
 {
-    put_number(out, at, b" ", n)
+    put_number(out, at, b" ", n as u64)
 }
 
 // The first k numbers, a blank in front of each.
@@ -41,7 +41,7 @@ fn put_edge(out: &mut [u8], at: usize, q: usize, w: usize, t: usize) -> usize
 {
     let word = put(out, at, b" ");
     let target = put_word(out, word, q, w);
-    put_number(out, target, b"/", t)
+    put_number(out, target, b"/", t as u64)
 }
 
 // The edges with `count` keys from place `from` on.

@@ -23,8 +23,8 @@ use splitting::split_graph::is_unfinished;
 use splitting::split_graph::split;
 use splitting::split_graph::split_all;
 use text::put;
+use text::put_number;
 use views::phrases::put_count;
-use views::phrases::put_number;
 
 // A name, and how many states and edges a graph has.
 fn put_graph(out: &mut [u8], at: usize, name: &[u8], states: usize, edges: usize) -> usize
@@ -47,17 +47,17 @@ fn put_choice(out: &mut [u8], at: usize, c: Choice, q: usize) -> usize
 {
     let list = c.list;
     let run = c.run;
-    let weight = put_number(out, at, b"split state ", c.state);
-    let keeps = put_number(out, weight, b" of weight ", c.weight);
+    let weight = put_number(out, at, b"split state ", c.state as u64);
+    let keeps = put_number(out, weight, b" of weight ", c.weight as u64);
     let edges = put(out, keeps, b": it keeps");
     let share = put_edges(out, edges, q, list, run.from, run.count);
-    let fresh = put_number(out, share, b" with weight ", c.share);
-    let rest = put_number(out, fresh, b", new state ", c.fresh);
+    let fresh = put_number(out, share, b" with weight ", c.share as u64);
+    let rest = put_number(out, fresh, b", new state ", c.fresh as u64);
     let end = put_number(
         out,
         rest,
         b" takes the other edges with weight ",
-        c.weight - c.share,
+        (c.weight - c.share) as u64,
     );
     put(out, end, b"\n")
 }

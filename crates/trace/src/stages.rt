@@ -20,7 +20,7 @@ use reach::reaching::list_members;
 use reach::reaching::live_edges;
 use reach::reaching::reach_all;
 use text::put;
-use views::phrases::put_number;
+use text::put_number;
 use weights::state_weights::state_weights;
 use weights::state_weights::word_counts;
 
@@ -56,8 +56,8 @@ fn put_component(out: &mut [u8], at: usize, list: Members, start: usize, total: 
     let state = list.state;
     let first = put(out, at, b"component of states");
     let from = put_list(out, first, state, list.count);
-    let weight = put_number(out, from, b", start ", start);
-    let end = put_number(out, weight, b", total weight ", total);
+    let weight = put_number(out, from, b", start ", start as u64);
+    let end = put_number(out, weight, b", total weight ", total as u64);
     put(out, end, b"\n")
 }
 

@@ -1,3 +1,5 @@
 pub mod Behind
+pub mod Edges
+pub mod Filled
 pub mod Listings
 pub mod Diagrams

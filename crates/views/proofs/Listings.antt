@@ -1,122 +1,149 @@
--- The listing of a table that a record can give fits 43,028 bytes.
--- In order: whole→; lines-short, listed-short; listing-front, listing-fits; shown-is, nothing-shown.
+-- The listing as it is put, and how long it can be: 43,028 bytes hold that of every record.
+-- In order: heading-is, entry-is, listing-is; Small, listing-short, listing-most; ready-small, formed-short; whole→;
+-- shown-is, nothing-shown.
 -- Assumes nothing.
-use mathlib.Core.Path.{_≡_, refl, sym, ap, ap₂, subst, _∙_}
-use mathlib.Core.Bool.{Bool, true, false, _&&_}
-use mathlib.Core.List.{List, [], _++_}
-use Prim.Native.Nat.{ℕ, zero, suc, _+_, _*_, _/_, _%_, _^_, _≤_}
+use mathlib.Core.Path.{_≡_, sym, ap, subst, _∙_}
+use mathlib.Core.Bool.{true, false, _&&_}
+use mathlib.Core.List.{List, [], _∷_, _++_, append-assoc}
+use Prim.Native.Nat.{ℕ, _+_, _*_, _^_, _≤_, _<_}
 use native.Mathlib.Omega.{arith}
-use lib.Dec.{T, ltb, leb, leb→le}
-use lib.ListN.{length, take, drop, length-append}
-use lib.Seq.{take-append-seam, length-take-le}
-use Rattle.laws.specs.Lists.{if_then_else_}
+use lib.Dec.{T, leb}
+use lib.ListN.{length, length-append}
 use Rattle.laws.proofs.Tests.{and→}
-use Rattle.answer.specs.declared.Answer.the-variants.{Done, Refused}
-use Rattle.answer.specs.declared.Refusal.{Refusal}
-use Rattle.answer.specs.Outcomes.{done, fitting, answerOf, outputOf}
-use Rattle.answer.proofs.Outcomes.{fitting-true}
 use Rattle.constraint.proofs.Values.{length-constraintOf}
 use Rattle.table.specs.declared.Table.{Table}
+use Rattle.table.specs.Rows.{edges, at, Code}
 use Rattle.table.specs.Edges.{lent}
-use Rattle.table.specs.Value.{wordAt, nextAt, codeIn, ready}
+use Rattle.table.specs.Value.{codeIn, Ready, ready}
+use Rattle.table.specs.Formed.{Formed}
 use Rattle.table.proofs.ReadyTables.{ready→}
-use Rattle.table.proofs.RowsOf.{length-rows}
-use Rattle.compiler.specs.Listing.{blank, newline, decimal, listing}
-use Rattle.compiler.specs.Texts.{headText, lineAt, linesTo, Listed}
-use Rattle.compiler.proofs.Texts.{length-number, length-edge}
-use Rattle.compiler.proofs.Lines.{head-parts, lines-none, lines-length}
-use Rattle.compiler.proofs.ListingIs.{edges-few, listing-is}
+use Rattle.table.proofs.RowsOf.{length-rows, row-long, edge-at, ways-small}
+use Rattle.table.proofs.Shape.{full, targets}
+use Rattle.text.specs.Texts.{decimal}
+use Rattle.text.specs.Words.{binary}
+use Rattle.text.proofs.Numbers.{decimal-short, decimal-long}
+use Rattle.text.proofs.Words.{length-binary}
+use Rattle.text.proofs.Rows.{rows-short}
+use Rattle.views.specs.Edges.{edgeLine, rowLines, edgeLines, linesTo}
+use Rattle.views.specs.Listing.{blank, newline, heading, entry, listing}
 use Rattle.views.specs.Shown.{rateLine, windowLine, constraintLine, shown, whole, showText}
+use Rattle.views.proofs.Edges.{lines-are}
 
-pub whole→ : (t : Table) → T (whole t) → Listed t
+-- ---- one text behind the other
+pub heading-is : (p q s m a : ℕ) → decimal p ++ (blank ∷ [] ++ decimal q) ++ (blank ∷ [] ++ decimal s)
+    ++ (blank ∷ [] ++ decimal m) ++ (blank ∷ [] ++ decimal a ++ newline ∷ []) ≡ heading p q s m a
+unfolding heading
+heading-is p q s m a = simp append-assoc
+
+pub entry-is : (q s d w t : ℕ) → decimal s ++ (blank ∷ [] ++ decimal d) ++ blank ∷ [] ++ binary q w
+    ++ (blank ∷ [] ++ decimal t ++ newline ∷ []) ≡ entry q s d w t
+unfolding entry
+entry-is q s d w t = simp append-assoc
+
+-- THEOREM: the first line, then all edges in order
+pub listing-is : (t : Table) (n : ℕ) → n ≡ 2 ^ t .p
+    → heading (t .p) (t .q) (t .states) (t .memory) (t .lookahead) ++ linesTo entry t (t .states * n)
+    ≡ listing (codeIn t)
+unfolding listing
+listing-is t n p =
+    ap (λ k. heading (t .p) (t .q) k (t .memory) (t .lookahead) ++ linesTo entry t (t .states * n))
+    (sym (length-rows (lent t)))
+    ∙ ap (λ l. heading (t .p) (t .q) (length (codeIn t .table)) (t .memory) (t .lookahead) ++ l) (lines-are entry t n p)
+
+-- ---- how long a listing can be
+-- at most 128 states of at most 16 edges, and no word above eight bits
+pub record Small (c : Code) : Type 0 where
+  pub p : c .p < 1000
+  pub q : c .q ≤ 8
+  pub states : length (c .table) ≤ 128
+  pub few : (s : ℕ) → s < length (c .table) → length (edges (c .table) s) ≤ 16
+  pub next : (s d : ℕ) → s < length (c .table) → d < length (edges (c .table) s) → at (c .table) s d .next < 1000
+
+heading-long : (p q s m a : ℕ) → length (heading p q s m a)
+    ≡ length (decimal p) + length (decimal q) + length (decimal s) + length (decimal m) + length (decimal a) + 5
+unfolding heading
+heading-long p q s m a = simp length-append (omega arith)
+
+entry-short : (q s d w t : ℕ) → q ≤ 8 → s < 1000 → d < 1000 → t < 1000 → length (entry q s d w t) ≤ 21
+unfolding entry
+entry-short q s d w t q₁ s₁ d₁ t₁ =
+    let b = length-binary q w in
+    simp length-append (omega (arith, decimal-short s s₁, decimal-short d d₁, decimal-short t t₁))
+
+module _ (c : Code) (ok : Small c) where
+  row-short : (s : ℕ) → s < length (c .table) → length (rowLines entry c s) ≤ 336
+  row-short s h =
+      let k = ok .few s h in
+      let n = ok .states in
+      let l = rows-short (edgeLine entry c s) 21 (length (edges (c .table) s)) (λ d g.
+      entry-short (c .q) s d (at (c .table) s d .word) (at (c .table) s d .next) (ok .q) (omega arith) (omega arith)
+      (ok .next s d h g)) in
+      omega arith
+
+  parts-long : (k : ℕ) → length (decimal (c .window .memory)) + length (decimal (c .window .lookahead)) ≤ k
+      → length (listing c) ≤ 43022 + k
+  unfolding listing
+  parts-long k h =
+      let n = ok .states in
+      let q = ok .q in
+      let H = heading (c .p) (c .q) (length (c .table)) (c .window .memory) (c .window .lookahead) in
+      let l = rows-short (rowLines entry c) 336 (length (c .table)) row-short in
+      omega (
+        arith,
+        length-append H (edgeLines entry c),
+        heading-long (c .p) (c .q) (length (c .table)) (c .window .memory) (c .window .lookahead),
+        decimal-short (c .p) (ok .p),
+        decimal-short (c .q) (let e : c .q < 1000 = omega arith in e),
+        decimal-short (length (c .table)) (let e : length (c .table) < 1000 = omega arith in e),
+      )
+
+  -- THEOREM: 43,028 bytes hold the listing with a window of up to three digits
+  pub listing-short : c .window .memory < 1000 → c .window .lookahead < 1000 → length (listing c) ≤ 43028
+  listing-short m a =
+      parts-long 6 (omega (arith, decimal-short (c .window .memory) m, decimal-short (c .window .lookahead) a))
+
+  -- THEOREM: 43,062 bytes hold the listing with any window
+  pub listing-most : length (listing c) ≤ 43062
+  listing-most =
+      parts-long 40 (omega (arith, decimal-long (c .window .memory), decimal-long (c .window .lookahead)))
+
+pub ready-small : (t : Table) → Ready t → Small (codeIn t)
+ready-small t r =
+    let n = length-rows (lent t) in
+    record {
+      p = omega (arith, r .narrow);
+      q = r .short;
+      states = omega (arith, r .few);
+      few = λ s h. let l = row-long (lent t) s (omega arith) in omega (arith, ways-small (t .p) (r .narrow));
+      next = λ s d h g.
+          let h' : s < t .states = omega arith in
+          let g' : d < 2 ^ t .p = let l = row-long (lent t) s h' in omega arith in
+          let e = edge-at (lent t) s d h' g' in
+          subst (λ x. x .next < 1000) (sym e) (omega (arith, r .inside s d h' g', r .few));
+    }
+
+-- THEOREM: 43,028 bytes hold the listing of a code whose fields are in range
+pub formed-short : (c : Code) → Formed c → length (listing c) ≤ 43028
+formed-short c ok =
+    let r = ok .range in
+    let small : Small c = record {
+      p = omega (arith, r .p₂);
+      q = r .q₂;
+      states = r .s₂;
+      few = λ s h. let l = full (c .p) (c .q) (length (c .table)) (c .table) (ok .rows) s h in
+          omega (arith, ways-small (c .p) (r .p₂));
+      next = λ s d h g.
+          omega (arith, targets (c .p) (c .q) (length (c .table)) (c .table) (ok .rows) s d g, r .s₂);
+    } in
+    listing-short c small (omega (arith, r .m)) (omega (arith, r .a))
+
+-- ---- the whole text
+pub whole→ : (t : Table) → T (whole t) → Ready t
 whole→ t h =
     let (m, g) = and→ (leb (t .memory) 15) (leb (t .lookahead) 15 && ready t) h in
     let (a, r) = and→ (leb (t .lookahead) 15) (ready t) g in
-    record { ready = ready→ t r; memory = leb→le (t .memory) 15 m; lookahead = leb→le (t .lookahead) 15 a }
+    ready→ t r
 
--- ---- how long a listing can be
-pick-short : (b : Bool) (x y : List ℕ) → length x ≤ 3 → length y ≤ 3 → length (if b then x else y) ≤ 3
-pick-short true x y h k = h
-pick-short false x y h k = k
-
-decimal-short : (n : ℕ) → length (decimal n) ≤ 3
-decimal-short n =
-    pick-short (ltb n 10) _ _ (omega arith) (pick-short (ltb n 100) _ _ (omega arith) (omega arith))
-
-module _ (t : Table) (ok : Listed t) where
-  line-short : (e : ℕ) → length (lineAt t e) ≤ 21
-  line-short e =
-      let s = e / 2 ^ t .p in
-      let d = e % 2 ^ t .p in
-      omega (
-        arith,
-        length-edge (t .q) s d (wordAt t s d) (nextAt t s d),
-        decimal-short s,
-        decimal-short d,
-        decimal-short (nextAt t s d),
-        ok .ready .short,
-      )
-
-  lines-short : (e : ℕ) → length (linesTo t e) ≤ 21 * e
-  lines-short zero = let z = ap length (lines-none t) in omega arith
-  lines-short (suc e) =
-      let z : suc e ≡ e + 1 = omega arith in
-      let l = lines-short e in
-      let more : length (linesTo t (e + 1)) ≤ 21 * suc e = omega (arith, lines-length t e, line-short e) in
-      subst (λ k. length (linesTo t k) ≤ 21 * suc e) (sym z) more
-
-  head-short : length (headText t) ≤ 20
-  head-short =
-      omega (
-        arith,
-        head-parts t,
-        length-number (t .p) blank,
-        length-number (t .q) blank,
-        length-number (t .states) blank,
-        length-number (t .memory) blank,
-        length-number (t .lookahead) newline,
-        decimal-short (t .p),
-        decimal-short (t .q),
-        decimal-short (t .states),
-        decimal-short (t .memory),
-        decimal-short (t .lookahead),
-      )
-
-  -- THEOREM: 43,028 bytes hold every listing
-  pub listed-short : length (listing (codeIn t)) ≤ 43028
-  listed-short =
-      let n = t .states * 2 ^ t .p in
-      omega (
-        arith,
-        ap length (listing-is t) ∙ length-append (headText t) (linesTo t n),
-        head-short,
-        lines-short n,
-        edges-few t (ok .ready) (2 ^ t .p) refl,
-      )
-
-  module _ (room : ℕ) (h : 43028 ≤ room) where
-    fits : fitting room (listing (codeIn t)) ≡ done (listing (codeIn t))
-    fits = fitting-true room (listing (codeIn t)) (omega (arith, listed-short))
-
-    -- THEOREM: the listing stands in front of bytes that have such room
-    pub listing-front : (B C : List ℕ) (n : ℕ) → Done n ≡ answerOf (fitting room (listing (codeIn t)))
-        → C ≡ outputOf (fitting room (listing (codeIn t))) B
-        → (n ≤ length C) × (n ≡ length (take n C)) × (take n C ≡ listing (codeIn t))
-    listing-front B C n a w =
-        let L = listing (codeIn t) in
-        let d : Done n ≡ Done (length L) = a ∙ ap answerOf fits in
-        let k : n ≡ length L = cc in
-        let c : C ≡ L ++ drop (length L) B = w ∙ ap (λ o. outputOf o B) fits in
-        let l : n ≤ length C = omega (arith, ap length c ∙ length-append L (drop (length L) B)) in
-        (l, sym (length-take-le n C l), ap₂ take k c ∙ take-append-seam L (drop (length L) B))
-
-    pub listing-fits : (r : Refusal) → Refused r ≡ answerOf (fitting room (listing (codeIn t))) → ⊥
-    listing-fits r a =
-        let d : Refused r ≡ Done (length (listing (codeIn t))) = a ∙ ap answerOf fits in
-        let z : _≡_ {A = ℕ} 0 1 = cc in
-        omega arith
-
--- ---- the whole text
 pub shown-is : (t : Table) → whole t ≡ true
     → rateLine (t .p) (t .q) (t .states) ++ windowLine (t .memory) (t .lookahead)
     ++ constraintLine (t .constraint .states) (t .start) ++ listing (codeIn t) ≡ showText t

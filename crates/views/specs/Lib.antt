@@ -1,4 +1,5 @@
 pub mod Phrases
+pub mod Edges
+pub mod Listing
 pub mod Shown
 pub mod Drawn
-pub mod ArrowsTo

@@ -10,8 +10,8 @@ use Rattle.laws.specs.Lists.{if_then_else_}
 use Rattle.table.specs.declared.Table.{Table}
 use Rattle.table.specs.Rows.{Code}
 use Rattle.table.specs.Value.{codeIn, ready}
-use Rattle.compiler.specs.Listing.{listing}
 use Rattle.views.specs.Phrases.{counted}
+use Rattle.views.specs.Listing.{listing}
 use Rattle.text.specs.Texts.{bytes}
 use Rattle.text.specs.Words.{told}
 

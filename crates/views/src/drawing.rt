@@ -4,22 +4,22 @@ ghost use Prim.Native.Nat.{_*_, _^_, _≤_};
 ghost use Rattle.text.specs.Texts.{Added};
 ghost use Rattle.table.specs.Value.{Ready};
 ghost use Rattle.views.specs.Drawn.{arrow, drawText};
-ghost use Rattle.views.specs.ArrowsTo.{arrowsTo};
-use crate::phrases::put_number;
-use crate::phrases::put_word;
+ghost use Rattle.views.specs.Edges.{linesTo};
 use table::Table;
 use table::chains::ways;
 use table::ready::is_ready;
 use text::put;
+use text::put_number;
+use text::put_word;
 
 // The line of an edge.
 fn put_arrow(out: &mut [u8], at: usize, q: usize, s: usize, d: usize, w: usize, t: usize) -> usize
     requires { ⌜ q ≤ 8 ⌝ }
     ensures written { λ r. ⌜ Added (arrow q s d w t) at (now (out .entry)) (now (out .exit)) r ⌝ }
 {
-    let target = put_number(out, at, b"  ", s);
-    let datum = put_number(out, target, b" -> ", t);
-    let slash = put_number(out, datum, b" [label=\"", d);
+    let target = put_number(out, at, b"  ", s as u64);
+    let datum = put_number(out, target, b" -> ", t as u64);
+    let slash = put_number(out, datum, b" [label=\"", d as u64);
     let word = put(out, slash, b"/");
     let end = put_word(out, word, q, w);
     put(out, end, b"\"];\n")
@@ -29,7 +29,7 @@ fn put_arrow(out: &mut [u8], at: usize, q: usize, s: usize, d: usize, w: usize, 
 fn put_arrows(out: &mut [u8], first: usize, code: Table, n: usize) -> usize
     requires { ⌜ Ready code × (n ≡ 2 ^ code .p) ⌝ }
     ensures written { λ r. ⌜
-        Added (arrowsTo code (code .states * n)) first (now (out .entry)) (now (out .exit)) r ⌝ }
+        Added (linesTo arrow code (code .states * n)) first (now (out .entry)) (now (out .exit)) r ⌝ }
 {
     let q = code.q;
     let edges = code.states * n;

@@ -1,4 +1,6 @@
 // What a person reads of a code, as text in lent bytes.
 pub mod drawing;
+pub mod filling;
+pub mod listing;
 pub mod phrases;
 pub mod showing;

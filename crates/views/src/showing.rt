@@ -1,17 +1,13 @@
 // The table of a code with its rate, its window and its constraint in words.
 ghost use mathlib.Core.Path.{_≡_};
 ghost use Rattle.text.specs.Texts.{Added};
-ghost use Rattle.table.specs.Value.{codeIn};
-ghost use Rattle.compiler.specs.Listing.{listing};
-ghost use Rattle.compiler.specs.Texts.{Listed};
 ghost use Rattle.views.specs.Shown.{rateLine, windowLine, constraintLine, whole, showText};
+use crate::listing::put_listing;
 use crate::phrases::put_count;
-use crate::phrases::put_number;
-use answer::Answer;
-use compiler::listing::list;
 use table::Table;
 use table::ready::is_ready;
 use text::put;
+use text::put_number;
 
 // The line of the rate.
 fn put_rate(out: &mut [u8], at: usize, p: usize, q: usize, states: usize) -> usize
@@ -29,10 +25,15 @@ fn put_rate(out: &mut [u8], at: usize, p: usize, q: usize, states: usize) -> usi
 fn put_window(out: &mut [u8], at: usize, m: usize, a: usize) -> usize
     ensures written { λ r. ⌜ Added (windowLine m a) at (now (out .entry)) (now (out .exit)) r ⌝ }
 {
-    let lookahead = put_number(out, at, b"memory ", m);
-    let from = put_number(out, lookahead, b", lookahead ", a);
-    let to = put_number(out, from, b": a bad word at i can spoil blocks i - ", a);
-    let end = put_number(out, to, b" to i + ", m);
+    let lookahead = put_number(out, at, b"memory ", m as u64);
+    let from = put_number(out, lookahead, b", lookahead ", a as u64);
+    let to = put_number(
+        out,
+        from,
+        b": a bad word at i can spoil blocks i - ",
+        a as u64,
+    );
+    let end = put_number(out, to, b" to i + ", m as u64);
     put(out, end, b"\n")
 }
 
@@ -42,20 +43,8 @@ fn put_constraint(out: &mut [u8], at: usize, k: usize, start: usize) -> usize
 {
     let count = put(out, at, b"constraint of ");
     let first = put_count(out, count, k, b" state");
-    let end = put_number(out, first, b", start ", start);
+    let end = put_number(out, first, b", start ", start as u64);
     put(out, end, b"\n")
-}
-
-// The listing.
-fn put_listing(out: &mut [u8], at: usize, t: Table) -> usize
-    requires { ⌜ Listed t ⌝ }
-    ensures written { λ r. ⌜ Added (listing (codeIn t)) at (now (out .entry)) (now (out .exit)) r ⌝ }
-{
-    let mut lines = [0u8; 43028];
-    match list(t, &mut lines) {
-        Answer::Done(size) => put(out, at, &lines[..size]),
-        Answer::Refused(_) => put(out, at, b""),
-    }
 }
 
 // The table is one that a record can give, with its window.

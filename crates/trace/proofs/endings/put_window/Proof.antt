@@ -1,7 +1,7 @@
 -- `put_window` meets its contract: its parts are put in a row.
 -- Assumes nothing.
 use Rattle.text.specs.Texts.{bytes}
-use Rattle.views.proofs.Behind.{_then_}
+use Rattle.text.proofs.Adding.{_then_}
 use Rattle.trace.specs.Lines.{windowLine}
 use borrow.Author.Needs.{needs}
 use Rattle.trace.proofs.endings.put_window.Statement.{statement}

@@ -8,8 +8,7 @@ use native.Mathlib.Omega.{arith}
 use lib.ListN.{length, take, drop}
 use Rattle.laws.specs.Lists.{concat}
 use Rattle.text.specs.Texts.{Added}
-use Rattle.text.proofs.Adding.{added-same}
-use Rattle.views.proofs.Behind.{_then_, begun}
+use Rattle.text.proofs.Adding.{added-same, _then_, begun}
 use Rattle.trace.specs.ChoiceParts.{keyText}
 use Rattle.trace.proofs.Pieces.{part-next, part-all, part-within}
 use borrow.Author.Needs.{needs}

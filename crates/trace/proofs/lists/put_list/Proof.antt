@@ -6,8 +6,7 @@ use Prim.Native.Nat.{_-_, _≤_}
 use native.Mathlib.Omega.{arith}
 use lib.ListN.{length, take}
 use Rattle.text.specs.Texts.{Added}
-use Rattle.text.proofs.Adding.{added-same}
-use Rattle.views.proofs.Behind.{_then_, begun}
+use Rattle.text.proofs.Adding.{added-same, _then_, begun}
 use Rattle.trace.specs.Lines.{listed}
 use Rattle.trace.proofs.Pieces.{listed-none, listed-next, listed-all}
 use borrow.Author.Needs.{needs}

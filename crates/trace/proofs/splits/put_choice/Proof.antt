@@ -3,9 +3,8 @@
 use mathlib.Core.Path.{_∙_}
 use lib.ListN.{take, drop}
 use Rattle.order.specs.EdgeKeys.{keysIn}
-use Rattle.text.proofs.Adding.{added-same}
+use Rattle.text.proofs.Adding.{added-same, _then_}
 use Rattle.text.specs.Texts.{bytes}
-use Rattle.views.proofs.Behind.{_then_}
 use Rattle.trace.specs.Lines.{partLine}
 use Rattle.trace.proofs.Pieces.{keys-arcs}
 use borrow.Author.Needs.{needs}

@@ -3,9 +3,8 @@
 -- Assumes nothing.
 use Rattle.job.specs.JobValues.{jobIn}
 use Rattle.compiler.proofs.CompileSteps.{begun-splits, begun-finished}
-use Rattle.text.proofs.Adding.{added-same}
+use Rattle.text.proofs.Adding.{added-same, _then_}
 use Rattle.text.specs.Texts.{bytes}
-use Rattle.views.proofs.Behind.{_then_}
 use Rattle.trace.proofs.SplitTexts.{graph-line, split-crowded, split-done}
 use borrow.Author.Needs.{needs}
 use Rattle.trace.proofs.splits.put_splitting.Statement.{statement}

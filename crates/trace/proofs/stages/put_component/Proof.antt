@@ -3,8 +3,7 @@
 use mathlib.Core.Path.{ap}
 use mathlib.Core.List.{_++_}
 use Rattle.text.specs.Texts.{bytes, decimal}
-use Rattle.text.proofs.Adding.{added-same}
-use Rattle.views.proofs.Behind.{_then_}
+use Rattle.text.proofs.Adding.{added-same, _then_}
 use Rattle.trace.specs.Lines.{componentLine}
 use borrow.Author.Needs.{needs}
 use Rattle.trace.proofs.stages.put_component.Statement.{statement}

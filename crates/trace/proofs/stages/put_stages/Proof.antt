@@ -9,8 +9,7 @@ use Rattle.compiler.specs.Compile.{graphOf, weightsOf}
 use Rattle.job.specs.JobValues.{jobIn}
 use Rattle.compiler.proofs.Compile.{ways-pos}
 use Rattle.compiler.proofs.CompileSteps.{has-states, held-powers, held-component}
-use Rattle.text.proofs.Adding.{added-same}
-use Rattle.views.proofs.Behind.{_then_}
+use Rattle.text.proofs.Adding.{added-same, _then_}
 use Rattle.trace.specs.Traced.{splitText}
 use Rattle.trace.proofs.StageTexts.{held-weights, held-states, stages-none, stages-heavy}
 use Rattle.trace.proofs.StageTexts.{stages-crowded, stages-all}

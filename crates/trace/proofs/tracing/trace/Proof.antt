@@ -1,8 +1,7 @@
 -- `trace` meets its contract: the steps, and then what compiling comes to.
 -- Assumes nothing.
 use mathlib.Core.Path.{ap, _∙_}
-use Rattle.text.proofs.Adding.{added-same}
-use Rattle.views.proofs.Behind.{_then_}
+use Rattle.text.proofs.Adding.{added-same, _then_}
 use Rattle.trace.specs.Lines.{ending}
 use Rattle.trace.specs.Traced.{traced}
 use borrow.Author.Needs.{needs}

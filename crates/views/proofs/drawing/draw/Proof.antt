@@ -4,10 +4,9 @@ use mathlib.Core.Path.{sym, subst, _∙_}
 use borrow.Author.Tests.{not-true, not-false}
 use lib.Dec.{T}
 use Rattle.table.proofs.ReadyTables.{ready→}
-use Rattle.text.proofs.Adding.{added-same}
+use Rattle.text.proofs.Adding.{added-same, _then_}
 use Rattle.text.specs.Texts.{bytes}
 use Rattle.views.specs.Drawn.{opening}
-use Rattle.views.proofs.Behind.{_then_}
 use Rattle.views.proofs.Diagrams.{drawn-is, nothing-drawn}
 use borrow.Author.Needs.{needs}
 use Rattle.views.proofs.drawing.draw.Statement.{statement}

@@ -5,17 +5,16 @@ use mathlib.Core.Path.{_≡_, ap, _∙_}
 use Prim.Native.Nat.{_*_, _-_, _≤_}
 use native.Mathlib.Omega.{arith}
 use Rattle.text.specs.Texts.{Added}
-use Rattle.text.proofs.Adding.{added-same}
-use Rattle.compiler.proofs.ListingIs.{edges-few}
-use Rattle.views.specs.ArrowsTo.{arrowsTo}
-use Rattle.views.proofs.Behind.{_then_, begun}
-use Rattle.views.proofs.Diagrams.{EdgeAt, edge-good, arrows-none, arrows-more, arrowOf}
+use Rattle.text.proofs.Adding.{added-same, _then_, begun}
+use Rattle.views.specs.Drawn.{arrow}
+use Rattle.views.specs.Edges.{linesTo}
+use Rattle.views.proofs.Edges.{edges-few, EdgeAt, edge-good, lines-none, lines-more, lineOf}
 use borrow.Author.Needs.{needs}
 use Rattle.views.proofs.drawing.put_arrows.Statement.{statement}
 use Rattle.views.proofs.drawing.put_arrows.Tie as tie
 
 abbrev Inv-loop : tie.InvT-loop
-Inv-loop out₀ first n code q edges at₀ e₀ out at e = (e ≤ edges) × Added (arrowsTo code e) at₀ out₀ out at
+Inv-loop out₀ first n code q edges at₀ e₀ out at e = (e ≤ edges) × Added (linesTo arrow code e) at₀ out₀ out at
 
 abbrev μ-loop : tie.MeasureT-loop
 μ-loop out₀ first n code q edges at₀ e₀ out at e = edges - e
@@ -41,7 +40,7 @@ put-requires c κs = search needs
 loop-holds : tie.Need-loop-holds Inv-loop μ-loop
 loop-holds c = (
   omega arith,
-  added-same (arrows-none (c .before .before .before .before .before .before .args .t3))
+  added-same (lines-none arrow (c .before .before .before .before .before .before .args .t3))
       (begun (c .before .before .put .ensures)),
 )
 
@@ -92,8 +91,8 @@ loop-again c =
     let l = test .before .loop in
     let b = test .before .before .before .before .before .before .before .before in (
       omega (arith, test .loop-test .taken),
-      added-same (arrows-more (b .args .t3) (l .e))
-          (l .inv .1 then added-same (arrowOf (b .args .t3) (b .args .n) (l .e) (b .pre .1))
+      added-same (lines-more arrow (b .args .t3) (l .e))
+          (l .inv .1 then added-same (lineOf arrow (b .args .t3) (b .args .n) (l .e) (b .pre .1))
           (call .put-arrow .ensures)),
     )
 
@@ -105,7 +104,7 @@ returns c =
     let l = c .before .loop in
     let a = c .before .before .before .before .before .before .before .before .args in
     let e : l .e ≡ a .t3 .states * a .n = omega (arith, l .inv .0, c .loop-test .left) in
-    added-same (ap (arrowsTo (a .t3)) e) (c .before .before .before .before .put .ensures then l .inv .1)
+    added-same (ap (linesTo arrow (a .t3)) e) (c .before .before .before .before .put .ensures then l .inv .1)
 
 pub put-arrows-spec : {M : Type 1} → statement M
 put-arrows-spec =

@@ -1,6 +1,6 @@
 -- `put_count` meets its contract: number, words and plural are put in a row.
 -- Assumes nothing.
-use Rattle.views.proofs.Behind.{_then_}
+use Rattle.text.proofs.Adding.{_then_}
 use borrow.Author.Needs.{needs}
 use Rattle.views.proofs.phrases.put_count.Statement.{statement}
 use Rattle.views.proofs.phrases.put_count.Tie as tie

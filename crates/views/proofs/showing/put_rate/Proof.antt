@@ -1,6 +1,6 @@
 -- `put_rate` meets its contract: its parts are put in a row.
 -- Assumes nothing.
-use Rattle.views.proofs.Behind.{_then_}
+use Rattle.text.proofs.Adding.{_then_}
 use Rattle.text.specs.Texts.{bytes}
 use Rattle.views.specs.Shown.{rateLine}
 use borrow.Author.Needs.{needs}

@@ -3,8 +3,7 @@
 use mathlib.Core.Path.{sym, subst, _∙_}
 use lib.Dec.{T}
 use borrow.Author.Tests.{not-true, not-false}
-use Rattle.text.proofs.Adding.{added-same}
-use Rattle.views.proofs.Behind.{_then_}
+use Rattle.text.proofs.Adding.{added-same, _then_}
 use Rattle.views.proofs.Listings.{whole→, shown-is, nothing-shown}
 use borrow.Author.Needs.{needs}
 use Rattle.views.proofs.showing.show.Statement.{statement}

@@ -4,11 +4,11 @@ use mathlib.Core.Path.{_≡_, subst}
 use Prim.Native.Nat.{_/_, _%_, _^_}
 use native.Mathlib.Omega.{arith}
 use lib.Pow.{pow-pos}
 use Rattle.text.proofs.Adding.{added-same}
-use Rattle.views.proofs.Behind.{bit-none, bit-one}
+use Rattle.text.proofs.Words.{bit-none, bit-one}
 use borrow.Author.Needs.{needs}
-use Rattle.views.proofs.phrases.put_bit.Statement.{statement}
-use Rattle.views.proofs.phrases.put_bit.Tie as tie
+use Rattle.text.proofs.put_bit.Statement.{statement}
+use Rattle.text.proofs.put_bit.Tie as tie
 
 power-requires : tie.Need-power-requires
 power-requires c κs = search needs

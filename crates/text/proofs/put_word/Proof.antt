@@ -5,13 +5,13 @@ use mathlib.Core.Path.{_≡_, refl, sym, ap, _∙_}
 use mathlib.Core.List.{List, [], _∷_, _++_, append-nil}
 use Prim.Native.Nat.{ℕ, _-_, _/_, _%_, _^_, _≤_}
 use native.Mathlib.Omega.{arith}
 use Rattle.text.specs.Texts.{Added}
-use Rattle.text.proofs.Adding.{added-same}
-use Rattle.compiler.specs.Listing.{digit, binary}
+use Rattle.text.proofs.Adding.{added-same, _then_, begun}
+use Rattle.text.specs.Words.{digit, binary}
 use borrow.Author.Needs.{needs}
-use Rattle.views.proofs.Behind.{_then_, begun, binary-more}
-use Rattle.views.proofs.phrases.put_word.Statement.{statement}
-use Rattle.views.proofs.phrases.put_word.Tie as tie
+use Rattle.text.proofs.Words.{binary-more}
+use Rattle.text.proofs.put_word.Statement.{statement}
+use Rattle.text.proofs.put_word.Tie as tie
 
 abbrev Inv-loop : tie.InvT-loop
 Inv-loop out₀ at q w end₀ k₀ out end k =

@@ -1,0 +1,37 @@
+-- A text as the result of a call.
+-- In order: fill-short, fill-done; fill-same.
+-- Assumes nothing.
+use mathlib.Core.Path.{_≡_, sym, ap, subst, _∙_}
+use mathlib.Core.List.{List, _++_}
+use Prim.Native.Nat.{ℕ, _≤_, _<_}
+use native.Mathlib.Omega.{arith}
+use borrow.Author.Tests.{lt-leb}
+use lib.ListN.{length, take, drop}
+use lib.Seq.{take-all}
+use Rattle.answer.specs.declared.Answer.{Answer}
+use Rattle.answer.specs.declared.Answer.the-variants.{Done, Refused}
+use Rattle.answer.specs.declared.Refusal.the-variants.{ShortOutput}
+use Rattle.answer.specs.Outcomes.{done, fitting, answerOf, outputOf}
+use Rattle.answer.proofs.Outcomes.{fitting-true, unless-false}
+
+pub fill-short : (xs B : List ℕ) → length B < length xs
+    → (Refused ShortOutput ≡ answerOf (fitting (length B) xs)) × (B ≡ outputOf (fitting (length B) xs) B)
+fill-short xs B h =
+    let e = unless-false ShortOutput _ (done xs) (lt-leb (length xs) (length B) h) in
+    (sym (ap answerOf e), sym (ap (λ o. outputOf o B) e))
+
+pub fill-done : (xs B C : List ℕ) (r : ℕ) → length xs ≤ length B → r ≡ length xs
+    → C ≡ take (length xs) xs ++ drop (length xs) B
+    → (Done r ≡ answerOf (fitting (length B) xs)) × (C ≡ outputOf (fitting (length B) xs) B)
+fill-done xs B C r h n w =
+    let e = fitting-true (length B) xs h in (
+      ap Done n ∙ sym (ap answerOf e),
+      w ∙ ap (λ l. l ++ drop (length xs) B) (take-all (length xs) xs (omega arith)) ∙ sym (ap (λ o. outputOf o B) e),
+    )
+
+-- the same text
+pub fill-same : (B : List ℕ) {xs ys C : List ℕ} {r : Answer} → xs ≡ ys
+    → (r ≡ answerOf (fitting (length B) xs)) × (C ≡ outputOf (fitting (length B) xs) B)
+    → (r ≡ answerOf (fitting (length B) ys)) × (C ≡ outputOf (fitting (length B) ys) B)
+fill-same B {C = C} {r = r} e h =
+    subst (λ l. (r ≡ answerOf (fitting (length B) l)) × (C ≡ outputOf (fitting (length B) l) B)) e h

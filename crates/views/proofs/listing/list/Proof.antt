@@ -1,0 +1,29 @@
+-- `list` meets its contract: the listing fits the bytes that it is put into, and fills the output.
+-- Assumes nothing.
+use denote.Ref.{now}
+use Rattle.text.proofs.Adding.{added-whole}
+use Rattle.views.proofs.Filled.{fill-same}
+use Rattle.views.proofs.Listings.{listing-most, ready-small}
+use borrow.Author.Needs.{needs}
+use Rattle.views.proofs.listing.list.Statement.{statement}
+use Rattle.views.proofs.listing.list.Tie as tie
+
+returns : tie.Need-returns
+returns c =
+    let fill = c .before .before in
+    let put = fill .before .before .before .before in
+    let start = put .before .before .before in
+    let short = listing-most _ (ready-small _ (start .pre)) in
+    fill-same (now (start .args .out)) (added-whole (put .put-listing .ensures) short .0) (fill .fill .ensures)
+
+pub list-spec : {M : Type 1} → statement M
+list-spec =
+    tie.close
+    (tie.spec
+    (λ c. search needs)
+    (λ c κs. search needs)
+    (λ c. search needs)
+    (λ c. search needs)
+    (λ c κs. search needs)
+    (λ c. search needs)
+    returns)
