@@ -7,7 +7,7 @@ ghost use lib.ListN.{length};
 ghost use Rattle.checker.specs.Parse.{checkedOnly};
 ghost use Rattle.codec.specs.Answers.{encodeUnder, decodeUnder};
 ghost use Rattle.compiler.specs.Compile.{compileJob, compileRunLength};
-ghost use Rattle.compiler.specs.Listing.{listInto};
+ghost use Rattle.listings.specs.Listings.{listInto};
 ghost use Rattle.sets.specs.Sets.{readSet};
 ghost use Rattle.sets.specs.Results.{setAnswer};
 ghost use Rattle.api.specs.Words.{held, joined, wordOf, setWordOf};
@@ -116,5 +116,5 @@ pub extern "C" fn sbc_listing(job: &[u8], out: &mut [u8]) -> u64
     ensures written { λ r. ⌜ now (out .exit)
         ≡ outputOf (listInto (now (job .entry)) (length (now (out .entry)))) (now (out .entry)) ⌝ }
 {
-    word(compiler::bytes::list_run_length(job, out))
+    word(listings::list_run_length(job, out))
 }

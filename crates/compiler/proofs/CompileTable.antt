@@ -1,5 +1,5 @@
 -- The table that compiling in code makes, and its window.
--- In order: tableBy, table-rows, table-ready, table-code; windowed-none, windowed-found, listed-with.
+-- In order: tableBy, table-rows, table-ready, table-code; windowed-none, windowed-found, whole-with.
 -- Assumes nothing.
 use mathlib.Core.Path.{_≡_, sym, ap, ap₂, subst, _∙_}
 use mathlib.Core.Bool.{Bool, true, false}
@@ -29,8 +29,7 @@ use Rattle.finish.specs.Finishing.{TableIn, rowsOfTable}
 use Rattle.job.specs.declared.JobValue.{JobValue}
 use Rattle.compiler.specs.Compile.{tableFor, compile}
 use Rattle.job.specs.JobValues.{jobIn, JobReady}
-use Rattle.compiler.specs.Texts.{Listed}
-use Rattle.compiler.specs.Stages.{windowed, Begun, withSize}
+use Rattle.compiler.specs.Stages.{windowed, Begun, withSize, Whole}
 use Rattle.compiler.proofs.Accepted.{Made, made, window-found}
 use Rattle.compiler.proofs.CompileSteps.{compile-table, begun-room, begun-work, begun-short}
 
@@ -131,8 +130,8 @@ module _ (t : Table) (w : Found) (e : foundSize w ≡ window (rowsIn t)) where
         })) (sym size-is)
         ∙ sym (passed (leb (window (rowsIn t) .memory) 15) _ (le-leb _ _ small))
 
-    pub listed-with : Ready t → Listed (withSize t m a)
-    listed-with r = record {
+    pub whole-with : Ready t → Whole (withSize t m a)
+    whole-with r = record {
       ready = record {
         some = r .some;
         few = r .few;

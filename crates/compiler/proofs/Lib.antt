@@ -2,10 +2,6 @@ pub mod Compiled
 pub mod Compile
 pub mod Accepted
 pub mod Promises
-pub mod Texts
-pub mod Lines
-pub mod ListingIs
-pub mod RefusalText
 pub mod CompileSteps
 pub mod CompileTable
 pub mod Onward

@@ -1,7 +1,7 @@
 -- A reading that goes on: what the next stage comes to after a verdict.
--- In order: read-bad, read-done; ends-bad, goes-on, goes-packed; listed-so.
+-- In order: read-bad, read-done; ends-bad, goes-on, goes-packed.
 -- Assumes nothing.
-use mathlib.Core.Path.{_≡_, refl, sym, ap, _∙_}
+use mathlib.Core.Path.{_≡_, sym, ap, _∙_}
 use mathlib.Core.List.{List}
 use Prim.Native.Nat.{ℕ}
 use lib.Dec.{T}
@@ -9,10 +9,8 @@ use lib.ListN.{length}
 use Rattle.answer.specs.declared.Refusal.{Refusal}
 use Rattle.answer.specs.declared.Answer.{Answer}
 use Rattle.answer.specs.declared.Answer.the-variants.{Refused}
-use Rattle.answer.specs.Outcomes.{Outcome, done, refused, onward, fitting, answerOf, outputOf, verdictOn}
+use Rattle.answer.specs.Outcomes.{Outcome, done, refused, onward, answerOf, outputOf, verdictOn}
 use Rattle.table.specs.Rows.{Code}
-use Rattle.job.specs.Jobs.{Job, readRunLength}
-use Rattle.compiler.specs.Compile.{compile}
 use Rattle.table.specs.declared.Table.{Table}
 use Rattle.table.specs.Value.{codeIn, ready}
 use Rattle.answer.specs.declared.Verdict.the-variants.{Good, Bad}
@@ -20,8 +18,6 @@ use Rattle.record.specs.declared.TableAnswer.{TableAnswer}
 use Rattle.record.specs.Parse.{packInto}
 use Rattle.record.specs.Checks.{outcomeIn, packWith}
 use Rattle.record.proofs.RecordWriting.{pack-ready}
-use Rattle.compiler.specs.Listing.{listing, listInto}
-use Rattle.compiler.specs.Stages.{listedInto}
 
 -- ---- what a verdict says
 pub read-bad : (r : TableAnswer) (o : Outcome Code) (x : Refusal) → outcomeIn r ≡ o → r .verdict ≡ Bad x → o ≡ refused x
@@ -48,20 +44,3 @@ pub goes-packed : (t : Table) (o : Outcome Code) (B C : List ℕ) (r : Answer) �
 goes-packed t o B C r k e p q =
     let z = pack-ready t (length B) k in
     goes-on o (λ c. packInto c (length B)) B (codeIn t) r C e (p ∙ ap answerOf z) (q ∙ ap (λ x. outputOf x B) z)
-
--- a listing is the reading of the job, and then the listing of its code
-list-onward : (xs : List ℕ) (room : ℕ) → onward (readRunLength xs) (listedInto room) ≡ listInto xs room
-unfolding listInto
-list-onward xs room = go (readRunLength xs)
-  where
-    go : (o : Outcome Job) → onward o (listedInto room) ≡ onward (onward o compile) (λ c. fitting room (listing c))
-    go (done j) = refl
-    go (refused r) = refl
-
-pub listed-so : (xs : List ℕ) (room : ℕ) (B C : List ℕ) (r : Answer)
-    → (r ≡ answerOf (onward (readRunLength xs) (listedInto room)))
-    × (C ≡ outputOf (onward (readRunLength xs) (listedInto room)) B)
-    → (r ≡ answerOf (listInto xs room)) × (C ≡ outputOf (listInto xs room) B)
-listed-so xs room B C r (p, q) =
-    let e = list-onward xs room in
-    (p ∙ ap answerOf e, q ∙ ap (λ o. outputOf o B) e)

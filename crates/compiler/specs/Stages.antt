@@ -1,22 +1,21 @@
 -- What the stages of compiling in code hand on.
 -- In order: windowed, the last check; Begun, the component by value; withSize, a table with its window;
--- listedInto.
+-- Whole.
 -- Assumes nothing.
 use mathlib.Core.Path.{_≡_}
-use mathlib.Core.List.{List}
 use Prim.Native.Nat.{ℕ, _≤_, _<_}
 use lib.Dec.{leb}
 use Rattle.laws.specs.Lists.{sum}
 use Rattle.answer.specs.declared.Refusal.the-variants.{NoWindow}
-use Rattle.answer.specs.Outcomes.{Outcome, done, unless, onward, fitting}
+use Rattle.answer.specs.Outcomes.{Outcome, done, unless}
 use Rattle.table.specs.declared.Table.{Table}
 use Rattle.table.specs.Rows.{Code}
 use Rattle.windows.specs.Search.{window}
+use Rattle.table.specs.Value.{Ready}
 use Rattle.graph.specs.declared.Graph.{Graph}
 use Rattle.graph.specs.Value.{workIn, Fits}
 use Rattle.job.specs.Jobs.{Job}
-use Rattle.compiler.specs.Compile.{ways, componentOf, startOf, compile}
-use Rattle.compiler.specs.Listing.{listing}
+use Rattle.compiler.specs.Compile.{ways, componentOf, startOf}
 
 -- the code with the least window of its table, or "no window up to 15 and 15"
 abbrev pub windowed : Code → Outcome Code
@@ -53,6 +52,8 @@ withSize t m a = record {
   next = t .next;
 }
 
--- the listing of the job's code in lent bytes
-abbrev pub listedInto : ℕ → Job → Outcome (List ℕ)
-listedInto room j = onward (compile j) (λ c. fitting room (listing c))
+-- a table that was compiled: its fields are in range, and its window is at most 15 and 15
+pub record Whole (t : Table) : Type 0 where
+  pub ready : Ready t
+  pub memory : t .memory ≤ 15
+  pub lookahead : t .lookahead ≤ 15

@@ -1,13 +1,10 @@
-// From bytes to bytes: a job compiled to its record, and a run-length job listed.
+// From bytes to bytes: a job compiled to its record.
 ghost use mathlib.Core.Path.{_≡_};
 ghost use lib.ListN.{length};
 ghost use Rattle.answer.specs.Outcomes.{answerOf, outputOf};
 ghost use Rattle.compiler.specs.Compile.{compileInto, compileJob, compileRunLength};
-ghost use Rattle.compiler.specs.Listing.{listInto};
 ghost use Rattle.job.specs.JobValues.{jobIn, JobReady};
-ghost use Rattle.compiler.specs.Stages.{listedInto};
 use crate::compiling::compile;
-use crate::listing::list;
 use answer::Answer;
 use job::JobValue;
 use job::reading::read_job;
@@ -28,22 +25,6 @@ fn compile_into(j: JobValue, out: &mut [u8]) -> Answer
     match v {
         Verdict::Bad(x) => Answer::Refused(x),
         Verdict::Good => write(t, out),
-    }
-}
-
-// The listing of a job in the output.
-fn list_into(j: JobValue, out: &mut [u8]) -> Answer
-    requires { ⌜ JobReady j ⌝ }
-    ensures answer { λ r. ⌜ r ≡ answerOf (listedInto (length (now (out .entry))) (jobIn j)) ⌝ }
-    ensures written { λ r. ⌜
-        now (out .exit) ≡ outputOf (listedInto (length (now (out .entry))) (jobIn j)) (now (out .entry)) ⌝ }
-{
-    let r = compile(j);
-    let v = r.verdict;
-    let t = r.table;
-    match v {
-        Verdict::Bad(x) => Answer::Refused(x),
-        Verdict::Good => list(t, out),
     }
 }
 
@@ -76,20 +57,5 @@ pub fn compile_run_length(job: &[u8], out: &mut [u8]) -> Answer
     match v {
         Verdict::Bad(x) => Answer::Refused(x),
         Verdict::Good => compile_into(j, out),
-    }
-}
-
-// The listing of the run-length job that bytes hold, in the output.
-pub fn list_run_length(job: &[u8], out: &mut [u8]) -> Answer
-    ensures answer { λ r. ⌜ r ≡ answerOf (listInto (now (job .entry)) (length (now (out .entry)))) ⌝ }
-    ensures written { λ r. ⌜
-        now (out .exit) ≡ outputOf (listInto (now (job .entry)) (length (now (out .entry)))) (now (out .entry)) ⌝ }
-{
-    let r = read_run_length(job);
-    let v = r.verdict;
-    let j = r.job;
-    match v {
-        Verdict::Bad(x) => Answer::Refused(x),
-        Verdict::Good => list_into(j, out),
     }
 }

@@ -7,8 +7,7 @@ ghost use Rattle.record.specs.Checks.{outcomeIn};
 ghost use Rattle.component.specs.ComponentParts.{FoundIn};
 ghost use Rattle.compiler.specs.Compile.{ways, graphOf, weightsOf, compile};
 ghost use Rattle.job.specs.JobValues.{jobIn, JobReady};
-ghost use Rattle.compiler.specs.Texts.{Listed};
-ghost use Rattle.compiler.specs.Stages.{windowed, Begun, withSize};
+ghost use Rattle.compiler.specs.Stages.{windowed, Begun, withSize, Whole};
 use answer::Refusal;
 use answer::Verdict;
 use component::component_graph::ComponentAnswer;
@@ -72,7 +71,7 @@ fn with_size(t: Table, m: usize, a: usize) -> Table
 fn with_window(t: Table) -> TableAnswer
     requires { ⌜ Ready t ⌝ }
     ensures answer { λ r. ⌜ outcomeIn r ≡ windowed (codeIn t) ⌝ }
-    ensures kept { λ r. ⌜ (r .verdict ≡ Good → Listed (r .table)) ⌝ }
+    ensures kept { λ r. ⌜ (r .verdict ≡ Good → Whole (r .table)) ⌝ }
 {
     let w = least_window(t);
     let m = memory_of(w);
@@ -90,7 +89,7 @@ fn with_window(t: Table) -> TableAnswer
 fn split_and_window(j: JobValue, n: usize, g: Graph, start: usize) -> TableAnswer
     requires { ⌜ JobReady j × Begun (jobIn j) n g start ⌝ }
     ensures answer { λ r. ⌜ outcomeIn r ≡ compile (jobIn j) ⌝ }
-    ensures kept { λ r. ⌜ (r .verdict ≡ Good → Listed (r .table)) ⌝ }
+    ensures kept { λ r. ⌜ (r .verdict ≡ Good → Whole (r .table)) ⌝ }
 {
     let all = split_all(g, n);
     if all.crowded {
@@ -119,7 +118,7 @@ fn split_and_window(j: JobValue, n: usize, g: Graph, start: usize) -> TableAnswe
 pub fn compile(j: JobValue) -> TableAnswer
     requires { ⌜ JobReady j ⌝ }
     ensures answer { λ r. ⌜ outcomeIn r ≡ compile (jobIn j) ⌝ }
-    ensures kept { λ r. ⌜ (r .verdict ≡ Good → Listed (r .table)) ⌝ }
+    ensures kept { λ r. ⌜ (r .verdict ≡ Good → Whole (r .table)) ⌝ }
 {
     let n = ways(j.p);
     let found = component_of(j, n);

@@ -4,12 +4,12 @@ ghost use mathlib.Core.Path.{_≡_};
 ghost use Prim.Native.Nat.{_≤_};
 ghost use lib.ListN.{length, take};
 ghost use Rattle.io.specs.Counts.{Counts};
-ghost use Rattle.compiler.specs.Listing.{listingOf};
+ghost use Rattle.listings.specs.Listings.{listingOf};
 use answer::Answer;
-use compiler::bytes::list_run_length;
-use compiler::listing::put_refusal;
 use libc::STDIN_FILENO;
 use libc::STDOUT_FILENO;
+use listings::list_run_length;
+use listings::tell_refusal;
 
 // What is printed for a job's bytes, in front of the output, which is longer than every listing; the answer is its
 // length.
@@ -20,7 +20,7 @@ fn list(job: &[u8], out: &mut [u8]) -> usize
 {
     match list_run_length(job, out) {
         Answer::Done(size) => size,
-        Answer::Refused(r) => answer::answer_value(put_refusal(r, out)),
+        Answer::Refused(r) => answer::answer_value(tell_refusal(r, out)),
     }
 }
 

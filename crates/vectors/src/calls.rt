@@ -12,8 +12,8 @@ use codec::decoding::decode;
 use codec::encoding::encode;
 use compiler::bytes::compile_job;
 use compiler::bytes::compile_run_length;
-use compiler::bytes::list_run_length;
-use compiler::listing::put_refusal;
+use listings::list_run_length;
+use listings::tell_refusal;
 use sets::walking::check_set;
 use sets::walking::set_number;
 use sets::walking::set_value;
@@ -49,7 +49,7 @@ fn list_or_tell(job: &[u8], out: &mut [u8]) -> Answer {
             if refusal_number(r) == 13 {
                 return Answer::Refused(r);
             }
-            put_refusal(r, out)
+            tell_refusal(r, out)
         }
     }
 }

@@ -16,8 +16,8 @@ enum-known-size c = search needs
 enum-known-r : tie.Need-enum-known-r
 enum-known-r c = search needs
 
-put-refusal-requires : tie.Need-put-refusal-requires
-put-refusal-requires c κs = search needs
+tell-refusal-requires : tie.Need-tell-refusal-requires
+tell-refusal-requires c κs = search needs
 
 answer-value-requires : tie.Need-answer-value-requires
 answer-value-requires c κs = search needs
@@ -43,9 +43,9 @@ returns-2 c =
     let start = call .before .before .before .before in
     list-told (now (start .args .job)) (now (start .args .out)) (start .pre) (r .given .0 .0)
     (call .list-run-length .last .1 .0) _
-    (put .put-refusal .result) (c .answer-value .result) (call .list-run-length .kept .1 .0)
-    (sym (r .given .1) ∙ call .list-run-length .ensures .0) (put .put-refusal .ensures .0)
-    (put .put-refusal .ensures .1) (c .answer-value .ensures)
+    (put .tell-refusal .result) (c .answer-value .result) (call .list-run-length .kept .1 .0)
+    (sym (r .given .1) ∙ call .list-run-length .ensures .0) (put .tell-refusal .ensures .0)
+    (put .tell-refusal .ensures .1) (c .answer-value .ensures)
 
 pub list-spec : {M : Type 1} → statement M
 list-spec =
@@ -54,7 +54,7 @@ list-spec =
     list-run-length-requires
     enum-known-size
     enum-known-r
-    put-refusal-requires
+    tell-refusal-requires
     answer-value-requires
     same-length
     returns

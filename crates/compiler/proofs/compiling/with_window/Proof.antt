@@ -3,8 +3,8 @@
 use mathlib.Core.Path.{sym, ap, subst, _∙_}
 use Rattle.answer.specs.Outcomes.{done}
 use Rattle.table.specs.Value.{codeIn}
-use Rattle.compiler.specs.Texts.{Listed}
-use Rattle.compiler.proofs.CompileTable.{windowed-none, windowed-found, listed-with}
+use Rattle.compiler.specs.Stages.{Whole}
+use Rattle.compiler.proofs.CompileTable.{windowed-none, windowed-found, whole-with}
 use borrow.Author.Needs.{needs}
 use borrow.Author.Needs.{needs}
 use Rattle.compiler.proofs.compiling.with_window.Statement.{statement}
@@ -43,8 +43,8 @@ returns-2 c =
       ap (λ x. done (codeIn x)) (c .with-size .ensures)
           ∙ windowed-found t (l .least-window .result) (l .least-window .ensures) _ _ (m .ensures) (a .ensures)
           (c .before .before .if1 .left),
-      λ e. subst Listed (sym (c .with-size .ensures))
-          (listed-with t (l .least-window .result) (l .least-window .ensures) _ _ (m .ensures) (a .ensures)
+      λ e. subst Whole (sym (c .with-size .ensures))
+          (whole-with t (l .least-window .result) (l .least-window .ensures) _ _ (m .ensures) (a .ensures)
           (c .before .before .if1 .left) (l .before .pre)),
     )
 

@@ -5,12 +5,12 @@ use lib.ListN.{length}
 use Rattle.answer.proofs.Outcomes.{said-good, said-bad}
 use Rattle.job.specs.JobValues.{jobIn}
 use Rattle.job.specs.Jobs.{readRunLength}
-use Rattle.compiler.specs.Stages.{listedInto}
-use Rattle.compiler.proofs.Onward.{ends-bad, goes-on, listed-so}
+use Rattle.listings.specs.Listings.{listedInto}
+use Rattle.compiler.proofs.Onward.{ends-bad, goes-on}
+use Rattle.listings.proofs.Onward.{listed-so}
 use borrow.Author.Needs.{needs}
-use borrow.Author.Needs.{needs}
-use Rattle.compiler.proofs.bytes.list_run_length.Statement.{statement}
-use Rattle.compiler.proofs.bytes.list_run_length.Tie as tie
+use Rattle.listings.proofs.list_run_length.Statement.{statement}
+use Rattle.listings.proofs.list_run_length.Tie as tie
 
 read-run-length-requires : tie.Need-read-run-length-requires
 read-run-length-requires c κs = search needs

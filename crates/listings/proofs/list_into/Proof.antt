@@ -3,14 +3,13 @@
 use denote.Ref.{now}
 use lib.ListN.{length}
 use Rattle.answer.specs.Outcomes.{fitting}
-use Rattle.compiler.specs.Listing.{listing}
+use Rattle.views.specs.Listing.{listing}
 use Rattle.compiler.specs.Compile.{compile}
 use Rattle.job.specs.JobValues.{jobIn}
 use Rattle.compiler.proofs.Onward.{read-bad, read-done, ends-bad, goes-on}
 use borrow.Author.Needs.{needs}
-use borrow.Author.Needs.{needs}
-use Rattle.compiler.proofs.bytes.list_into.Statement.{statement}
-use Rattle.compiler.proofs.bytes.list_into.Tie as tie
+use Rattle.listings.proofs.list_into.Statement.{statement}
+use Rattle.listings.proofs.list_into.Tie as tie
 
 compile-requires : tie.Need-compile-requires
 compile-requires c κs = c .before .pre
@@ -24,7 +23,7 @@ enum-told c = search needs
 list-requires : tie.Need-list-requires
 list-requires c κs =
     let k = c .before .before .before .before .compile in
-    k .ensures .1 (c .before .enum-told .given .1)
+    k .ensures .1 (c .before .enum-told .given .1) .ready
 
 returns : tie.Need-returns
 returns c =
