@@ -1,0 +1,16 @@
+-- `wide` is safe: what fits in 32 bits fits in 64.
+-- Assumes nothing.
+use mir.Syntax.{w32, w64}
+use mir.Facts.{sfits-widen, sfits-toZ, fits-ofZ}
+use borrow.Author.Needs.{needs}
+use Rattle.storing.proofs.wide.Statement.{statement}
+use Rattle.storing.proofs.wide.Tie as tie
+
+cast-result : tie.Need-cast-result
+cast-result c = sfits-widen {w = w32} {w′ = w64} tt (sfits-toZ (fits-ofZ (c .fits .file)))
+
+returns : tie.Need-returns
+returns c = search needs
+
+pub wide-spec : {M : Type 1} → statement M
+wide-spec = tie.close (tie.spec cast-result returns)

@@ -1,0 +1,60 @@
+-- `write_bytes` meets its contract. The loop's invariant: what was taken is no more than there is. The measure is what is
+-- left.
+-- Assumes nothing.
+use Prim.Native.Nat.{_+_, _-_, _^_, _≤_, _<_}
+use native.Mathlib.Omega.{arith}
+use denote.Ref.{now}
+use lib.ListN.{length}
+use Rattle.storing.proofs.Parts.{rest-long}
+use borrow.Author.Needs.{needs}
+use Rattle.storing.proofs.write_bytes.Statement.{statement}
+use Rattle.storing.proofs.write_bytes.Tie as tie
+
+abbrev Inv-loop : tie.InvT-loop
+Inv-loop file bytes done₀ done = (done ≤ length bytes) × (length bytes < 2 ^ 64)
+
+abbrev μ-loop : tie.MeasureT-loop
+μ-loop file bytes done₀ done = length bytes - done
+
+loop-holds : tie.Need-loop-holds Inv-loop μ-loop
+loop-holds c = (omega arith, omega arith)
+
+part-write-some-end : tie.Need-part-write-some-end Inv-loop μ-loop
+part-write-some-end c = omega arith
+
+-- what one more write takes
+taken : (c : tie.Else1 Inv-loop μ-loop)
+    → c .before .before .before .before .loop .done + c .before .write-some .result
+    ≤ length (now (c .before .before .before .before .before .before .args .bytes))
+taken c =
+    let w = c .before in
+    let l = w .before .before .before in
+    let p = rest-long (l .loop .done) (now (l .before .before .args .bytes)) in
+    let i = l .loop .inv .0 in
+    omega (arith, w .write-some .ensures)
+
+add-done : tie.Need-add-done Inv-loop μ-loop
+add-done c = omega (arith, taken c)
+
+loop-less : tie.Need-loop-less Inv-loop μ-loop
+loop-less c = omega (arith, taken c)
+
+loop-again : tie.Need-loop-again Inv-loop μ-loop
+loop-again c = (taken c, c .before .before .before .before .loop .inv .1)
+
+pub write-bytes-spec : {M : Type 1} → statement M
+write-bytes-spec =
+    tie.close
+    (tie.spec
+    Inv-loop
+    μ-loop
+    loop-holds
+    (λ c. search needs)
+    (λ c. search needs)
+    part-write-some-end
+    (λ c κs. search needs)
+    (λ c. omega arith)
+    add-done
+    loop-less
+    loop-again
+    (λ c. omega arith))
