@@ -1,0 +1,69 @@
+-- Numbers read digit by digit.
+-- In order: worth-grows; number-capped; number-on, number-off, number-end, digit by digit; parsed-none, parsed-some.
+-- Assumes nothing.
+use mathlib.Core.Path.{_≡_, refl, sym, ap, _∙_}
+use mathlib.Core.Bool.{Bool, true, false}
+use mathlib.Core.List.{List, [], _∷_}
+use Prim.Native.Nat.{ℕ, zero, suc, _+_, _*_, _≤_, _<_, min}
+use native.Mathlib.Nat.{min-eq-left, min-eq-right}
+use native.Mathlib.Numerals.{add-one}
+use native.Mathlib.Omega.{arith}
+use borrow.Author.Tests.{lt-ltb, le-ltb, ltb-true, ltb-false}
+use lib.Dec.{ltb}
+use lib.ListN.{length, getD, drop}
+use lib.Seq.{drop-cons, drop-length}
+use Rattle.laws.specs.Lists.{if_then_else_, all}
+use Rattle.arguments.specs.declared.Parsed.{Parsed}
+use Rattle.arguments.specs.declared.Parsed.the-variants.{Number, Wrong}
+use Rattle.arguments.specs.Parsing.{digitOf, isDigit, worth, numberIn, parsed}
+
+pub worth-grows : (n : ℕ) (cs : List ℕ) → n ≤ worth n cs
+unfolding worth
+worth-grows n [] = omega arith
+worth-grows n (c ∷ cs) = let g = worth-grows (n * 10 + digitOf c) cs in omega arith
+
+-- a number above 255 counts as 255
+pub number-capped : (n : ℕ) (cs : List ℕ) → numberIn n cs ≡ numberIn (min n 255) cs
+unfolding numberIn
+number-capped n cs = go (ltb n 255) refl
+  where
+    go : (b : Bool) → ltb n 255 ≡ b → numberIn n cs ≡ numberIn (min n 255) cs
+    go true e =
+        let l = ltb-true n 255 e in
+        ap (λ k. numberIn k cs) (sym (min-eq-left (omega arith)))
+    go false e =
+        let g = ltb-false n 255 e in
+        let h = worth-grows n cs in
+        let a : min (worth n cs) 255 ≡ 255 = min-eq-right (omega arith) in
+        let b : min (worth 255 cs) 255 ≡ 255 = min-eq-right (worth-grows 255 cs) in
+        ap (λ k. if all isDigit cs then Number k else Wrong) (a ∙ sym b)
+        ∙ ap (λ k. numberIn k cs) (sym (min-eq-right g))
+
+module _ (text : List ℕ) (n i : ℕ) where
+  pub number-on : i < length text → digitOf (getD text i 0) ≤ 9
+      → numberIn n (drop i text) ≡ numberIn (n * 10 + digitOf (getD text i 0)) (drop (i + 1) text)
+  unfolding numberIn worth
+  number-on h d =
+      let t : digitOf (getD text i 0) < 10 = omega arith in
+      rw (drop-cons text i 0, add-one) (rw (lt-ltb _ _ t) refl)
+
+  pub number-off : i < length text → 9 < digitOf (getD text i 0) → numberIn n (drop i text) ≡ Wrong
+  unfolding numberIn
+  number-off h d =
+      let t : 10 ≤ digitOf (getD text i 0) = omega arith in
+      rw (drop-cons text i 0) (rw (le-ltb _ _ t) refl)
+
+  pub number-end : i ≡ length text → n ≤ 255 → numberIn n (drop i text) ≡ Number n
+  unfolding numberIn worth
+  number-end e h =
+      ap (numberIn n) (ap (λ k. drop k text) e ∙ drop-length text) ∙ ap Number (min-eq-left h)
+
+pub parsed-none : (text : List ℕ) → length text ≡ 0 → parsed text ≡ Wrong
+unfolding parsed
+parsed-none [] e = refl
+parsed-none (c ∷ cs) e = absurd (omega arith)
+
+pub parsed-some : (text : List ℕ) → (length text ≡ 0 → ⊥) → parsed text ≡ numberIn 0 text
+unfolding parsed
+parsed-some [] h = absurd (h refl)
+parsed-some (c ∷ cs) h = refl

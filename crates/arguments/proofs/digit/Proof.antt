@@ -1,0 +1,34 @@
+-- `digit` meets its contract, by cases on the byte.
+-- Assumes nothing.
+use Prim.Native.Nat.{_-_, _≤_}
+use native.Mathlib.Nat.{min-eq-left, min-eq-right}
+use native.Mathlib.Omega.{arith}
+use borrow.Author.Tests.{lt-ltb, le-ltb}
+use borrow.Author.Needs.{needs}
+use Rattle.arguments.specs.Parsing.{digitOf}
+use Rattle.arguments.proofs.digit.Statement.{statement}
+use Rattle.arguments.proofs.digit.Tie as tie
+
+returns : tie.Need-returns
+unfolding digitOf
+returns c = (simp (lt-ltb _ _ (c .if1 .taken)), omega arith)
+
+cast-result : tie.Need-cast-result
+cast-result c = search needs
+
+returns-2 : tie.Need-returns-2
+unfolding digitOf
+returns-2 c =
+    let x = c .before .before .args .c in
+    let l : x - 48 ≤ 10 = omega arith in
+    (simp (le-ltb _ _ (c .before .if1 .left), min-eq-left l), omega arith)
+
+returns-3 : tie.Need-returns-3
+unfolding digitOf
+returns-3 c =
+    let x = c .before .before .args .c in
+    let l : 10 ≤ x - 48 = omega arith in
+    (simp (le-ltb _ _ (c .before .if1 .left), min-eq-right l), omega arith)
+
+pub digit-spec : {M : Type 1} → statement M
+digit-spec = tie.close (tie.spec returns cast-result returns-2 returns-3)

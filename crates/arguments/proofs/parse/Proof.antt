@@ -1,0 +1,97 @@
+-- `parse` meets its contract. The loop's invariant: the digits passed make n, and what is left behind n decides. The
+-- measure is what is left of the length.
+-- Assumes nothing.
+use mathlib.Core.Path.{_≡_, refl, sym, ap, _∙_}
+use Prim.Native.Nat.{_+_, _*_, _-_, _≤_}
+use native.Mathlib.Omega.{arith}
+use denote.Ref.{now}
+use lib.ListN.{length, drop}
+use Rattle.arguments.specs.Parsing.{numberIn, parsed}
+use Rattle.arguments.proofs.Parsing.{number-capped, number-on, number-off, number-end, parsed-none, parsed-some}
+use borrow.Author.Needs.{needs}
+use Rattle.arguments.proofs.parse.Statement.{statement}
+use Rattle.arguments.proofs.parse.Tie as tie
+
+abbrev Inv-loop : tie.InvT-loop
+Inv-loop text n₀ i₀ n i = (i ≤ length text) × (n ≤ 255) × (parsed text ≡ numberIn n (drop i text))
+
+abbrev μ-loop : tie.MeasureT-loop
+μ-loop text n₀ i₀ n i = length text - i
+
+returns : tie.Need-returns Inv-loop μ-loop
+returns c = sym (parsed-none _ (c .if1 .taken))
+
+loop-holds : tie.Need-loop-holds Inv-loop μ-loop
+loop-holds c = (omega arith, omega arith, parsed-some _ (c .if1 .left))
+
+shared-slice-read-digit : tie.Need-shared-slice-read-digit Inv-loop μ-loop
+shared-slice-read-digit c = search needs
+
+digit-requires : tie.Need-digit-requires Inv-loop μ-loop
+digit-requires c κs = search needs
+
+returns-2 : tie.Need-returns-2 Inv-loop μ-loop
+returns-2 c =
+    let l = c .before .before .before .before .loop in
+    let a = c .before .before .before .before .before .before .before .args in
+    let d = c .before .digit in
+    sym (l .inv .2 ∙ number-off (now (a .text)) (l .n) (l .i) (omega arith) (omega (arith, d .ensures .0)))
+
+mul-n : tie.Need-mul-capped Inv-loop μ-loop
+mul-n c = omega arith
+
+add-n : tie.Need-add-capped Inv-loop μ-loop
+add-n c = omega arith
+
+capped-requires : tie.Need-capped-requires Inv-loop μ-loop
+capped-requires c κs = search needs
+
+add-i : tie.Need-add-i Inv-loop μ-loop
+add-i c = search needs
+
+loop-less : tie.Need-loop-less Inv-loop μ-loop
+loop-less c = search needs
+
+loop-again : tie.Need-loop-again Inv-loop μ-loop
+loop-again c =
+    let l = c .before .before .before .before .before .loop in
+    let a = c .before .before .before .before .before .before .before .before .args in
+    let d = c .before .before .digit in
+    let n = c .capped in
+    let m = l .n * 10 + d .result in (
+      omega arith,
+      n .ensures .1,
+      l .inv .2 ∙ number-on (now (a .text)) (l .n) (l .i) (omega arith) (omega (arith, d .ensures .0))
+          ∙ ap (λ k. numberIn (l .n * 10 + k) (drop (l .i + 1) (now (a .text)))) (sym (d .ensures .0))
+          ∙ number-capped m (drop (l .i + 1) (now (a .text)))
+          ∙ ap (λ k. numberIn k (drop (l .i + 1) (now (a .text)))) (sym (n .ensures .0)),
+    )
+
+cast-t12 : tie.Need-cast-t12 Inv-loop μ-loop
+cast-t12 c = omega arith
+
+returns-3 : tie.Need-returns-3 Inv-loop μ-loop
+returns-3 c =
+    let l = c .before .loop in
+    let a = c .before .before .before .before .args in
+    sym (l .inv .2 ∙ number-end (now (a .text)) (l .n) (l .i) (omega arith) (omega arith))
+
+pub parse-spec : {M : Type 1} → statement M
+parse-spec =
+    tie.close
+    (tie.spec
+    Inv-loop
+    μ-loop
+    returns
+    loop-holds
+    shared-slice-read-digit
+    digit-requires
+    returns-2
+    mul-n
+    add-n
+    capped-requires
+    add-i
+    loop-less
+    loop-again
+    cast-t12
+    returns-3)

@@ -1,0 +1,38 @@
+-- Which action a word names.
+-- In order: askedAction, recordAction, actionOf.
+-- Assumes nothing.
+use mathlib.Core.List.{List}
+use Prim.Native.Nat.{ℕ}
+use Rattle.laws.specs.Lists.{if_then_else_}
+use Rattle.text.specs.Texts.{bytes}
+use Rattle.text.specs.Words.{same}
+use Rattle.arguments.specs.declared.Action.{Action}
+use Rattle.arguments.specs.declared.Action.the-variants.{Compile, CompileJob, Trace, Collection, Help, Version}
+use Rattle.arguments.specs.declared.Action.the-variants.{Viewing, Coding, Unknown}
+use Rattle.arguments.specs.declared.View.the-variants.{Check, Show, Draw}
+use Rattle.arguments.specs.declared.Way.the-variants.{Encode, Decode}
+
+-- the action that asks about the command itself
+unfoldable pub askedAction : List ℕ → Action
+askedAction w =
+    if same w (bytes "help") then Help else
+    if same w (bytes "--help") then Help else
+    if same w (bytes "-h") then Help else
+    if same w (bytes "--version") then Version else Unknown
+
+-- the action on one record, or on one and what is recorded under it
+unfoldable pub recordAction : List ℕ → Action
+recordAction w =
+    if same w (bytes "check") then Viewing Check else
+    if same w (bytes "show") then Viewing Show else
+    if same w (bytes "draw") then Viewing Draw else
+    if same w (bytes "encode") then Coding Encode else
+    if same w (bytes "decode") then Coding Decode else askedAction w
+
+-- the action that a word names
+unfoldable pub actionOf : List ℕ → Action
+actionOf w =
+    if same w (bytes "compile") then Compile else
+    if same w (bytes "compile-job") then CompileJob else
+    if same w (bytes "trace") then Trace else
+    if same w (bytes "set") then Collection else recordAction w

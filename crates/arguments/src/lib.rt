@@ -1,0 +1,245 @@
+// What the arguments of the command say: an action, which arguments it reads and writes, numbers; and how a run ends.
+ghost use mathlib.Core.Path.{_≡_};
+ghost use Prim.Native.Nat.{_≤_, min};
+ghost use Rattle.arguments.specs.Naming.{askedAction, recordAction, actionOf};
+ghost use Rattle.arguments.specs.Shapes.{shaped, shapeOf, fits, statusOf};
+ghost use Rattle.arguments.specs.Parsing.{digitOf, parsed};
+use text::is_same;
+
+// What is printed of a record that is accepted: that it is, its code in words, or its code as a diagram.
+pub enum View {
+    Check,
+    Show,
+    Draw,
+}
+
+// What is done under a record.
+pub enum Way {
+    Encode,
+    Decode,
+}
+
+// What the command does.
+pub enum Action {
+    Compile,
+    CompileJob,
+    Trace,
+    Collection,
+    Help,
+    Version,
+    Viewing(View),
+    Coding(Way),
+    // No action has this name.
+    Unknown,
+}
+
+// What an action takes: the fewest and the most arguments, the program's name among them; the argument that names the
+// record it works under, the one that names the file it reads, and the one that names the file it writes. 0 is none;
+// without a file to write, or where that argument is left out, standard output is written.
+pub struct Shape {
+    pub fewest: usize,
+    pub most: usize,
+    pub under: usize,
+    pub read: usize,
+    pub written: usize,
+}
+
+// How a run ends.
+pub enum Status {
+    // 0: the result is written.
+    Done,
+    // 1: a refusal, or a file that cannot be read or written.
+    Failed,
+    // 2: arguments that fit no action.
+    Misused,
+}
+
+// What an argument says that is to be a number.
+pub enum Parsed {
+    Number(u8),
+    Wrong,
+}
+
+// The action that asks about the command itself.
+fn asked_action(word: &[u8]) -> Action
+    ensures answer { λ r. ⌜ r ≡ askedAction (now (word .entry)) ⌝ }
+{
+    if is_same(word, b"help") {
+        return Action::Help;
+    }
+    if is_same(word, b"--help") {
+        return Action::Help;
+    }
+    if is_same(word, b"-h") {
+        return Action::Help;
+    }
+    if is_same(word, b"--version") {
+        return Action::Version;
+    }
+    Action::Unknown
+}
+
+// The action on one record, or on one and what is recorded under it.
+fn record_action(word: &[u8]) -> Action
+    ensures answer { λ r. ⌜ r ≡ recordAction (now (word .entry)) ⌝ }
+{
+    if is_same(word, b"check") {
+        return Action::Viewing(View::Check);
+    }
+    if is_same(word, b"show") {
+        return Action::Viewing(View::Show);
+    }
+    if is_same(word, b"draw") {
+        return Action::Viewing(View::Draw);
+    }
+    if is_same(word, b"encode") {
+        return Action::Coding(Way::Encode);
+    }
+    if is_same(word, b"decode") {
+        return Action::Coding(Way::Decode);
+    }
+    asked_action(word)
+}
+
+// The action that a word names.
+pub fn action_of(word: &[u8]) -> Action
+    ensures answer { λ r. ⌜ r ≡ actionOf (now (word .entry)) ⌝ }
+{
+    if is_same(word, b"compile") {
+        return Action::Compile;
+    }
+    if is_same(word, b"compile-job") {
+        return Action::CompileJob;
+    }
+    if is_same(word, b"trace") {
+        return Action::Trace;
+    }
+    if is_same(word, b"set") {
+        return Action::Collection;
+    }
+    record_action(word)
+}
+
+// A shape of these numbers.
+fn with_places(fewest: usize, most: usize, under: usize, read: usize, written: usize) -> Shape
+    ensures answer { λ r. ⌜ r ≡ shaped fewest most under read written ⌝ }
+{
+    Shape {
+        fewest,
+        most,
+        under,
+        read,
+        written,
+    }
+}
+
+// What an action takes.
+pub fn shape_of(a: Action) -> Shape
+    ensures answer { λ r. ⌜ r ≡ shapeOf a ⌝ }
+{
+    match a {
+        Action::Compile => with_places(7, 8, 0, 0, 7),
+        Action::CompileJob => with_places(3, 4, 0, 2, 3),
+        Action::Trace => with_places(7, 7, 0, 0, 0),
+        Action::Collection => with_places(3, 3, 0, 2, 0),
+        Action::Help => with_places(2, 3, 0, 0, 0),
+        Action::Version => with_places(2, 2, 0, 0, 0),
+        Action::Viewing(_) => with_places(3, 3, 2, 0, 0),
+        Action::Coding(_) => with_places(5, 5, 2, 3, 4),
+        Action::Unknown => with_places(0, 0, 0, 0, 0),
+    }
+}
+
+// The argument that names the record of an action.
+pub fn under_place(a: Action) -> usize
+    ensures answer { λ r. ⌜ r ≡ shapeOf a .under ⌝ }
+{
+    let s = shape_of(a);
+    s.under
+}
+
+// The argument that names the file that an action reads.
+pub fn read_place(a: Action) -> usize
+    ensures answer { λ r. ⌜ r ≡ shapeOf a .read ⌝ }
+{
+    let s = shape_of(a);
+    s.read
+}
+
+// The argument that names the file that an action writes.
+pub fn written_place(a: Action) -> usize
+    ensures answer { λ r. ⌜ r ≡ shapeOf a .written ⌝ }
+{
+    let s = shape_of(a);
+    s.written
+}
+
+// Whether a count of arguments is from the fewest to the most.
+pub fn is_fitting(fewest: usize, most: usize, count: usize) -> bool
+    ensures answer { λ r. ⌜ r ≡ fits fewest most count ⌝ }
+{
+    if count < fewest {
+        return false;
+    }
+    if most < count {
+        return false;
+    }
+    true
+}
+
+// The exit status.
+pub fn status_number(s: Status) -> u32
+    ensures answer { λ r. ⌜ r ≡ statusOf s ⌝ }
+    ensures past { λ r. ⌜ r ≤ 2 ⌝ }
+{
+    match s {
+        Status::Done => 0,
+        Status::Failed => 1,
+        Status::Misused => 2,
+    }
+}
+
+// The value of a digit, 10 for any other byte.
+fn digit(c: u8) -> usize
+    ensures answer { λ r. ⌜ r ≡ digitOf c ⌝ }
+    ensures past { λ r. ⌜ r ≤ 10 ⌝ }
+{
+    if c < 48 {
+        return 10;
+    }
+    if c < 58 {
+        return (c - 48) as usize;
+    }
+    10
+}
+
+// A number, 255 for a greater one.
+fn capped(n: usize) -> usize
+    ensures answer { λ r. ⌜ r ≡ min n 255 ⌝ }
+    ensures past { λ r. ⌜ r ≤ 255 ⌝ }
+{
+    if n < 255 {
+        return n;
+    }
+    255
+}
+
+// The number that a text says, 255 for a greater one.
+pub fn parse(text: &[u8]) -> Parsed
+    ensures answer { λ r. ⌜ r ≡ parsed (now (text .entry)) ⌝ }
+{
+    if text.len() == 0 {
+        return Parsed::Wrong;
+    }
+    let mut n: usize = 0;
+    let mut i = 0;
+    while i < text.len() {
+        let d = digit(text[i]);
+        if 9 < d {
+            return Parsed::Wrong;
+        }
+        n = capped(n * 10 + d);
+        i += 1;
+    }
+    Parsed::Number(n as u8)
+}
