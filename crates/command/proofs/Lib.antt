@@ -1,3 +1,1 @@
-pub mod Parsing
-pub mod Results
-pub mod SetText
+pub mod Ending

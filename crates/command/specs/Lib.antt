@@ -1,6 +1,1 @@
-pub mod Naming
-pub mod Parsing
-pub mod Sayings
-pub mod Results
-pub mod SetText
-pub mod Viewing
+pub mod Ending

@@ -1,119 +1,86 @@
 // The actions that encode and decode.
 ghost use mathlib.Core.Path.{_≡_};
 ghost use Prim.Native.Nat.{_≤_};
-ghost use lib.ListN.{length};
-ghost use Rattle.command.specs.Results.{Within, markOf, marksIn};
-use crate::Status;
-use crate::arguments::Action;
-use crate::compiling::finish;
+ghost use Rattle.actions.specs.Results.{Within};
 use crate::inputs::is_twice;
 use crate::inputs::load;
 use crate::inputs::load_whole;
-use crate::messages::say_marks;
-use crate::usage::misused;
+use crate::inputs::recording;
+use crate::outputs::finish;
+use actions::code;
+use actions::marks;
 use answer::Answer;
+use arguments::Action;
+use arguments::Status;
+use arguments::Way;
+use arguments::read_place;
+use arguments::under_place;
+use arguments::written_place;
+use messages::say_marks;
+use messages::usage::misused_word;
 
-// 1,000,015 zeros: room for the words of 1,000,000 blocks.
-fn recording() -> [u8; 1000015]
-    ensures answer { λ r. ⌜ 1000015 ≡ length r ⌝ }
+// The most bytes that are taken: 1,000,000 blocks, and the words of as many.
+fn longest(w: Way) -> usize {
+    match w {
+        Way::Encode => 1000000,
+        Way::Decode => 1000015,
+    }
+}
+
+// Says how many blocks of a decoding are marked.
+fn tell_marks(w: Way, r: Answer, out: &[u8])
+    requires { ⌜ Within r (now out) ⌝ }
 {
-    [0; 1000015]
+    match w {
+        Way::Encode => {}
+        Way::Decode => match r {
+            Answer::Refused(_) => {}
+            Answer::Done(n) => say_marks(marks(&out[..n]), n),
+        },
+    }
 }
 
-// 1 for the mark 255, 0 for any other block.
-fn mark(block: u8) -> usize
-    ensures answer { λ r. ⌜ r ≡ markOf block ⌝ }
-    ensures past { λ r. ⌜ r ≤ 1 ⌝ }
+// Writes what encoding or decoding came to; the marks are said where all of it was written.
+fn finish_code(w: Way, r: Answer, out: &[u8]) -> Status
+    requires { ⌜ Within r (now out) ⌝ }
 {
-    if block == 255 {
-        return 1;
+    let a = Action::Coding(w);
+    let i = written_place(a);
+    let s = finish(a, i, r, out);
+    match s {
+        Status::Done => tell_marks(w, r, out),
+        Status::Failed => {}
+        Status::Misused => {}
     }
-    0
+    s
 }
 
-// How many blocks are marked.
-fn marks(blocks: &[u8]) -> usize
-    ensures answer { λ r. ⌜ r ≡ marksIn (now (blocks .entry)) ⌝ }
-{
-    let mut n: usize = 0;
-    let mut i = 0;
-    while i < blocks.len() {
-        n += mark(blocks[i]);
-        i += 1;
-    }
-    n
+// The words of blocks, or the blocks of words, under a record.
+fn code_bytes(w: Way, under: &[u8], bytes: &[u8], out: &mut [u8]) -> Status {
+    let r = code(w, under, bytes, out);
+    finish_code(w, r, out)
 }
 
-// The words of blocks under a record.
-fn encode_bytes(bytes: &[u8], blocks: &[u8], out: &mut [u8]) -> Status {
-    let a = codec::encoding::encode(bytes, blocks, out);
-    finish(a, out, 4)
-}
-
-// encode RECORD DATA OUT
-pub fn encode() -> Status {
-    if os::arg_count() != 5 {
-        return misused(Action::Encode);
+// encode RECORD DATA OUT, decode RECORD WORDS OUT
+pub fn code_files(w: Way) -> Status {
+    let a = Action::Coding(w);
+    let i = under_place(a);
+    let j = read_place(a);
+    if is_twice(i, j) {
+        return misused_word(a, b"-", b": only one file can be standard input");
     }
-    if is_twice(2, 3) {
-        return misused(Action::Encode);
-    }
-    let mut bytes = [0u8; 3865];
-    let r = load(2, &mut bytes);
-    if !r.good {
+    let mut under = [0u8; 3865];
+    let u = load(i, &mut under);
+    if !u.good {
         return Status::Failed;
     }
-    let mut blocks = files::buffer();
-    let b = load_whole(3, &mut blocks);
+    let n = u.size;
+    let mut bytes = recording();
+    let b = load_whole(j, &mut bytes, longest(w));
     if !b.good {
         return Status::Failed;
     }
-    let n = r.size;
     let k = b.size;
     let mut out = recording();
-    encode_bytes(&bytes[..n], &blocks[..k], &mut out)
-}
-
-// Writes the blocks of a decoding and says how many are marked.
-fn finish_blocks(a: Answer, out: &[u8]) -> Status
-    requires { ⌜ Within a (now out) ⌝ }
-{
-    let s = finish(a, out, 4);
-    match a {
-        Answer::Refused(_) => s,
-        Answer::Done(n) => {
-            say_marks(marks(&out[..n]), n);
-            s
-        }
-    }
-}
-
-// The blocks of words under a record.
-fn decode_bytes(bytes: &[u8], words: &[u8], out: &mut [u8]) -> Status {
-    let a = codec::decoding::decode(bytes, words, out);
-    finish_blocks(a, out)
-}
-
-// decode RECORD WORDS OUT
-pub fn decode() -> Status {
-    if os::arg_count() != 5 {
-        return misused(Action::Decode);
-    }
-    if is_twice(2, 3) {
-        return misused(Action::Decode);
-    }
-    let mut bytes = [0u8; 3865];
-    let r = load(2, &mut bytes);
-    if !r.good {
-        return Status::Failed;
-    }
-    let mut words = recording();
-    let w = load_whole(3, &mut words);
-    if !w.good {
-        return Status::Failed;
-    }
-    let n = r.size;
-    let k = w.size;
-    let mut out = recording();
-    decode_bytes(&bytes[..n], &words[..k], &mut out)
+    code_bytes(w, &under[..n], &bytes[..k], &mut out)
 }

@@ -1,52 +1,41 @@
-// The actions that compile, and what is done with the answer of a call.
-ghost use Rattle.command.specs.Results.{Within};
-use crate::Status;
-use crate::arguments::Action;
-use crate::arguments::numbers_said;
+// The actions that compile.
+ghost use mathlib.Core.Path.{_≡_};
+ghost use lib.ListN.{length};
+ghost use Rattle.compiler.specs.Compile.{compileRunLength};
+ghost use Rattle.command.specs.Ending.{endOf};
 use crate::inputs::load;
-use crate::inputs::print;
-use crate::inputs::store;
-use crate::messages::refuse;
-use crate::usage::misused;
+use crate::inputs::numbers_said;
+use crate::inputs::page;
+use crate::outputs::finish;
 use answer::Answer;
+use arguments::Action;
+use arguments::Status;
+use arguments::read_place;
+use arguments::written_place;
 use compiler::bytes::compile_job;
 use compiler::bytes::compile_run_length;
+use messages::system::print;
 use trace::tracing::trace_run_length;
-
-// Says the refusal of a call, or writes its result, which is in front of `out`, to the file that argument i names.
-pub fn finish(a: Answer, out: &[u8], i: usize) -> Status
-    requires { ⌜ Within a (now out) ⌝ }
-{
-    match a {
-        Answer::Refused(r) => refuse(r),
-        Answer::Done(n) => store(i, &out[..n]),
-    }
-}
 
 // The record of a run-length job.
 fn compile_numbers(job: &[u8], out: &mut [u8]) -> Status {
-    let a = compile_run_length(job, out);
-    finish(a, out, 7)
+    let i = written_place(Action::Compile);
+    let r = compile_run_length(job, out);
+    finish(Action::Compile, i, r, out)
 }
 
 // The record of a job.
 fn compile_bytes(job: &[u8], out: &mut [u8]) -> Status {
-    let a = compile_job(job, out);
-    finish(a, out, 3)
+    let i = written_place(Action::CompileJob);
+    let r = compile_job(job, out);
+    finish(Action::CompileJob, i, r, out)
 }
 
 // compile d k p q cap [OUT]
 pub fn compile() -> Status {
-    let count = os::arg_count();
-    if count < 7 {
-        return misused(Action::Compile);
-    }
-    if 8 < count {
-        return misused(Action::Compile);
-    }
-    let said = numbers_said();
+    let said = numbers_said(Action::Compile);
     if !said.good {
-        return misused(Action::Compile);
+        return Status::Misused;
     }
     let job = said.job;
     let mut out = [0u8; 3864];
@@ -55,15 +44,8 @@ pub fn compile() -> Status {
 
 // compile-job FILE [OUT]
 pub fn compile_file() -> Status {
-    let count = os::arg_count();
-    if count < 3 {
-        return misused(Action::CompileJob);
-    }
-    if 4 < count {
-        return misused(Action::CompileJob);
-    }
     let mut job = [0u8; 37];
-    let l = load(2, &mut job);
+    let l = load(read_place(Action::CompileJob), &mut job);
     if !l.good {
         return Status::Failed;
     }
@@ -72,17 +54,30 @@ pub fn compile_file() -> Status {
     compile_bytes(&job[..n], &mut out)
 }
 
+// How a trace ends: as compiling the job does.
+fn traced(job: &[u8], out: &mut [u8]) -> Status
+    ensures answer { λ s. ⌜ s ≡ endOf (compileRunLength (now (job .entry)) (length (now (out .entry)))) ⌝ }
+{
+    match compile_run_length(job, out) {
+        Answer::Refused(_) => Status::Failed,
+        Answer::Done(_) => Status::Done,
+    }
+}
+
 // trace d k p q cap
 pub fn trace_numbers() -> Status {
-    if os::arg_count() != 7 {
-        return misused(Action::Trace);
-    }
-    let said = numbers_said();
+    let said = numbers_said(Action::Trace);
     if !said.good {
-        return misused(Action::Trace);
+        return Status::Misused;
     }
     let job = said.job;
-    let mut out = files::buffer();
+    let mut out = page();
     let n = trace_run_length(&job, &mut out, 0);
-    print(&out[..n])
+    match print(&out[..n]) {
+        Status::Done => {
+            let mut record = [0u8; 3864];
+            traced(&job, &mut record)
+        }
+        s => s,
+    }
 }

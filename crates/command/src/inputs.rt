@@ -1,12 +1,16 @@
-// Files and standard input read into lent bytes, and results written. A file named - is standard input or output.
+// What the arguments say: numbers, and files and standard input read into lent bytes. A file named - is standard input.
+ghost use mathlib.Core.Path.{_≡_};
+ghost use lib.ListN.{length};
 ghost use Rattle.io.specs.Counts.{Counts};
 ghost use Rattle.files.specs.Files.{Fits};
-use crate::Status;
-use crate::messages::complain;
-use crate::messages::say_too_long;
+use arguments::Action;
+use arguments::Parsed;
+use arguments::parse;
 use files::Loaded;
 use libc::STDIN_FILENO;
-use libc::STDOUT_FILENO;
+use messages::say_too_long;
+use messages::system::complain;
+use messages::usage::misused_word;
 use text::is_same;
 
 // What reading a file comes to: whether it went well, whether the file has more bytes than were lent, and how many of
@@ -24,11 +28,70 @@ const NOTHING: Input = Input {
     size: 0,
 };
 
+// Five numbers, if all five arguments are numbers.
+pub struct Numbers {
+    pub good: bool,
+    pub job: [u8; 5],
+}
+
+// 1,000,015 zeros: room for the words of 1,000,000 blocks.
+pub fn recording() -> [u8; 1000015]
+    ensures answer { λ r. ⌜ 1000015 ≡ length r ⌝ }
+{
+    [0; 1000015]
+}
+
+// 300,000 zeros, for a text.
+pub fn page() -> [u8; 300000]
+    ensures answer { λ r. ⌜ 300000 ≡ length r ⌝ }
+{
+    [0; 300000]
+}
+
+// The number that argument i says. It says what is no number.
+fn number_at(a: Action, i: usize) -> Parsed {
+    let mut word = io::buffer();
+    let n = os::arg(i, &mut word);
+    match parse(&word[..n]) {
+        Parsed::Wrong => {
+            misused_word(a, &word[..n], b": not a number");
+            Parsed::Wrong
+        }
+        p => p,
+    }
+}
+
+// The numbers that arguments 2 to 6 say. It says what is no number.
+pub fn numbers_said(a: Action) -> Numbers {
+    let mut job = [0u8; 5];
+    let mut i = 0;
+    while i < 5 {
+        match number_at(a, 2 + i) {
+            Parsed::Wrong => {
+                return Numbers { good: false, job };
+            }
+            Parsed::Number(n) => {
+                job[i] = n;
+                i += 1;
+            }
+        }
+    }
+    Numbers { good: true, job }
+}
+
 // Whether argument i is -.
 fn is_dash(i: usize) -> bool {
     let mut name = io::buffer();
     let n = os::arg(i, &mut name);
     is_same(&name[..n], b"-")
+}
+
+// Whether arguments i and j both name standard input, which can be read only once.
+pub fn is_twice(i: usize, j: usize) -> bool {
+    if is_dash(i) {
+        return is_dash(j);
+    }
+    false
 }
 
 // Reads the file of this name.
@@ -76,60 +139,26 @@ pub fn load(i: usize, out: &mut [u8]) -> Input
     load_named(&name[..n], out)
 }
 
-// As load, and a file that is longer than the lent bytes is too long.
-pub fn load_whole(i: usize, out: &mut [u8]) -> Input
+// Says that the file that argument i names has too many bytes.
+fn too_long(i: usize, most: usize) -> Input
+    ensures answer { λ r. ⌜ r .size ≡ 0 ⌝ }
+{
+    let mut name = io::buffer();
+    let n = os::arg(i, &mut name);
+    say_too_long(&name[..n], most);
+    NOTHING
+}
+
+// As load, and a file of more bytes than `most` is too long.
+pub fn load_whole(i: usize, out: &mut [u8], most: usize) -> Input
     ensures past { λ r. ⌜ Counts (r .size) (now (out .exit)) ⌝ }
 {
     let r = load(i, out);
     if r.more {
-        let mut name = io::buffer();
-        let n = os::arg(i, &mut name);
-        say_too_long(&name[..n], out.len());
-        return Input {
-            good: false,
-            more: true,
-            size: r.size,
-        };
+        return too_long(i, most);
+    }
+    if most < r.size {
+        return too_long(i, most);
     }
     r
-}
-
-// Whether arguments i and j both name standard input, which can be read only once.
-pub fn is_twice(i: usize, j: usize) -> bool {
-    if is_dash(i) {
-        return is_dash(j);
-    }
-    false
-}
-
-// Writes to standard output.
-pub fn print(bytes: &[u8]) -> Status {
-    if io::write_all(STDOUT_FILENO, bytes) {
-        return Status::Done;
-    }
-    complain(b"standard output")
-}
-
-// Writes the file of this name, in place of one that is there.
-fn store_named(name: &[u8], bytes: &[u8]) -> Status {
-    if is_same(name, b"-") {
-        return print(bytes);
-    }
-    if files::store(name, bytes) {
-        return Status::Done;
-    }
-    complain(name)
-}
-
-// Writes the file that argument i names; standard output where there is no such argument.
-pub fn store(i: usize, bytes: &[u8]) -> Status {
-    if os::arg_count() <= i {
-        return print(bytes);
-    }
-    let mut name = io::buffer();
-    let n = os::arg(i, &mut name);
-    if os::errno() != 0 {
-        return complain(b"argument");
-    }
-    store_named(&name[..n], bytes)
 }

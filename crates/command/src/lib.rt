@@ -1,70 +1,126 @@
 // The command `sbc`: one action for each call of the library, on files.
 ghost use mathlib.Core.Path.{_≡_};
-ghost use Rattle.command.specs.Naming.{statusOf};
+ghost use Prim.Native.Nat.{_≤_};
+ghost use Rattle.command.specs.Ending.{decoding, wayBy};
 
-mod arguments;
 mod coding;
-mod collection;
 mod compiling;
 mod inputs;
-mod messages;
+mod outputs;
 mod records;
-mod usage;
 
 use arguments::Action;
+use arguments::Status;
+use arguments::Way;
 use arguments::action_of;
-use usage::misused;
+use arguments::is_fitting;
+use arguments::shape_of;
+use arguments::status_number;
+use messages::usage::misused;
+use messages::usage::misused_word;
+use messages::usage::print_use;
+use messages::usage::print_version;
 
-// How a run ends.
-pub enum Status {
-    // 0: the result is written.
-    Done,
-    // 1: a refusal, or a file that cannot be read or written.
-    Failed,
-    // 2: arguments that fit no action.
-    Misused,
+// help [ACTION]
+fn help() -> Status {
+    if os::arg_count() < 3 {
+        return print_use(Action::Help);
+    }
+    let mut word = io::buffer();
+    let n = os::arg(2, &mut word);
+    match action_of(&word[..n]) {
+        Action::Unknown => misused_word(Action::Help, &word[..n], b": no such action"),
+        a => print_use(a),
+    }
 }
 
-// The exit status.
-pub fn status_number(s: Status) -> u32
-    ensures answer { λ r. ⌜ r ≡ statusOf s ⌝ }
+// Whether a way is decoding, for a call that takes no enum.
+fn is_decoding(w: Way) -> bool
+    ensures answer { λ r. ⌜ r ≡ decoding w ⌝ }
 {
-    match s {
-        Status::Done => 0,
-        Status::Failed => 1,
-        Status::Misused => 2,
+    match w {
+        Way::Encode => false,
+        Way::Decode => true,
     }
 }
 
-// Does an action.
-fn act(a: Action) -> Status {
+// The way that is decoding or not.
+fn way_by(back: bool) -> Way
+    ensures answer { λ r. ⌜ r ≡ wayBy back ⌝ }
+{
+    if back {
+        return Way::Decode;
+    }
+    Way::Encode
+}
+
+// encode or decode. It is exported so that it has a stack frame of its own.
+#[no_mangle]
+pub extern "C" fn sbc_action_code(back: bool) -> u32
+    ensures past { λ r. ⌜ r ≤ 2 ⌝ }
+{
+    status_number(coding::code_files(way_by(back)))
+}
+
+// set. It is exported so that it has a stack frame of its own.
+#[no_mangle]
+pub extern "C" fn sbc_action_set() -> u32
+    ensures past { λ r. ⌜ r ≤ 2 ⌝ }
+{
+    status_number(records::set_file())
+}
+
+// Does an action; the answer is the exit status.
+fn act(a: Action) -> u32
+    ensures past { λ r. ⌜ r ≤ 2 ⌝ }
+{
     match a {
-        Action::Compile => compiling::compile(),
-        Action::CompileJob => compiling::compile_file(),
-        Action::Trace => compiling::trace_numbers(),
-        Action::Collection => collection::set(),
-        Action::Help => usage::help(),
-        Action::Check => records::check_file(),
-        Action::Show => records::show_file(),
-        Action::Draw => records::draw_file(),
-        Action::Encode => coding::encode(),
-        Action::Decode => coding::decode(),
-        Action::Unknown => misused(Action::Unknown),
+        Action::Compile => status_number(compiling::compile()),
+        Action::CompileJob => status_number(compiling::compile_file()),
+        Action::Trace => status_number(compiling::trace_numbers()),
+        Action::Collection => sbc_action_set(),
+        Action::Help => status_number(help()),
+        Action::Version => status_number(print_version()),
+        Action::Viewing(v) => status_number(records::view_file(v)),
+        Action::Coding(w) => sbc_action_code(is_decoding(w)),
+        Action::Unknown => status_number(misused(Action::Unknown)),
     }
 }
 
-// Does what the arguments say.
-pub fn run() -> Status {
+// Does an action, if there are as many arguments as it takes.
+fn act_fitting(a: Action) -> u32
+    ensures past { λ r. ⌜ r ≤ 2 ⌝ }
+{
+    let s = shape_of(a);
+    if is_fitting(s.fewest, s.most, os::arg_count()) {
+        return act(a);
+    }
+    status_number(misused(a))
+}
+
+// Does what the arguments say; the answer is the exit status: 0, 1 or 2.
+pub fn run() -> u32
+    ensures past { λ r. ⌜ r ≤ 2 ⌝ }
+{
     let mut word = io::buffer();
     let n = os::arg(1, &mut word);
     if os::errno() != 0 {
-        return misused(Action::Unknown);
+        return status_number(misused(Action::Unknown));
     }
-    act(action_of(&word[..n]))
+    match action_of(&word[..n]) {
+        Action::Unknown => status_number(misused_word(
+            Action::Unknown,
+            &word[..n],
+            b": no such action",
+        )),
+        a => act_fitting(a),
+    }
 }
 
-// Does what the arguments say, and answers the exit status.
+// Does what the arguments say; the answer is the exit status: 0, 1 or 2.
 #[no_mangle]
-pub extern "C" fn sbc_main() -> u32 {
-    status_number(run())
+pub extern "C" fn sbc_main() -> u32
+    ensures past { λ r. ⌜ r ≤ 2 ⌝ }
+{
+    run()
 }

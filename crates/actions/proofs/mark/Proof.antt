@@ -1,0 +1,18 @@
+-- `mark` meets its contract, by cases on the block.
+-- Assumes nothing.
+use native.Mathlib.Omega.{arith}
+use borrow.Author.Tests.{eq-eqb, ne-eqb}
+use Rattle.actions.specs.Results.{markOf}
+use Rattle.actions.proofs.mark.Statement.{statement}
+use Rattle.actions.proofs.mark.Tie as tie
+
+returns : tie.Need-returns
+unfolding markOf
+returns c = (simp (eq-eqb _ _ (c .if1 .taken)), omega arith)
+
+returns-2 : tie.Need-returns-2
+unfolding markOf
+returns-2 c = (simp (ne-eqb _ _ (c .if1 .left)), omega arith)
+
+pub mark-spec : {M : Type 1} → statement M
+mark-spec = tie.close (tie.spec returns returns-2)

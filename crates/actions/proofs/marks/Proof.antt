@@ -1,0 +1,68 @@
+-- `marks` meets its contract. The loop's invariant: n is the number of marks passed. The measure is what is left of the
+-- length.
+-- Assumes nothing.
+use mathlib.Core.Path.{_≡_, sym, ap, _∙_}
+use Prim.Native.Nat.{_+_, _-_, _≤_}
+use native.Mathlib.Nat.{zero-add, add-zero}
+use native.Mathlib.Omega.{arith}
+use denote.Ref.{now}
+use lib.ListN.{length, drop}
+use Rattle.actions.specs.Results.{marksIn}
+use Rattle.actions.proofs.Results.{mark-on, mark-end}
+use borrow.Author.Needs.{needs}
+use Rattle.actions.proofs.marks.Statement.{statement}
+use Rattle.actions.proofs.marks.Tie as tie
+
+abbrev Inv-loop : tie.InvT-loop
+Inv-loop blocks n₀ i₀ n i = (i ≤ length blocks) × (n ≤ i) × (marksIn blocks ≡ n + marksIn (drop i blocks))
+
+abbrev μ-loop : tie.MeasureT-loop
+μ-loop blocks n₀ i₀ n i = length blocks - i
+
+loop-holds : tie.Need-loop-holds Inv-loop μ-loop
+loop-holds c = (omega arith, omega arith, sym (zero-add _))
+
+shared-slice-read-mark : tie.Need-shared-slice-read-mark Inv-loop μ-loop
+shared-slice-read-mark c = search needs
+
+mark-requires : tie.Need-mark-requires Inv-loop μ-loop
+mark-requires c κs = search needs
+
+add-n : tie.Need-add-n Inv-loop μ-loop
+add-n c = omega (arith, c .mark .ensures .1)
+
+add-i : tie.Need-add-i Inv-loop μ-loop
+add-i c = search needs
+
+loop-less : tie.Need-loop-less Inv-loop μ-loop
+loop-less c = search needs
+
+loop-again : tie.Need-loop-again Inv-loop μ-loop
+loop-again c =
+    let l = c .before .before .before .loop in
+    let bs = now (c .before .before .before .before .before .args .blocks) in
+    let more = mark-on bs (l .i) (omega arith) in
+    let one = c .mark .ensures .0 in
+    (omega arith, omega (arith, c .mark .ensures .1), omega (arith, more, one))
+
+returns : tie.Need-returns Inv-loop μ-loop
+returns c =
+    let l = c .before .loop in
+    let bs = now (c .before .before .before .args .blocks) in
+    let none = mark-end bs (l .i) (omega arith) in
+    omega (arith, none)
+
+pub marks-spec : {M : Type 1} → statement M
+marks-spec =
+    tie.close
+    (tie.spec
+    Inv-loop
+    μ-loop
+    loop-holds
+    shared-slice-read-mark
+    mark-requires
+    add-n
+    add-i
+    loop-less
+    loop-again
+    returns)

@@ -1,0 +1,13 @@
+-- `page` meets its contract: as many zeros as the array repeats.
+-- Assumes nothing.
+use mathlib.Core.Path.{sym}
+use Prim.Native.Nat.{ℕ}
+use lib.ListN.{length-replicate}
+use Rattle.command.proofs.inputs.page.Statement.{statement}
+use Rattle.command.proofs.inputs.page.Tie as tie
+
+returns : tie.Need-returns
+returns c = sym (length-replicate {0} {A = ℕ} 300000 0)
+
+pub page-spec : {M : Type 1} → statement M
+page-spec = tie.close (tie.spec returns)

@@ -1,0 +1,13 @@
+-- `recording` meets its contract: as many zeros as the array repeats.
+-- Assumes nothing.
+use mathlib.Core.Path.{sym}
+use Prim.Native.Nat.{ℕ}
+use lib.ListN.{length-replicate}
+use Rattle.command.proofs.inputs.recording.Statement.{statement}
+use Rattle.command.proofs.inputs.recording.Tie as tie
+
+returns : tie.Need-returns
+returns c = sym (length-replicate {0} {A = ℕ} 1000015 0)
+
+pub recording-spec : {M : Type 1} → statement M
+recording-spec = tie.close (tie.spec returns)

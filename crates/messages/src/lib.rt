@@ -1,0 +1,103 @@
+// What the command says on standard error, and how a run ends that says it.
+ghost use mathlib.Core.Path.{_≡_};
+ghost use Rattle.text.specs.Texts.{Added};
+ghost use Rattle.messages.specs.Sayings.{saying, refusalLine, setRefusalLine, marksLine};
+ghost use Rattle.arguments.specs.declared.Status.the-variants.{Failed};
+
+pub mod system;
+pub mod usage;
+
+use answer::Refusal;
+use arguments::Status;
+use libc::STDERR_FILENO;
+use text::put;
+use text::put_number;
+
+// The name of the command, the number of a refusal and its condition in front; the answer is the place behind them.
+fn put_saying(out: &mut [u8], r: Refusal) -> usize
+    ensures written { λ e. ⌜ Added (saying r) 0 (now (out .entry)) (now (out .exit)) e ⌝ }
+{
+    let refused = put(out, 0, b"sbc: ");
+    refusals::put_refusal(out, refused, r)
+}
+
+// What is said of a refusal.
+fn put_refusal(out: &mut [u8], r: Refusal) -> usize
+    ensures written { λ e. ⌜ Added (refusalLine r) 0 (now (out .entry)) (now (out .exit)) e ⌝ }
+{
+    let end = put_saying(out, r);
+    put(out, end, b"\n")
+}
+
+// What is said of the refusal of a set.
+fn put_set_refusal(out: &mut [u8], i: usize, r: Refusal) -> usize
+    ensures written { λ e. ⌜ Added (setRefusalLine i r) 0 (now (out .entry)) (now (out .exit)) e ⌝ }
+{
+    let number = put_saying(out, r);
+    let end = put_number(out, number, b", at record ", i as u64);
+    put(out, end, b"\n")
+}
+
+// How many of n blocks are marked.
+fn put_marks(out: &mut [u8], k: usize, n: usize) -> usize
+    ensures written { λ e. ⌜ Added (marksLine k n) 0 (now (out .entry)) (now (out .exit)) e ⌝ }
+{
+    let of = put_number(out, 0, b"sbc: ", k as u64);
+    let end = put_number(out, of, b" of ", n as u64);
+    put(out, end, b" blocks marked\n")
+}
+
+// Says a line; the run fails.
+fn tell(line: &[u8]) -> Status
+    ensures answer { λ s. ⌜ s ≡ Failed ⌝ }
+{
+    io::write_all(STDERR_FILENO, line);
+    Status::Failed
+}
+
+// Says a refusal.
+pub fn refuse(r: Refusal) -> Status
+    ensures answer { λ s. ⌜ s ≡ Failed ⌝ }
+{
+    let mut line = [0u8; 256];
+    let n = put_refusal(&mut line, r);
+    tell(&line[..n])
+}
+
+// Says the refusal of a set.
+pub fn refuse_set(i: usize, r: Refusal) -> Status
+    ensures answer { λ s. ⌜ s ≡ Failed ⌝ }
+{
+    let mut line = [0u8; 256];
+    let n = put_set_refusal(&mut line, i, r);
+    tell(&line[..n])
+}
+
+// Says how many of n blocks are marked.
+pub fn say_marks(k: usize, n: usize) {
+    let mut line = [0u8; 128];
+    let size = put_marks(&mut line, k, n);
+    io::write_all(STDERR_FILENO, &line[..size]);
+}
+
+// Says what is wrong with what is named.
+pub fn say(name: &[u8], what: &[u8]) -> Status
+    ensures answer { λ s. ⌜ s ≡ Failed ⌝ }
+{
+    let mut line = [0u8; 4352];
+    let a = put(&mut line, 0, b"sbc: ");
+    let b = put(&mut line, a, name);
+    let c = put(&mut line, b, what);
+    let n = put(&mut line, c, b"\n");
+    tell(&line[..n])
+}
+
+// Says that what is named has more bytes than are taken.
+pub fn say_too_long(name: &[u8], most: usize) -> Status
+    ensures answer { λ s. ⌜ s ≡ Failed ⌝ }
+{
+    let mut what = [0u8; 64];
+    let at = put_number(&mut what, 0, b": longer than ", most as u64);
+    let n = put(&mut what, at, b" bytes");
+    say(name, &what[..n])
+}

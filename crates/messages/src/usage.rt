@@ -1,0 +1,160 @@
+// How the command is used.
+ghost use mathlib.Core.Path.{_≡_};
+ghost use Prim.Native.Nat.{_≤_};
+ghost use Rattle.arguments.specs.Shapes.{statusOf};
+ghost use Rattle.arguments.specs.declared.Status.the-variants.{Misused};
+use crate::say;
+use crate::system::complain;
+use crate::system::print;
+use arguments::Action;
+use arguments::Status;
+use arguments::View;
+use arguments::Way;
+use libc::STDERR_FILENO;
+use libc::STDOUT_FILENO;
+
+// All actions.
+fn tell_all(file: i32) -> bool {
+    io::write_all(
+        file,
+        b"usage: sbc ACTION [ARGUMENT]...
+  compile d k p q cap [OUT]  compile a run-length job to a record
+  compile-job FILE [OUT]     compile a job to a record
+  trace d k p q cap          print how a run-length job is compiled
+  check FILE                 say whether a record is accepted
+  show FILE                  print the code of a record
+  draw FILE                  print the code of a record as a Graphviz digraph
+  encode RECORD DATA OUT     record data blocks as words
+  decode RECORD WORDS OUT    read words as data blocks
+  set FILE                   list the records of a set
+  help [ACTION]              print this, or more about an action; --help and -h too
+  --version                  print the version
+A file named - is standard input or standard output.
+",
+    )
+}
+
+// The actions that compile bytes and trace compiling.
+fn tell_compiling(file: i32, a: Action) -> bool {
+    match a {
+        Action::CompileJob => io::write_all(
+            file,
+            b"usage: sbc compile-job FILE [OUT]
+Compiles the job in FILE to a code, and writes its record to OUT, or to standard output. A job is the bytes p, q, cap,
+K, then for each of K states the next states for channel bits 0 and 1, with 255 for none.
+",
+        ),
+        Action::Trace => io::write_all(
+            file,
+            b"usage: sbc trace d k p q cap
+Prints how the run-length job is compiled, step by step. The last line of a job that is refused is its refusal.
+",
+        ),
+        _ => io::write_all(
+            file,
+            b"usage: sbc compile d k p q cap [OUT]
+Compiles the run-length constraint (d, k) to a code of p data bits to q channel bits, with weights up to cap, and
+writes its record to OUT, or to standard output. d and k: 0 to 15, d at most k; p: 1 to 4; q: 1 to 8; cap: 1 to 16.
+",
+        ),
+    }
+}
+
+// The actions on a record.
+fn tell_record(file: i32, v: View) -> bool {
+    match v {
+        View::Check => io::write_all(
+            file,
+            b"usage: sbc check FILE
+Says whether the record in FILE is accepted.
+",
+        ),
+        View::Show => io::write_all(
+            file,
+            b"usage: sbc show FILE
+Prints the code of the record in FILE: its rate, its window, its constraint and its table.
+",
+        ),
+        View::Draw => io::write_all(
+            file,
+            b"usage: sbc draw FILE
+Prints the states and edges of the record in FILE as a Graphviz digraph.
+",
+        ),
+    }
+}
+
+// The actions that encode and decode.
+fn tell_coding(file: i32, w: Way) -> bool {
+    match w {
+        Way::Encode => io::write_all(
+            file,
+            b"usage: sbc encode RECORD DATA OUT
+Encodes the blocks in DATA, one byte each and below 2^p, under the record in RECORD, and writes the words to OUT, one
+byte each. N blocks give N + a words. At most 1,000,000 blocks. Only one of RECORD and DATA can be -.
+",
+        ),
+        Way::Decode => io::write_all(
+            file,
+            b"usage: sbc decode RECORD WORDS OUT
+Decodes the words in WORDS, one byte each and below 2^q, under the record in RECORD, and writes the blocks to OUT, one
+byte each. W words give W - a blocks. A block that cannot be read is the mark 255; how many there are is said on
+standard error. At most 1,000,015 words. Only one of RECORD and WORDS can be -.
+",
+        ),
+    }
+}
+
+// An action; the answer is whether all was written.
+fn tell(file: i32, a: Action) -> bool {
+    match a {
+        Action::Compile => tell_compiling(file, a),
+        Action::CompileJob => tell_compiling(file, a),
+        Action::Trace => tell_compiling(file, a),
+        Action::Viewing(v) => tell_record(file, v),
+        Action::Coding(w) => tell_coding(file, w),
+        Action::Collection => io::write_all(
+            file,
+            b"usage: sbc set FILE
+Lists the records of the set in FILE: the number of each, its first byte, its length, p, q, states, m and a. A set is
+a count byte, then each record behind a two-byte length, most significant byte first. At most 1,000,000 bytes.
+",
+        ),
+        Action::Help => tell_all(file),
+        Action::Version => tell_all(file),
+        Action::Unknown => tell_all(file),
+    }
+}
+
+// Says how an action is used.
+pub fn misused(a: Action) -> Status
+    ensures answer { λ s. ⌜ s ≡ Misused ⌝ }
+{
+    tell(STDERR_FILENO, a);
+    Status::Misused
+}
+
+// Says what is wrong with a word, and how an action is used.
+pub fn misused_word(a: Action, word: &[u8], what: &[u8]) -> Status
+    ensures answer { λ s. ⌜ s ≡ Misused ⌝ }
+{
+    say(word, what);
+    misused(a)
+}
+
+// Prints how an action is used.
+pub fn print_use(a: Action) -> Status
+    ensures past { λ s. ⌜ statusOf s ≤ 1 ⌝ }
+{
+    if tell(STDOUT_FILENO, a) {
+        return Status::Done;
+    }
+    complain(b"standard output")
+}
+
+// Prints the version.
+pub fn print_version() -> Status
+    ensures past { λ s. ⌜ statusOf s ≤ 1 ⌝ }
+{
+    print(b"sbc 1.0\n")
+}

@@ -1,0 +1,97 @@
+-- `put_record` meets its contract: the record stands where it is found.
+-- Assumes nothing.
+use mathlib.Core.Path.{_≡_, sym, _∙_}
+use Prim.Native.Nat.{_+_, _≤_}
+use native.Mathlib.Omega.{arith}
+use denote.Ref.{now}
+use lib.ListN.{length}
+use Rattle.text.proofs.Adding.{added-same}
+use Rattle.setlines.proofs.SetText.{record-within, text-nowhere, text-at, part-line}
+use borrow.Author.Needs.{needs}
+use Rattle.setlines.proofs.put_record.Statement.{statement}
+use Rattle.setlines.proofs.put_record.Tie as tie
+
+find-requires : tie.Need-find-requires
+find-requires c κs = search needs
+
+enum-told : tie.Need-enum-told
+enum-told c = search needs
+
+slice-aggregate-put : tie.Need-slice-aggregate-put
+slice-aggregate-put c = search needs
+
+put-requires : tie.Need-put-requires
+put-requires c κs = search needs
+
+enum-known-start : tie.Need-enum-known-start
+enum-known-start c = search needs
+
+-- the record that is found lies within the set
+within : (c : tie.After-known-told)
+    → c .before .start .given .0 .0 + c .before .start .given .0 .1 .0
+    ≤ length (now (c .before .before .before .before .before .before .args .set))
+within c =
+    let a = c .before .before .before .before .before .before .args in
+    let found = sym (c .before .before .before .find .ensures) ∙ c .before .start .given .1 in
+    record-within (now (a .set)) (a .i) _ _ found
+
+add-end : tie.Need-add-end
+add-end c = omega (arith, within c)
+
+sub-put-record-at : tie.Need-sub-put-record-at
+sub-put-record-at c = search needs
+
+part-put-record-at-start : tie.Need-part-put-record-at-start
+part-put-record-at-start c = search needs
+
+part-put-record-at-end : tie.Need-part-put-record-at-end
+part-put-record-at-end c = within (c .before)
+
+put-record-at-requires : tie.Need-put-record-at-requires
+put-record-at-requires c κs = search needs
+
+same-length : tie.Need-same-length
+same-length c = search needs
+
+returns : tie.Need-returns
+returns c =
+    let put = c .before .before in
+    let a = put .before .before .before .before .before .before .before .before .args in
+    let told = put .before .before .before in
+    added-same (text-nowhere (now (a .set)) (a .i) (sym (told .before .before .find .ensures)
+    ∙ told .enum-told .given .1))
+    (put .put .ensures)
+
+same-length-2 : tie.Need-same-length-2
+same-length-2 c = search needs
+
+returns-2 : tie.Need-returns-2
+returns-2 c =
+    let put = c .before .before in
+    let k = put .before .before .before in
+    let a = k .before .before .before .before .before .before .args in
+    let s = now (a .set) in
+    let start = k .before .start .given .0 .0 in
+    let len = k .before .start .given .0 .1 .0 in
+    added-same (part-line s (a .i) start len (within k)
+    ∙ text-at s (a .i) start len (sym (k .before .before .before .find .ensures) ∙ k .before .start .given .1))
+    (put .put-record-at .ensures)
+
+pub put-record-spec : {M : Type 1} → statement M
+put-record-spec =
+    tie.close
+    (tie.spec
+    find-requires
+    enum-told
+    slice-aggregate-put
+    put-requires
+    enum-known-start
+    add-end
+    sub-put-record-at
+    part-put-record-at-start
+    part-put-record-at-end
+    put-record-at-requires
+    same-length
+    returns
+    same-length-2
+    returns-2)
