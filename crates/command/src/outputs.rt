@@ -1,4 +1,4 @@
-// Results written: to the file that an action's argument names, or to standard output. A file named - is standard output.
+// Results written: to the file that an action's argument names, or to standard output, which a file named - is.
 ghost use mathlib.Core.Path.{_≡_};
 ghost use Prim.Native.Nat.{_≤_};
 ghost use Rattle.io.specs.Counts.{Counts};

@@ -1,4 +1,4 @@
-// Whole files read into lent bytes and written from them.
+// Whole files read into lent bytes.
 ghost use mathlib.Core.Path.{_≡_};
 ghost use lib.ListN.{length};
 ghost use Rattle.files.specs.Files.{Fits};
@@ -49,18 +49,4 @@ pub fn load(path: &[u8], out: &mut [u8]) -> Loaded
     let r = load_open(file, out);
     close(file);
     r
-}
-
-// Writes the file of this name, in place of one that is there; the answer is whether all bytes were written.
-pub fn store(path: &[u8], bytes: &[u8]) -> bool {
-    let file = os::open_overwrite(path);
-    if file < 0 {
-        return false;
-    }
-    let written = io::write_all(file, bytes);
-    let closed = close(file);
-    if closed < 0 {
-        return false;
-    }
-    written
 }

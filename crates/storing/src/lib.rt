@@ -1,6 +1,6 @@
-// Results written to files. A result goes to a new file beside the one that is named, which is renamed when it is whole,
-// so that a write that fails leaves the old file as it was. What can hold no bytes to lose (a pipe, a terminal, a device)
-// is written as it stands.
+// Results written to files. A result goes to a new file beside the one that is named, which is renamed when it is
+// whole, so that a write that fails leaves the old file as it was. What has no bytes to lose (a pipe, a terminal, a
+// device) is written as it stands.
 ghost use mathlib.Core.Path.{_≡_};
 ghost use Prim.Native.Nat.{_≤_};
 ghost use lib.ListN.{length};
@@ -77,7 +77,8 @@ fn fill(file: i32, bytes: &[u8]) -> Stored
     Stored::Whole(n)
 }
 
-// Makes a file of a name that no file has; the name ends in XXXXXX, which is replaced. Its mode is that of any new file.
+// Makes a file of a name that no file has; the name ends in XXXXXX, which is replaced. Its mode is that of any new
+// file.
 fn make_new(name: &mut [u8]) -> i32 {
     let file = os::create_temp(name);
     if file < 0 {

@@ -1,5 +1,5 @@
--- `write_bytes` meets its contract. The loop's invariant: what was taken is no more than there is. The measure is what is
--- left.
+-- `write_bytes` meets its contract. The loop's invariant: what was taken is no more than there is. The measure is what
+-- is left.
 -- Assumes nothing.
 use Prim.Native.Nat.{_+_, _-_, _^_, _≤_, _<_}
 use native.Mathlib.Omega.{arith}

@@ -16,7 +16,8 @@ finish-requires c κs =
     let a = place .before .before .before .args in
     let B = now (a .out) in (
       place .written-place .ensures,
-      result-within (compileRunLength (now (a .job)) (length B)) (call .result) B _ (call .ensures .0) (call .ensures .1),
+      result-within (compileRunLength (now (a .job)) (length B)) (call .result) B _ (call .ensures .0)
+          (call .ensures .1),
     )
 
 pub compile-numbers-spec : {M : Type 1} → statement M

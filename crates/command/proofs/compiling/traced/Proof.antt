@@ -13,13 +13,15 @@ returns : tie.Need-returns
 returns c =
     let call = c .before .before .before .before in
     let a = call .before .before .before .before .args in
-    end-refused (compileRunLength (now (a .job)) (length (now (a .out)))) _ (sym (call .compile-run-length .ensures .0) ∙ c .enum-told .given .1)
+    end-refused (compileRunLength (now (a .job)) (length (now (a .out)))) _
+    (sym (call .compile-run-length .ensures .0) ∙ c .enum-told .given .1)
 
 returns-2 : tie.Need-returns-2
 returns-2 c =
     let call = c .before .before .before .before in
     let a = call .before .before .before .before .args in
-    end-done (compileRunLength (now (a .job)) (length (now (a .out)))) _ (sym (call .compile-run-length .ensures .0) ∙ c .enum-told2 .given .1)
+    end-done (compileRunLength (now (a .job)) (length (now (a .out)))) _
+    (sym (call .compile-run-length .ensures .0) ∙ c .enum-told2 .given .1)
 
 pub traced-spec : {M : Type 1} → statement M
 traced-spec =
