@@ -54,15 +54,19 @@ fn list_or_tell(job: &[u8], out: &mut [u8]) -> Answer {
     }
 }
 
-// The call of a kind: 1 compiles a job, 2 a run-length job, 3 checks a record, 4 encodes, 5 decodes, 6 walks a set,
-// and any other lists.
-pub fn call(kind: usize, first: &[u8], second: &[u8], out: &mut [u8]) -> Told {
+// The call of a kind that takes a job: 1 compiles a job, 2 a run-length job, and any other lists.
+fn call_job(kind: usize, job: &[u8], out: &mut [u8]) -> Answer {
     if kind == 1 {
-        return told_by(compile_job(first, out));
+        return compile_job(job, out);
     }
     if kind == 2 {
-        return told_by(compile_run_length(first, out));
+        return compile_run_length(job, out);
     }
+    list_or_tell(job, out)
+}
+
+// The call of a kind: 3 checks a record, 4 encodes, 5 decodes, 6 walks a set, and any other takes a job.
+pub fn call(kind: usize, first: &[u8], second: &[u8], out: &mut [u8]) -> Told {
     if kind == 3 {
         return told_by(check(first));
     }
@@ -75,7 +79,7 @@ pub fn call(kind: usize, first: &[u8], second: &[u8], out: &mut [u8]) -> Told {
     if kind == 6 {
         return walk_set(first);
     }
-    told_by(list_or_tell(first, out))
+    told_by(call_job(kind, first, out))
 }
 
 // The byte that is to stand at place i of the output: that of the expected output, and behind it 165, as lent.

@@ -149,14 +149,14 @@ fn is_end(bytes: &[u8], at: usize) -> bool
 
 // What is printed of a tally.
 fn say_tally(t: Tally) {
-    say_kind(b"compile_job", t.kinds[1], t.differ[1]);
-    say_kind(b"compile_run_length", t.kinds[2], t.differ[2]);
-    say_kind(b"check", t.kinds[3], t.differ[3]);
-    say_kind(b"encode", t.kinds[4], t.differ[4]);
-    say_kind(b"decode", t.kinds[5], t.differ[5]);
-    say_kind(b"set", t.kinds[6], t.differ[6]);
-    say_kind(b"listing", t.kinds[7], t.differ[7]);
-    say_kind(b"all", t.cases, t.wrong);
+    say_kind(b"compile_job ", t.kinds[1], t.differ[1]);
+    say_kind(b"compile_run_length ", t.kinds[2], t.differ[2]);
+    say_kind(b"check ", t.kinds[3], t.differ[3]);
+    say_kind(b"encode ", t.kinds[4], t.differ[4]);
+    say_kind(b"decode ", t.kinds[5], t.differ[5]);
+    say_kind(b"set ", t.kinds[6], t.differ[6]);
+    say_kind(b"listing ", t.kinds[7], t.differ[7]);
+    say_kind(b"all ", t.cases, t.wrong);
 }
 
 // Runs every case and prints what came out.
