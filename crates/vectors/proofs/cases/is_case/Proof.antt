@@ -12,7 +12,8 @@ use Rattle.vectors.proofs.cases.is_case.Tie as tie
 returns-3 : tie.Need-returns-3
 returns-3 c =
     let two = c .before in
-    λ e. record { known = omega (arith, two .if2 .left); placed = two .before .before .before .before .pre; last = leb-true _ _ e }
+    let start = two .before .before .before .before in
+    λ e. record { known = omega (arith, two .if2 .left); placed = start .pre; last = leb-true _ _ e }
 
 pub is-case-spec : {M : Type 1} → statement M
 is-case-spec =
