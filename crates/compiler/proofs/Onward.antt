@@ -20,10 +20,12 @@ use Rattle.record.specs.Checks.{outcomeIn, packWith}
 use Rattle.record.proofs.RecordWriting.{pack-ready}
 
 -- ---- what a verdict says
-pub read-bad : (r : TableAnswer) (o : Outcome Code) (x : Refusal) → outcomeIn r ≡ o → r .verdict ≡ Bad x → o ≡ refused x
+pub read-bad : (r : TableAnswer) (o : Outcome Code) (x : Refusal) → outcomeIn r ≡ o → r .verdict ≡ Bad x
+    → o ≡ refused x
 read-bad r o x e q = sym e ∙ ap (λ v. verdictOn v (codeIn (r .table))) q
 
-pub read-done : (r : TableAnswer) (o : Outcome Code) → outcomeIn r ≡ o → r .verdict ≡ Good → o ≡ done (codeIn (r .table))
+pub read-done : (r : TableAnswer) (o : Outcome Code) → outcomeIn r ≡ o → r .verdict ≡ Good
+    → o ≡ done (codeIn (r .table))
 read-done r o e q = sym e ∙ ap (λ v. verdictOn v (codeIn (r .table))) q
 
 -- ---- what the next stage comes to
