@@ -38,7 +38,8 @@ unfolding statesBits
 states-begin k B at = spliced-none at B
 
 -- the two next states of one state more
-pub states-next : (k : Constraint) (s : ℕ) (B B₁ B₂ B₃ : List ℕ) → headerBits + stateSize + s * stateSize ≤ length B → length B₁ ≡ length B
+pub states-next : (k : Constraint) (s : ℕ) (B B₁ B₂ B₃ : List ℕ)
+    → headerBits + stateSize + s * stateSize ≤ length B → length B₁ ≡ length B
     → B₁ ≡ spliced headerBits (statesBits (map (nextStatesAt k) (range s))) B
     → B₂ ≡ spliced (headerBits + s * stateSize) (nextBits (getD (k .zero) s 0)) B₁
     → B₃ ≡ spliced (headerBits + 5 + s * stateSize) (nextBits (getD (k .one) s 0)) B₂
@@ -47,11 +48,13 @@ unfolding statesBits stateBits
 states-next k s B B₁ B₂ B₃ h l p q r =
     let z = getD (k .zero) s 0 in
     let o = getD (k .one) s 0 in
-    let e : headerBits + 5 + s * stateSize ≡ headerBits + s * stateSize + length (nextBits z) = omega (arith, length-next z) in
+    let e : headerBits + 5 + s * stateSize ≡ headerBits + s * stateSize + length (nextBits z) =
+    omega (arith, length-next z) in
     let g : B₃ ≡ spliced (headerBits + s * stateSize) (nextBits z ++ nextBits o) B₁ =
     spliced-next B₁ B₂ B₃ (nextBits z) (nextBits o) (headerBits + s * stateSize) (headerBits + 5 + s * stateSize) e
     (omega (arith, length-next o)) q r in
-    run-next (λ i. stateBits (nextStatesAt k i)) 10 (length-state k) B B₁ B₃ headerBits s (headerBits + s * stateSize) refl (omega arith)
+    run-next (λ i. stateBits (nextStatesAt k i)) stateSize (length-state k) B B₁ B₃ headerBits s
+    (headerBits + s * stateSize) refl (omega arith)
     (p ∙ ap (λ x. spliced headerBits (concat x) B) (map-map stateBits (nextStatesAt k) (range s))) g
     ∙ ap (λ x. spliced headerBits (concat x) B) (sym (map-map stateBits (nextStatesAt k) (range (s + 1))))
 

@@ -28,7 +28,10 @@ nextIn bs o = opened (field bs o 1) (field bs (o + 1) 4)
 
 -- the next states of constraint state s
 abbrev pub stateIn : List ℕ → ℕ → NextStates
-stateIn bs s = record { zero = nextIn bs (headerBits + s * stateSize); one = nextIn bs (headerBits + 5 + s * stateSize) }
+stateIn bs s = record {
+  zero = nextIn bs (headerBits + s * stateSize);
+  one = nextIn bs (headerBits + 5 + s * stateSize);
+}
 
 -- the i-th next state, two a constraint state of K, is in range
 abbrev pub goodAt : List ℕ → ℕ → ℕ → Bool

@@ -66,9 +66,11 @@ loop-again c =
       omega arith,
       simp length-set (b .loop .inv .1),
       simp length-set (b .loop .inv .2),
-      fill-more (λ k. k) (λ k. nextIn bs (headerBits + k * stateSize)) (b .loop .zero) s (c .before .next-of .result) (λ k h q. q)
+      fill-more (λ k. k) (λ k. nextIn bs (headerBits + k * stateSize)) (b .loop .zero) s
+          (c .before .next-of .result) (λ k h q. q)
           (omega arith) (c .before .next-of .ensures) (b .loop .inv .3),
-      fill-more (λ k. k) (λ k. nextIn bs (headerBits + 5 + k * stateSize)) (b .loop .one) s (c .next-of2 .result) (λ k h q. q)
+      fill-more (λ k. k) (λ k. nextIn bs (headerBits + 5 + k * stateSize)) (b .loop .one) s
+          (c .next-of2 .result) (λ k h q. q)
           (omega arith) (c .next-of2 .ensures) (b .loop .inv .4),
     )
 

@@ -49,7 +49,8 @@ add-result-3 c =
 returns : tie.Need-returns
 returns c =
     let f = c .before .before .before .before .args .f in
-    ap (λ n. headerBits + stateSize * f .count + f .states * (n * (f .q + 7))) (c .before .before .before .power .ensures)
+    ap (λ n. headerBits + stateSize * f .count + f .states * (n * (f .q + 7)))
+    (c .before .before .before .power .ensures)
 
 pub bit-count-spec : {M : Type 1} → statement M
 bit-count-spec =

@@ -70,7 +70,8 @@ get-requires c κs =
     let a = c .before .before .before .before .before .before in
     let f = a .args .f in (
       omega arith,
-      place-le (headerBits + f .count * stateSize + f .q) (a .args .edges) (f .q + 7) 7 (8 * length (now (a .args .bytes)))
+      place-le (headerBits + f .count * stateSize + f .q) (a .args .edges) (f .q + 7) 7
+          (8 * length (now (a .args .bytes)))
           (c .before .loop .e) (omega arith) (omega (arith, a .pre .2)),
     )
 
