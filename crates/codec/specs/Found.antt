@@ -1,5 +1,5 @@
--- What the reading rule finds for a block: "Edges from that set with word i, whose target can read the next a words, all
--- carry one datum in an accepted table: that is the block."
+-- What the reading rule finds for a block: "Edges from that set with word i, whose target can read the next a words,
+-- all carry one datum in an accepted table: that is the block."
 -- In order: found.
 -- Assumes nothing.
 use mathlib.Core.List.{List}

@@ -2,7 +2,7 @@
 -- In order: written-from, refused-from, short-from, none-from; as-onward, as-early, as-allowed; written, calls, none,
 -- short, never-short; passes.
 -- Assumes nothing.
-use mathlib.Core.Path.{_≡_, refl, sym, ap, subst, _∙_}
+use mathlib.Core.Path.{_≡_, refl, sym, ap, _∙_}
 use mathlib.Core.Logic.{_⊎_, inl, inr, _↔_}
 use mathlib.Core.List.{List}
 use Prim.Native.Nat.{ℕ, _≤_, _<_}
@@ -23,7 +23,7 @@ use Rattle.record.specs.Layout.{pack}
 use Rattle.record.specs.Parse.{packInto}
 use Rattle.checker.specs.Parse.{parse}
 use Rattle.record.proofs.RecordBytes.{pack-short}
-use Rattle.job.specs.Jobs.{Job, readJob, readRunLength, Allowed}
+use Rattle.job.specs.Jobs.{Job, Allowed}
 use Rattle.compiler.specs.Compile.{Vector, componentOf, finishedOf, tableFor, code, compile, compileInto}
 use Rattle.compiler.specs.Compile.{compileJob, compileRunLength}
 use Rattle.compiler.specs.Kinds.{Kind, general, run-length, readAs, compileAs}
@@ -140,8 +140,8 @@ module _ (k : Kind) (xs : List ℕ) (room : ℕ) where
       → (y : Size) → y .memory ≤ 15 → y .lookahead ≤ 15 → Window (tableFor j) y
       → length (pack (code j (tableFor j))) ≤ room → compileAs k xs room ≡ done (pack (code j (tableFor j)))
   written j e u v s g l few y hm ha w f =
-      sym (as-onward k xs room)
-      ∙ written-from (readAs k xs) (as-early k xs) room j e (weighs-some j (as-allowed k xs j e) u v s g) l few y hm ha w f
+      let h = weighs-some j (as-allowed k xs j e) u v s g in
+      sym (as-onward k xs room) ∙ written-from (readAs k xs) (as-early k xs) room j e h l few y hm ha w f
 
   -- 3 to 6 are those of compiling the job
   pub calls : (r : Refusal) → 3 ≤ numberOf r → numberOf r ≤ 6

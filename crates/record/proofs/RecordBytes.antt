@@ -1,7 +1,7 @@
 -- A record is bytes, at most 3,864 of them.
 -- In order: value-take, read-bytes, pack-bytes; size-le, pack-short.
 -- Assumes nothing.
-use mathlib.Core.Path.{_≡_, sym, subst}
+use mathlib.Core.Path.{sym, subst}
 use mathlib.Core.List.{List}
 use Prim.Native.Nat.{ℕ, zero, suc, _+_, _*_, _^_, _≤_, _<_}
 use native.Mathlib.Nat.{mul-le-mul, lt-of-lt-of-le}

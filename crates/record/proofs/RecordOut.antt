@@ -2,10 +2,9 @@
 -- bytes.
 -- In order: length-front, length-states, length-table; parts-are, length-parts; bytes-are.
 -- Assumes nothing.
-use mathlib.Core.Path.{_≡_, refl, sym, ap, ap₂, subst, _∙_}
+use mathlib.Core.Path.{_≡_, refl, sym, ap, ap₂, _∙_}
 use mathlib.Core.List.{List, [], _∷_, _++_, map, append-assoc, append-nil}
-use Prim.Native.Nat.{ℕ, suc, _+_, _*_, _-_, _^_, _≤_}
-use native.Mathlib.Nat.{le-refl}
+use Prim.Native.Nat.{ℕ, suc, _+_, _*_, _^_, _≤_}
 use native.Mathlib.Omega.{arith}
 use lib.ListN.{length, drop, replicate, length-append, length-drop}
 use Rattle.laws.specs.Lists.{concat, repeat, sum}
@@ -13,7 +12,7 @@ use Rattle.laws.specs.Sums.{Each, Below}
 use Rattle.laws.proofs.Lists.{sum-repeat, sum-replicate, below-append, below-drop}
 use Rattle.bits.specs.Fields.{bits, write, read, bitsOf}
 use Rattle.bits.specs.Bytes.{spliced}
-use Rattle.bits.proofs.Fields.{write-read, read-back, below-write, fits-read, fits-bytes, fits-below}
+use Rattle.bits.proofs.Fields.{write-read, read-back, below-write, fits-bytes}
 use Rattle.bits.proofs.Places.{drop-bytes}
 use Rattle.bits.proofs.Puts.{bitsOf-append}
 use Rattle.constraint.specs.Walking.{Constraint}

@@ -3,7 +3,7 @@
 -- Assumes nothing.
 use mathlib.Core.Path.{_≡_, sym, subst}
 use mathlib.Core.List.{List, [], _∷_, map}
-use Prim.Native.Nat.{ℕ, _+_, _*_, _/_, _%_, _≤_, _<_}
+use Prim.Native.Nat.{ℕ, _/_, _%_, _≤_, _<_}
 use native.Mathlib.Omega.{arith}
 use lib.ListN.{length}
 use Rattle.laws.specs.Lists.{concat}
@@ -12,10 +12,8 @@ use Rattle.laws.proofs.Lists.{below-append}
 use Rattle.table.specs.Rows.{Code}
 use Rattle.table.proofs.Formed.{formed→}
 use Rattle.record.specs.Layout.{pack}
-use Rattle.checker.specs.Parse.{parse}
 use Rattle.checker.proofs.Parse.{parse-good}
 use Rattle.record.proofs.RecordBytes.{pack-bytes, pack-short}
-use Rattle.answer.specs.Outcomes.{done}
 use Rattle.sets.specs.Sets.{codes, readSet, framed, writeSet, Readable}
 use Rattle.sets.proofs.Sets.{set-back, set-canonical}
 
