@@ -1,16 +1,16 @@
 -- The edges among the states of weight above 0, by the counts of words.
--- In order: live-elem, live-lt; any-tabled; filter-pos, filter-some; linked-is.
+-- In order: live-elem, live-lt; any-tabled; linked-is.
 -- Assumes nothing.
 use mathlib.Core.Path.{_≡_, sym, ap, ap₂, subst, _∙_}
-use mathlib.Core.Bool.{Bool, true, false, _&&_, _||_}
-use mathlib.Core.List.{List, [], _∷_, map}
+use mathlib.Core.Bool.{Bool, false, _&&_}
+use mathlib.Core.List.{List, map}
 use Prim.Native.Nat.{ℕ, _+_, _*_, _/_, _%_, _≤_, _<_}
 use native.Mathlib.Omega.{arith}
 use borrow.Author.Tests.{ne-eqb}
 use lib.Dec.{T, ltb, eqb, eqb→eq, eqb-refl, ltb→lt, lt→ltb}
 use lib.ListN.{length, getD, take}
 use lib.Seq.{length-take-le, getD-take}
-use Rattle.laws.specs.Lists.{if_then_else_, range, filter, any, elem, concat}
+use Rattle.laws.specs.Lists.{range, filter, any, elem, concat}
 use Rattle.laws.specs.Sets.{member}
 use Rattle.laws.proofs.Tests.{and→, →and, any-below→, →any-below, bool-eq}
 use Rattle.laws.proofs.Anys.{any-map, any-filter, any-concat, each-range}
@@ -20,26 +20,9 @@ use Rattle.graph.specs.Component.{leadsInto, both, within, weighs, live}
 use Rattle.weights.specs.PowerTable.{entryAt, wordAt, wordsAt, tabled, Powers, wordLeads, wordCount}
 use Rattle.reach.specs.ReachSets.{linksInto, Linked, liveEdge}
 use Rattle.graph.proofs.CodeUpTo.{elem-kept}
+use Rattle.laws.proofs.Filters.{filter-pos, filter-some}
 use Rattle.laws.proofs.Ranges.{any-range-same}
 use Rattle.laws.proofs.Places.{quotient-of, remainder-of}
-
-filter-pos : (p : ℕ → Bool) (l : List ℕ) → T (any p l) → 0 < length (filter p l)
-filter-pos p [] t = absurd t
-filter-pos p (x ∷ l) t = go (p x) t (filter-pos p l)
-  where
-    go : (b : Bool) → T (b || any p l) → (T (any p l) → 0 < length (filter p l))
-        → 0 < length (if b then x ∷ filter p l else filter p l)
-    go true u r = omega arith
-    go false u r = r u
-
-filter-some : (p : ℕ → Bool) (l : List ℕ) → 0 < length (filter p l) → T (any p l)
-filter-some p [] h = absurd (omega arith)
-filter-some p (x ∷ l) h = go (p x) h (filter-some p l)
-  where
-    go : (b : Bool) → 0 < length (if b then x ∷ filter p l else filter p l) → (0 < length (filter p l) → T (any p l))
-        → T (b || any p l)
-    go true u r = tt
-    go false u r = r u
 
 pub any-tabled : (P : List ℕ) (words k : ℕ) (p : Arc → Bool) → any p (tabled P words k)
     ≡ any (λ s. any (λ w. leadsOn (wordAt P s w) && p (wordAt P s w)) (range words)) (range k)

@@ -22,7 +22,8 @@ use Rattle.graph.specs.Reachable.{Reachable, ReachedBack, IsComponent}
 use Rattle.graph.proofs.Reach.{reaches-is, reach-trans, reach-edge}
 use Rattle.graph.proofs.Component.{good-some}
 use Rattle.graph.proofs.Found.{inside-l, in-K, s-is}
-use Rattle.graph.proofs.Start.{all-of, start-first}
+use Rattle.laws.proofs.Elems.{all-of}
+use Rattle.graph.proofs.Start.{start-first}
 use Rattle.laws.proofs.Firsts.{none-lower}
 
 -- the first that passes p, of those that pass q

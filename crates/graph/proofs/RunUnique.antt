@@ -13,7 +13,7 @@ use lib.Seq.{drop-drop}
 use Rattle.graph.specs.Arcs.{Arc}
 use Rattle.graph.specs.Weights.{weight, total}
 use Rattle.graph.specs.Splitting.{stretch, divisible}
-use Rattle.graph.proofs.Runs.{mod-diff}
+use Rattle.laws.proofs.Places.{mod-diff}
 use Rattle.laws.proofs.Totals.{tot-take-add}
 
 module _ (n : ℕ) (v : List ℕ) (es : List Arc) where

@@ -1,11 +1,11 @@
 -- A run whose weights sum to a multiple of n: there is one among n edges, and what it weighs.
--- In order: mod-diff, run-exists, PartOf, run-is.
+-- In order: run-exists, PartOf, run-is.
 -- Assumes nothing.
 use mathlib.Core.Path.{_≡_, ap, _∙_}
 use mathlib.Core.List.{List, [], _∷_, map}
 use Prim.Native.Nat.{ℕ, zero, suc, _+_, _*_, _-_, _/_, _%_, _≤_, _<_, zero-le, suc-le-suc}
-use native.Mathlib.Nat.{le-of-suc-le-suc, not-suc-le-zero, le-trans, mod-add-div, mod-lt}
-use native.Mathlib.Nat.{mod-eq-zero-of-dvd, dvd-sub, dvd-mul-right, mod-add-div'}
+use native.Mathlib.Nat.{le-of-suc-le-suc, not-suc-le-zero, le-trans, mod-lt}
+use native.Mathlib.Nat.{mod-add-div'}
 use native.Mathlib.Omega.{arith}
 use lib.Dec.{T, eqb→eq}
 use lib.ListN.{length, take, drop}
@@ -18,16 +18,9 @@ use Rattle.graph.specs.Arcs.{Arc}
 use Rattle.graph.specs.Weights.{weight, total}
 use Rattle.graph.specs.Splitting.{stretch, runs, divisible, firstRun}
 use Rattle.laws.proofs.Pigeon.{Twice, pigeon}
+use Rattle.laws.proofs.Places.{mod-diff}
 use Rattle.laws.proofs.Totals.{tot-take-add, tot-take-le, tot-drop-le}
 use Rattle.laws.proofs.Anys.{each-range, any-image, each-union, any-union}
-
--- ---- equal remainders
-pub mod-diff : (n a b : ℕ) → a % n ≡ (a + b) % n → b % n ≡ 0
-mod-diff n a b h =
-    let q = (a + b) / n in
-    let r = a / n in
-    let e : b ≡ n * q - n * r = omega (arith, mod-add-div (a + b) n, mod-add-div a n) in
-    rw e (mod-eq-zero-of-dvd n (dvd-sub n (dvd-mul-right n q) (dvd-mul-right n r)))
 
 module _ (n : ℕ) (v : List ℕ) (es : List Arc) (hn : 0 < n) (size : length es ≡ n) where
   -- among n edges there is a run whose weights sum to a multiple of n

@@ -1,40 +1,23 @@
 -- The first state of the component is the lowest state that all reachable states reach back.
--- In order: all-of; start-first.
+-- In order: start-first.
 -- Assumes nothing.
-use mathlib.Core.Path.{_≡_, refl}
-use mathlib.Core.Bool.{Bool, true, false, _||_}
-use mathlib.Core.List.{List, [], _∷_}
+use mathlib.Core.Path.{_≡_}
+use mathlib.Core.Bool.{Bool}
+use mathlib.Core.List.{List}
 use Prim.Native.Nat.{ℕ, _<_}
 use lib.Dec.{T}
 use lib.ListN.{length, getD}
-use Rattle.laws.specs.Lists.{if_then_else_, filter, any, first, elem, all}
-use Rattle.laws.proofs.Tests.{→and, imp→, →imp}
+use Rattle.laws.specs.Lists.{any, first, elem}
+use Rattle.laws.proofs.Tests.{imp→, →imp}
 use Rattle.laws.specs.Sums.{Each}
 use Rattle.laws.proofs.Sums.{each-map, each-any}
 use Rattle.graph.specs.Invariant.{Inside}
 use Rattle.graph.specs.Arcs.{Arc}
 use Rattle.graph.specs.Component.{reachings, reaches, returns, returning, within, live, componentStates}
 use Rattle.graph.proofs.Reach.{reaches-is, reach-trans}
-use Rattle.laws.proofs.Elems.{each-elem, elem-each, all-each}
+use Rattle.laws.proofs.Elems.{each-elem, elem-each, all-each, all-of}
+use Rattle.laws.proofs.Filters.{first-head}
 use Rattle.graph.proofs.Found.{inside-l, in-K, s-is}
-
--- if all that pass q pass p, and the first that passes p passes q, it is the first that passes q
-first-head : (p q : ℕ → Bool) (d : ℕ) (l : List ℕ) → T (any p l) → Each (λ x. T (q x) → T (p x)) l
-    → T (q (first p d l)) → getD (filter q l) 0 0 ≡ first p d l
-first-head p q d [] t h u = absurd t
-first-head p q d (x ∷ l) t h u = go (p x) (q x) t (h .0) u refl (λ t u. first-head p q d l t (h .1) u)
-  where
-    go : (a b : Bool) → T (a || any p l) → (T b → T a) → T (q (if a then x else first p d l)) → q x ≡ b
-        → (T (any p l) → T (q (first p d l)) → getD (filter q l) 0 0 ≡ first p d l)
-        → getD (if b then x ∷ filter q l else filter q l) 0 0 ≡ (if a then x else first p d l)
-    go true true t k u e f = refl
-    go true false t k u e f = absurd (rw e at u)
-    go false true t k u e f = absurd (k tt)
-    go false false t k u e f = f t u
-
-pub all-of : (p : ℕ → Bool) (l : List ℕ) → Each (λ x. T (p x)) l → T (all p l)
-all-of p [] h = tt
-all-of p (x ∷ l) h = →and (p x) (all p l) (h .0) (all-of p l (h .1))
 
 module _ (v : List ℕ) (g : List Arc) (i : Each (Inside (length v)) g) (z : ℕ) (ez : T (elem z (live v))) where
   abbrev K : ℕ

@@ -1,10 +1,10 @@
 -- Arrays: their front as a list, and loops that fill them from the front.
 -- In order: take-is, take-same; Filled, fill-none, fill-more, an array filled from the front; put-more, map-more, bytes
--- written behind one another; set-le, zeros, a bound on all places.
+-- written behind one another.
 -- Assumes nothing.
-use mathlib.Core.Path.{_≡_, refl, sym, ap, ap₂, _∙_}
+use mathlib.Core.Path.{_≡_, sym, ap, ap₂, _∙_}
 use mathlib.Core.List.{List, [], _∷_, _++_, map}
-use Prim.Native.Nat.{ℕ, zero, suc, _+_, _≤_, _<_}
+use Prim.Native.Nat.{ℕ, suc, _+_, _≤_, _<_}
 use native.Mathlib.Numerals.{add-one}
 use native.Mathlib.Omega.{arith}
 use borrow.Author.Count.{below-more}
@@ -58,17 +58,3 @@ pub map-more : (f : ℕ → ℕ) (out₀ out : List ℕ) (i w : ℕ) → out ≡
 map-more f out₀ out i w b e h =
     ap₂ (λ o v. set o i v) b e ∙ put-more (map f (range i)) out₀ i (f i) (length-map-range f i) h
     ∙ ap (λ l. l ++ drop (i + 1) out₀) (sym (map-range-more f i))
-
--- ---- a bound on all places
-pub set-le : (xs : List ℕ) (n v k m : ℕ) → v ≤ k → ((m : ℕ) → getD xs m 0 ≤ k) → getD (set xs n v) m 0 ≤ k
-set-le [] zero v k m h f = f m
-set-le [] (suc n) v k m h f = f m
-set-le (x ∷ xs) zero v k zero h f = h
-set-le (x ∷ xs) zero v k (suc m) h f = f (suc m)
-set-le (x ∷ xs) (suc n) v k zero h f = f zero
-set-le (x ∷ xs) (suc n) v k (suc m) h f = set-le xs n v k m h (λ i. f (suc i))
-
-pub zeros : (k n : ℕ) → getD (replicate {A = ℕ} k 0) n 0 ≡ 0
-zeros zero n = refl
-zeros (suc k) zero = refl
-zeros (suc k) (suc n) = zeros k n

@@ -1,4 +1,4 @@
--- The first element that passes: in a joined list, in a list of images, of lists in a row, and among numbers the lowest.
+-- The first element that passes: in a joined list, in a list of images, of lists in a row, among numbers the lowest.
 -- In order: first-yes, first-no, any-yes, any-no; first-front, first-back; first-image; FirstList, first-union;
 -- first-at; first-part, first-none; first-least, none-lower.
 -- Assumes nothing.
@@ -71,10 +71,12 @@ module _ {A : Type 0} (p : A → Bool) (d : A) where
           → (T (any p (concat (map f (from (suc b) k)))) → FirstList f (suc b) k) → FirstList f b (suc k)
       go true q u r =
           let h : T (any p (f b)) = rw q tt in
-          (b, le-refl b, omega arith, h, first-front (f b) (concat (map f (from (suc b) k))) h, λ y l m. absurd (omega arith))
+          let e = first-front (f b) (concat (map f (from (suc b) k))) h in
+          (b, le-refl b, omega arith, h, e, λ y l m. absurd (omega arith))
       go false q u r =
           let (e, l, m, h, i, n) = r (rw q at u) in
-          (e, omega arith, omega arith, h, first-back (f b) (concat (map f (from (suc b) k))) q ∙ i, λ y v w z. before e n y (decLt b y) v w z)
+          let j = first-back (f b) (concat (map f (from (suc b) k))) q ∙ i in
+          (e, omega arith, omega arith, h, j, λ y v w z. before e n y (decLt b y) v w z)
         where
           before : (e : ℕ) → ((y : ℕ) → suc b ≤ y → y < e → T (any p (f y)) → ⊥)
               → (y : ℕ) → Dec (b < y) → b ≤ y → y < e → T (any p (f y)) → ⊥
@@ -113,7 +115,8 @@ module _ {A : Type 0} (p : A → Bool) (d : A) where
     part-from i zero j h l e = absurd (not-suc-le-zero l)
     part-from i (suc m) zero h l e =
         let q : any p (f i) ≡ true = subst (λ k. any p (f k) ≡ true) (add-zero i) e in
-        first-front (f i) (concat (map f (from (suc i) m))) (subst T (sym q) tt) ∙ ap (λ k. first p d (f k)) (sym (add-zero i))
+        first-front (f i) (concat (map f (from (suc i) m))) (subst T (sym q) tt)
+        ∙ ap (λ k. first p d (f k)) (sym (add-zero i))
     part-from i (suc m) (suc j) h l e =
         let q : any p (f i) ≡ false = subst (λ k. any p (f k) ≡ false) (add-zero i) (h 0 (omega arith)) in
         let up : (k : ℕ) → suc i + k ≡ i + suc k = λ k. omega arith in

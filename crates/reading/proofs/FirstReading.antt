@@ -5,14 +5,14 @@
 use mathlib.Core.Path.{_≡_, refl, sym, ap, ap₂, _∙_}
 use mathlib.Core.Logic.{_⊎_, inl, inr}
 use mathlib.Core.Bool.{Bool, true, false, _&&_, and-false}
-use mathlib.Core.List.{List, [], _∷_, _++_, map}
-use Prim.Native.Nat.{ℕ, zero, suc, _+_, _-_, _*_, _/_, _%_, _≤_, _<_}
+use mathlib.Core.List.{List, [], _∷_}
+use Prim.Native.Nat.{ℕ, _+_, _*_, _/_, _%_, _≤_, _<_}
 use native.Mathlib.Omega.{arith}
-use native.Mathlib.Decide.{ℕ-discrete, decLt}
+use native.Mathlib.Decide.{decLt}
 use borrow.Author.Tests.{ltb-true}
 use lib.Dec.{eqb}
 use lib.ListN.{length, getD}
-use Rattle.laws.specs.Lists.{from, filter, concat}
+use Rattle.laws.proofs.Filters.{filter-none, filter-first, concat-none, concat-first}
 use Rattle.laws.specs.Sets.{member}
 use Rattle.table.specs.Rows.{edges, at}
 use Rattle.table.specs.Edges.{Arrays, rowsOf, places, wordOf, nextOf, Fits, bears}
@@ -64,48 +64,6 @@ module _ (f : ℕ → Bool) (n : ℕ) where
 
   pub first-take : (e : ℕ) → e < n → f e ≡ true → FirstFrom f n e (e % 16)
   first-take e l p = inr (e, omega arith, l, p, refl, λ j a b. absurd (omega arith))
-
--- ---- the first of a list that tests make
-module _ (p : ℕ → Bool) where
-  filter-none : (i k : ℕ) → ((d : ℕ) → i ≤ d → d < i + k → p d ≡ false) → filter p (from i k) ≡ []
-  filter-none i zero h = refl
-  filter-none i (suc k) h =
-      rw (h i (omega arith) (omega arith)) (filter-none (suc i) k (λ d a b. h d (omega arith) (omega arith)))
-
-  filter-first : (i k d : ℕ) → i ≤ d → d < i + k → p d ≡ true → ((j : ℕ) → i ≤ j → j < d → p j ≡ false)
-      → (r : List ℕ) × (filter p (from i k) ≡ d ∷ r)
-  filter-first i zero d a b q h = absurd (omega arith)
-  filter-first i (suc k) d a b q h =
-      go (ℕ-discrete i d) (λ l. filter-first (suc i) k d l (omega arith) q (λ j x y. h j (omega arith) y))
-    where
-      go : Dec (i ≡ d) → (suc i ≤ d → (r : List ℕ) × (filter p (from (suc i) k) ≡ d ∷ r))
-          → (r : List ℕ) × (filter p (from i (suc k)) ≡ d ∷ r)
-      go (yes z) f = (filter p (from (suc i) k), rw (z, q))
-      go (no z) f =
-          let (r, e) = f (omega arith) in
-          (r, rw (h i (omega arith) (omega arith)) e)
-
-module _ (f : ℕ → List ℕ) where
-  concat-none : (i k : ℕ) → ((s : ℕ) → i ≤ s → s < i + k → f s ≡ []) → concat (map f (from i k)) ≡ []
-  concat-none i zero h = refl
-  concat-none i (suc k) h =
-      ap₂ (λ x y. x ++ y) (h i (omega arith) (omega arith))
-      (concat-none (suc i) k (λ s a b. h s (omega arith) (omega arith)))
-
-  concat-first : (i k s d : ℕ) (r : List ℕ) → i ≤ s → s < i + k → f s ≡ d ∷ r
-      → ((j : ℕ) → i ≤ j → j < s → f j ≡ []) → (q : List ℕ) × (concat (map f (from i k)) ≡ d ∷ q)
-  concat-first i zero s d r a b e h = absurd (omega arith)
-  concat-first i (suc k) s d r a b e h =
-      go (ℕ-discrete i s) (λ l. concat-first (suc i) k s d r l (omega arith) e (λ j x y. h j (omega arith) y))
-    where
-      go : Dec (i ≡ s) → (suc i ≤ s → (q : List ℕ) × (concat (map f (from (suc i) k)) ≡ d ∷ q))
-          → (q : List ℕ) × (concat (map f (from i (suc k))) ≡ d ∷ q)
-      go (yes z) g =
-          let l = concat (map f (from (suc i) k)) in
-          (r ++ l, ap (λ x. x ++ l) (ap f z ∙ e))
-      go (no z) g =
-          let (q, y) = g (omega arith) in
-          (q, ap₂ (λ u v. u ++ v) (h i (omega arith) (omega arith)) y)
 
 -- ---- the readings
 module _ (t : Arrays) (g : Fits t) (P A : List Bool) (w : ℕ) where

@@ -1,13 +1,13 @@
 -- What a split does to the lists of a graph.
--- In order: entering-moved; each-set, each-parted.
+-- In order: entering-moved; each-parted.
 -- Assumes nothing.
 use mathlib.Core.Path.{_≡_, refl, ap}
 use mathlib.Core.Bool.{Bool, true, false, not, _&&_}
 use mathlib.Core.List.{List, [], _∷_, map}
-use Prim.Native.Nat.{ℕ, zero, suc, _+_, _<_}
+use Prim.Native.Nat.{ℕ, suc, _+_, _<_}
 use native.Mathlib.Omega.{arith}
 use lib.Dec.{T}
-use lib.ListN.{length, set}
+use lib.ListN.{length}
 use Rattle.laws.specs.Lists.{if_then_else_, filter}
 use Rattle.laws.specs.Sums.{Each}
 use Rattle.laws.proofs.Sums.{each-map, each-append, each-filter, each-image}
@@ -35,11 +35,6 @@ entering-moved s K keep (e ∷ l) =
         ≡ length (if b then e ∷ filter (enters s) l else filter (enters s) l)
     go true q = ap suc q
     go false q = q
-
-pub each-set : (P : ℕ → Type 0) (l : List ℕ) (s w : ℕ) → Each P l → P w → Each P (set l s w)
-each-set P [] s w h p = tt
-each-set P (x ∷ l) zero w h p = (p, h .1)
-each-set P (x ∷ l) (suc s) w h p = (h .0, each-set P l s w (h .1) p)
 
 pub each-parted : (s K : ℕ) (keep l : List Arc) → Each (Bounded K) l
     → Each (Bounded (K + 1)) (doubled s K (map (moved s K keep) l))

@@ -27,10 +27,11 @@ use Rattle.choice.specs.ChoiceParts.{FirstRun}
 use Rattle.splitting.specs.SplitParts.{keptArcs, Moved, entering, Doubled, Weighed, PartedInto}
 use Rattle.graph.proofs.Choice.{total-le}
 use Rattle.graph.proofs.Candidates.{each-sort, any-sort}
+use Rattle.laws.proofs.Totals.{each-set}
 use Rattle.laws.proofs.Ranges.{length-map-range}
 use Rattle.laws.proofs.Maps.{map-take, map-drop, map-each}
 use Rattle.graph.proofs.CodeValue.{Bounded, Low, fits-arcs, fits-from, fits-weights}
-use Rattle.splitting.proofs.CodeMoved.{each-parted, each-set, entering-moved}
+use Rattle.splitting.proofs.CodeMoved.{each-parted, entering-moved}
 
 -- ---- one state split
 module _ (n : ℕ) (g : Graph) (s M : ℕ) (fits : Fits g) (hs : s < g .states) (few : g .states < 128)

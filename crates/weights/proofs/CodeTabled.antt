@@ -1,47 +1,20 @@
 -- The graph of words, read off the power table.
--- In order: pick-range; out-tabled; between-count; tabled-power, the table of a constraint.
+-- In order: out-tabled; between-count; tabled-power, the table of a constraint.
 -- Assumes nothing.
-use mathlib.Core.Path.{_≡_, refl, sym, ap, ap₂, _∙_}
-use mathlib.Core.Bool.{Bool}
-use mathlib.Core.List.{List, [], _∷_, _++_, map, append-nil}
-use Prim.Native.Nat.{ℕ, zero, suc, _+_, _^_, _≤_, _<_}
-use native.Mathlib.Omega.{arith}
-use native.Mathlib.Decide.{ℕ-discrete}
+use mathlib.Core.Path.{_≡_, refl, sym, ap, _∙_}
+use mathlib.Core.List.{List, [], _∷_, map}
+use Prim.Native.Nat.{ℕ, _^_, _<_}
 use borrow.Author.Tests.{eq-eqb, ne-eqb}
 use lib.Dec.{T, eqb→eq}
 use lib.ListN.{length, length-map}
-use Rattle.laws.specs.Lists.{from, range, filter, concat}
+use Rattle.laws.specs.Lists.{range, filter, concat}
 use Rattle.constraint.specs.Walking.{Constraint, walk}
 use Rattle.graph.specs.Arcs.{Arc, arc, leaves, enters, out, wordFrom, wordsFrom, leadsOn, power}
 use Rattle.graph.specs.Weights.{wordsBetween}
 use Rattle.weights.specs.PowerTable.{entryAt, wordAt, wordsAt, tabled, wordLeads, wordCount}
-use Rattle.laws.proofs.Maps.{filter-append, filter-map, filter-filter, filter-both}
+use Rattle.laws.proofs.Filters.{pick-range}
+use Rattle.laws.proofs.Maps.{filter-map, filter-filter, filter-both}
 use Rattle.laws.proofs.Ranges.{map-range-same}
-
-module _ {A : Type 0} (p : A → Bool) (f : ℕ → List A) (s : ℕ) (own : filter p (f s) ≡ f s)
-    (others : (j : ℕ) → (j ≡ s → ⊥) → filter p (f j) ≡ []) where
-  past-from : (i K : ℕ) → s < i → filter p (concat (map f (from i K))) ≡ []
-  past-from i zero h = refl
-  past-from i (suc K) h =
-      filter-append p (f i) (concat (map f (from (suc i) K)))
-      ∙ ap₂ (λ a b. a ++ b) (others i (λ e. omega arith)) (past-from (suc i) K (omega arith))
-
-  pick-from : (i K : ℕ) → i ≤ s → s < i + K → filter p (concat (map f (from i K))) ≡ f s
-  pick-from i zero h l = absurd (omega arith)
-  pick-from i (suc K) h l = go (ℕ-discrete i s) (λ a b. pick-from (suc i) K a b)
-    where
-      go : Dec (i ≡ s) → (suc i ≤ s → s < suc i + K → filter p (concat (map f (from (suc i) K))) ≡ f s)
-          → filter p (concat (map f (from i (suc K)))) ≡ f s
-      go (yes e) r =
-          filter-append p (f i) (concat (map f (from (suc i) K)))
-          ∙ ap₂ (λ a b. a ++ b) (ap (λ k. filter p (f k)) e ∙ own) (past-from (suc i) K (omega arith))
-          ∙ append-nil (f s)
-      go (no e) r =
-          filter-append p (f i) (concat (map f (from (suc i) K)))
-          ∙ ap₂ (λ a b. a ++ b) (others i e) (r (omega arith) (omega arith))
-
-  pub pick-range : (K : ℕ) → s < K → filter p (concat (map f (range K))) ≡ f s
-  pick-range K h = pick-from 0 K (omega arith) (omega arith)
 
 module _ (P : List ℕ) (words : ℕ) where
   words-leave : (s j : ℕ) (l : List ℕ) → (j ≡ s → ⊥) → filter (leaves s) (map (wordAt P j) l) ≡ []

@@ -5,7 +5,7 @@
 use mathlib.Core.Path.{_≡_, refl, sym, ap, ap₂, _∙_}
 use mathlib.Core.Bool.{Bool, true, false}
 use mathlib.Core.List.{List, [], _∷_, _++_, append-nil}
-use Prim.Native.Nat.{ℕ, zero, suc, _+_, _-_, _*_, _/_, _%_, _≤_, _<_, min}
+use Prim.Native.Nat.{ℕ, suc, _+_, _-_, _*_, _/_, _%_, _≤_, _<_, min}
 use native.Mathlib.Nat.{le-trans, mul-le-mul}
 use native.Mathlib.Omega.{arith}
 use borrow.Author.Tests.{eq-eqb, ne-eqb}
@@ -20,6 +20,7 @@ use Rattle.laws.proofs.Settle.{iterate-fixed}
 use Rattle.graph.specs.Arcs.{Arc}
 use Rattle.graph.specs.Weights.{wordsBetween, term, lower, lowered, weights}
 use Rattle.weights.specs.PowerTable.{entryAt, tabled, wordLeads, wordCount, termBy, lowerBy}
+use Rattle.laws.proofs.Lists.{take-replicate}
 use Rattle.laws.proofs.Maps.{filter-append}
 use Rattle.laws.proofs.Places.{quotient-of, remainder-of}
 use Rattle.laws.proofs.Ranges.{range-more, length-map-range}
@@ -97,11 +98,6 @@ pub record Round (n cap K : ℕ) (g : List Arc) (i : ℕ) (v : List ℕ) : Type 
   pub long : length v ≡ 16
   pub low : (s : ℕ) → s < K → getD v s 0 ≤ cap
   pub leads : iterate (lowered n g) (K * cap - i) (take K v) ≡ weights n cap K g
-
-take-replicate : (k m c : ℕ) → k ≤ m → take k (replicate m c) ≡ replicate k c
-take-replicate zero m c h = refl
-take-replicate (suc k) zero c h = absurd (omega arith)
-take-replicate (suc k) (suc m) c h = ap (λ l. c ∷ l) (take-replicate k m c (omega arith))
 
 pub round-start : (n cap K : ℕ) (g : List Arc) → K ≤ 16 → Round n cap K g 0 (replicate 16 cap)
 unfolding weights

@@ -5,7 +5,7 @@ use Prim.Native.Nat.{_-_, _*_, _≤_}
 use native.Mathlib.Omega.{arith}
 use lib.ListN.{length, getD, take}
 use Rattle.laws.specs.Lists.{sum}
-use Rattle.component.proofs.CodeTotals.{sum-more}
+use Rattle.laws.proofs.Totals.{tot-take-more}
 use borrow.Author.Needs.{needs}
 use Rattle.component.proofs.component_graph.total_weight.Statement.{statement}
 use Rattle.component.proofs.component_graph.total_weight.Tie as tie
@@ -52,7 +52,7 @@ loop-again c =
       refl,
       omega arith,
       omega (arith, c .before .before .before .pre .1 (l .i) (omega arith) .1),
-      omega (arith, sum-more (p .t2) (p .t1 .state) (l .i) (omega arith)),
+      omega (arith, tot-take-more 0 (λ t. getD (p .t2) t 0) (p .t1 .state) (l .i) (omega arith)),
     )
 
 returns : tie.Need-returns Inv-loop μ-loop

@@ -1,0 +1,114 @@
+-- Lists that a test leaves: when they are empty, their first element, and lists in a row of which few have elements.
+-- In order: filter-pos, filter-some; first-head; filter-none, filter-first, concat-none, concat-first; pick-range.
+-- Assumes nothing.
+use mathlib.Core.Path.{_≡_, refl, ap, ap₂, _∙_}
+use mathlib.Core.Bool.{Bool, true, false, _||_}
+use mathlib.Core.List.{List, [], _∷_, _++_, map, append-nil}
+use Prim.Native.Nat.{ℕ, zero, suc, _+_, _≤_, _<_}
+use native.Mathlib.Omega.{arith}
+use native.Mathlib.Decide.{ℕ-discrete}
+use lib.Dec.{T}
+use lib.ListN.{length, getD}
+use Rattle.laws.specs.Lists.{if_then_else_, from, range, filter, any, first, concat}
+use Rattle.laws.specs.Sums.{Each}
+use Rattle.laws.proofs.Maps.{filter-append}
+
+pub filter-pos : (p : ℕ → Bool) (l : List ℕ) → T (any p l) → 0 < length (filter p l)
+filter-pos p [] t = absurd t
+filter-pos p (x ∷ l) t = go (p x) t (filter-pos p l)
+  where
+    go : (b : Bool) → T (b || any p l) → (T (any p l) → 0 < length (filter p l))
+        → 0 < length (if b then x ∷ filter p l else filter p l)
+    go true u r = omega arith
+    go false u r = r u
+
+pub filter-some : (p : ℕ → Bool) (l : List ℕ) → 0 < length (filter p l) → T (any p l)
+filter-some p [] h = absurd (omega arith)
+filter-some p (x ∷ l) h = go (p x) h (filter-some p l)
+  where
+    go : (b : Bool) → 0 < length (if b then x ∷ filter p l else filter p l) → (0 < length (filter p l) → T (any p l))
+        → T (b || any p l)
+    go true u r = tt
+    go false u r = r u
+
+-- if all that pass q pass p, and the first that passes p passes q, it is the first that passes q
+pub first-head : (p q : ℕ → Bool) (d : ℕ) (l : List ℕ) → T (any p l) → Each (λ x. T (q x) → T (p x)) l
+    → T (q (first p d l)) → getD (filter q l) 0 0 ≡ first p d l
+first-head p q d [] t h u = absurd t
+first-head p q d (x ∷ l) t h u = go (p x) (q x) t (h .0) u refl (λ t u. first-head p q d l t (h .1) u)
+  where
+    go : (a b : Bool) → T (a || any p l) → (T b → T a) → T (q (if a then x else first p d l)) → q x ≡ b
+        → (T (any p l) → T (q (first p d l)) → getD (filter q l) 0 0 ≡ first p d l)
+        → getD (if b then x ∷ filter q l else filter q l) 0 0 ≡ (if a then x else first p d l)
+    go true true t k u e f = refl
+    go true false t k u e f = absurd (rw e at u)
+    go false true t k u e f = absurd (k tt)
+    go false false t k u e f = f t u
+
+-- ---- the first of the numbers from i on
+module _ (p : ℕ → Bool) where
+  pub filter-none : (i k : ℕ) → ((d : ℕ) → i ≤ d → d < i + k → p d ≡ false) → filter p (from i k) ≡ []
+  filter-none i zero h = refl
+  filter-none i (suc k) h =
+      rw (h i (omega arith) (omega arith)) (filter-none (suc i) k (λ d a b. h d (omega arith) (omega arith)))
+
+  pub filter-first : (i k d : ℕ) → i ≤ d → d < i + k → p d ≡ true → ((j : ℕ) → i ≤ j → j < d → p j ≡ false)
+      → (r : List ℕ) × (filter p (from i k) ≡ d ∷ r)
+  filter-first i zero d a b q h = absurd (omega arith)
+  filter-first i (suc k) d a b q h =
+      go (ℕ-discrete i d) (λ l. filter-first (suc i) k d l (omega arith) q (λ j x y. h j (omega arith) y))
+    where
+      go : Dec (i ≡ d) → (suc i ≤ d → (r : List ℕ) × (filter p (from (suc i) k) ≡ d ∷ r))
+          → (r : List ℕ) × (filter p (from i (suc k)) ≡ d ∷ r)
+      go (yes z) f = (filter p (from (suc i) k), rw (z, q))
+      go (no z) f =
+          let (r, e) = f (omega arith) in
+          (r, rw (h i (omega arith) (omega arith)) e)
+
+module _ (f : ℕ → List ℕ) where
+  pub concat-none : (i k : ℕ) → ((s : ℕ) → i ≤ s → s < i + k → f s ≡ []) → concat (map f (from i k)) ≡ []
+  concat-none i zero h = refl
+  concat-none i (suc k) h =
+      ap₂ (λ x y. x ++ y) (h i (omega arith) (omega arith))
+      (concat-none (suc i) k (λ s a b. h s (omega arith) (omega arith)))
+
+  pub concat-first : (i k s d : ℕ) (r : List ℕ) → i ≤ s → s < i + k → f s ≡ d ∷ r
+      → ((j : ℕ) → i ≤ j → j < s → f j ≡ []) → (q : List ℕ) × (concat (map f (from i k)) ≡ d ∷ q)
+  concat-first i zero s d r a b e h = absurd (omega arith)
+  concat-first i (suc k) s d r a b e h =
+      go (ℕ-discrete i s) (λ l. concat-first (suc i) k s d r l (omega arith) e (λ j x y. h j (omega arith) y))
+    where
+      go : Dec (i ≡ s) → (suc i ≤ s → (q : List ℕ) × (concat (map f (from (suc i) k)) ≡ d ∷ q))
+          → (q : List ℕ) × (concat (map f (from i (suc k))) ≡ d ∷ q)
+      go (yes z) g =
+          let l = concat (map f (from (suc i) k)) in
+          (r ++ l, ap (λ x. x ++ l) (ap f z ∙ e))
+      go (no z) g =
+          let (q, y) = g (omega arith) in
+          (q, ap₂ (λ u v. u ++ v) (h i (omega arith) (omega arith)) y)
+
+-- ---- of lists in a row only the elements of one pass
+module _ {A : Type 0} (p : A → Bool) (f : ℕ → List A) (s : ℕ) (own : filter p (f s) ≡ f s)
+    (others : (j : ℕ) → (j ≡ s → ⊥) → filter p (f j) ≡ []) where
+  past-from : (i K : ℕ) → s < i → filter p (concat (map f (from i K))) ≡ []
+  past-from i zero h = refl
+  past-from i (suc K) h =
+      filter-append p (f i) (concat (map f (from (suc i) K)))
+      ∙ ap₂ (λ a b. a ++ b) (others i (λ e. omega arith)) (past-from (suc i) K (omega arith))
+
+  pick-from : (i K : ℕ) → i ≤ s → s < i + K → filter p (concat (map f (from i K))) ≡ f s
+  pick-from i zero h l = absurd (omega arith)
+  pick-from i (suc K) h l = go (ℕ-discrete i s) (λ a b. pick-from (suc i) K a b)
+    where
+      go : Dec (i ≡ s) → (suc i ≤ s → s < suc i + K → filter p (concat (map f (from (suc i) K))) ≡ f s)
+          → filter p (concat (map f (from i (suc K)))) ≡ f s
+      go (yes e) r =
+          filter-append p (f i) (concat (map f (from (suc i) K)))
+          ∙ ap₂ (λ a b. a ++ b) (ap (λ k. filter p (f k)) e ∙ own) (past-from (suc i) K (omega arith))
+          ∙ append-nil (f s)
+      go (no e) r =
+          filter-append p (f i) (concat (map f (from (suc i) K)))
+          ∙ ap₂ (λ a b. a ++ b) (others i e) (r (omega arith) (omega arith))
+
+  pub pick-range : (K : ℕ) → s < K → filter p (concat (map f (range K))) ≡ f s
+  pick-range K h = pick-from 0 K (omega arith) (omega arith)
