@@ -10,10 +10,10 @@ use lib.Dec.{T, ltb}
 use lib.ListN.{length, take, drop, getD, length-map, length-drop}
 use lib.Seq.{length-take-le, take-nil}
 use Rattle.laws.specs.Lists.{if_then_else_, range}
+use Rattle.laws.proofs.Ranges.{concat-more}
 use Rattle.laws.proofs.Tests.{length-from}
 use Rattle.text.specs.Texts.{Added}
 use Rattle.text.proofs.Adding.{added-same, added-more}
-use Rattle.text.proofs.Rows.{concat-more}
 use Rattle.answer.specs.declared.Refusal.{Refusal}
 use Rattle.answer.specs.Outcomes.{Outcome, done, refused, verdictOn}
 use Rattle.table.specs.declared.Table.{Table}

@@ -9,12 +9,12 @@ use native.Mathlib.Nat.{div-eq-of-lt, add-comm, mul-le-mul}
 use native.Mathlib.Omega.{arith}
 use lib.Pow.{pow-pos, pow-mono}
 use Rattle.laws.specs.Lists.{range, concat}
+use Rattle.laws.proofs.Ranges.{concat-more}
 use Rattle.constraint.proofs.Values.{map-below}
 use Rattle.table.specs.declared.Table.{Table}
 use Rattle.table.specs.Edges.{lent}
 use Rattle.table.specs.Value.{wordAt, nextAt, codeIn, Ready}
 use Rattle.table.proofs.RowsOf.{length-rows, row-long, edge-at, ways-small}
-use Rattle.text.proofs.Rows.{concat-more}
 use Rattle.views.specs.Edges.{Line, edgeLine, rowLines, edgeLines, lineAt, linesTo}
 
 -- ---- the edges of a table, counted over all states
