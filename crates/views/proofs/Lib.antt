@@ -3,3 +3,5 @@ pub mod Edges
 pub mod Filled
 pub mod Listings
 pub mod Diagrams
+pub mod LimitLines
+pub mod Shown

@@ -1,22 +1,16 @@
 -- The listing as it is put, and how long it can be: 43,028 bytes hold that of every record.
--- In order: heading-is, entry-is, listing-is; Small, listing-short, listing-most; ready-small, formed-short; whole→;
--- shown-is, nothing-shown.
+-- In order: heading-is, entry-is, listing-is; Small, listing-short, listing-most; ready-small, formed-short.
 -- Assumes nothing.
 use mathlib.Core.Path.{_≡_, sym, ap, subst, _∙_}
-use mathlib.Core.Bool.{true, false, _&&_}
 use mathlib.Core.List.{List, [], _∷_, _++_, append-assoc}
 use Prim.Native.Nat.{ℕ, _+_, _*_, _^_, _≤_, _<_}
 use native.Mathlib.Omega.{arith}
-use lib.Dec.{T, leb}
 use lib.ListN.{length, length-append}
-use Rattle.laws.proofs.Tests.{and→}
-use Rattle.constraint.proofs.Values.{length-constraintOf}
 use Rattle.table.specs.declared.Table.{Table}
 use Rattle.table.specs.Rows.{edges, at, Code}
 use Rattle.table.specs.Edges.{lent}
-use Rattle.table.specs.Value.{codeIn, Ready, ready}
+use Rattle.table.specs.Value.{codeIn, Ready}
 use Rattle.table.specs.Formed.{Formed}
-use Rattle.table.proofs.ReadyTables.{ready→}
 use Rattle.table.proofs.RowsOf.{length-rows, row-long, edge-at, ways-small}
 use Rattle.table.proofs.Shape.{full, targets}
 use Rattle.text.specs.Texts.{decimal}
@@ -26,7 +20,6 @@ use Rattle.text.proofs.Words.{length-binary}
 use Rattle.text.proofs.Rows.{rows-short}
 use Rattle.views.specs.Edges.{edgeLine, rowLines, edgeLines, linesTo}
 use Rattle.views.specs.Listing.{blank, newline, heading, entry, listing}
-use Rattle.views.specs.Shown.{rateLine, windowLine, constraintLine, shown, whole, showText}
 use Rattle.views.proofs.Edges.{lines-are}
 
 -- ---- one text behind the other
@@ -136,20 +129,3 @@ formed-short c ok =
           omega (arith, targets (c .p) (c .q) (length (c .table)) (c .table) (ok .rows) s d g, r .s₂);
     } in
     listing-short c small (omega (arith, r .m)) (omega (arith, r .a))
-
--- ---- the whole text
-pub whole→ : (t : Table) → T (whole t) → Ready t
-whole→ t h =
-    let (m, g) = and→ (leb (t .memory) 15) (leb (t .lookahead) 15 && ready t) h in
-    let (a, r) = and→ (leb (t .lookahead) 15) (ready t) g in
-    ready→ t r
-
-pub shown-is : (t : Table) → whole t ≡ true
-    → rateLine (t .p) (t .q) (t .states) ++ windowLine (t .memory) (t .lookahead)
-    ++ constraintLine (t .constraint .states) (t .start) ++ listing (codeIn t) ≡ showText t
-unfolding showText shown
-shown-is t e = rw (e, length-rows (lent t), length-constraintOf (t .constraint))
-
-pub nothing-shown : (t : Table) → whole t ≡ false → [] ≡ showText t
-unfolding showText
-nothing-shown t e = rw e

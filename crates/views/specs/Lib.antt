@@ -1,5 +1,6 @@
 pub mod Phrases
 pub mod Edges
 pub mod Listing
+pub mod Limits
 pub mod Shown
 pub mod Drawn

@@ -1,7 +1,8 @@
 // The table of a code with its rate, its window and its constraint in words.
 ghost use mathlib.Core.Path.{_≡_};
 ghost use Rattle.text.specs.Texts.{Added};
-ghost use Rattle.views.specs.Shown.{rateLine, windowLine, constraintLine, whole, showText};
+ghost use Rattle.views.specs.Shown.{rateLine, rangeText, reachText, windowLine, whole, showText};
+use crate::limits::put_constraint;
 use crate::listing::put_listing;
 use crate::phrases::put_count;
 use table::Table;
@@ -21,29 +22,35 @@ fn put_rate(out: &mut [u8], at: usize, p: usize, q: usize, states: usize) -> usi
     put(out, end, b"\n")
 }
 
+// How far a bad word reaches, where it is more than its own block.
+fn put_range(out: &mut [u8], at: usize, m: usize, a: usize) -> usize
+    ensures written { λ r. ⌜ Added (rangeText m a) at (now (out .entry)) (now (out .exit)) r ⌝ }
+{
+    let to = put_number(out, at, b"blocks i - ", a as u64);
+    put_number(out, to, b" to i + ", m as u64)
+}
+
+// How far a bad word reaches.
+fn put_reach(out: &mut [u8], at: usize, m: usize, a: usize) -> usize
+    ensures written { λ r. ⌜ Added (reachText m a) at (now (out .entry)) (now (out .exit)) r ⌝ }
+{
+    if 0 < m {
+        return put_range(out, at, m, a);
+    }
+    if 0 < a {
+        return put_range(out, at, m, a);
+    }
+    put(out, at, b"block i")
+}
+
 // The line of the window.
 fn put_window(out: &mut [u8], at: usize, m: usize, a: usize) -> usize
     ensures written { λ r. ⌜ Added (windowLine m a) at (now (out .entry)) (now (out .exit)) r ⌝ }
 {
     let lookahead = put_number(out, at, b"memory ", m as u64);
-    let from = put_number(out, lookahead, b", lookahead ", a as u64);
-    let to = put_number(
-        out,
-        from,
-        b": a bad word at i can spoil blocks i - ",
-        a as u64,
-    );
-    let end = put_number(out, to, b" to i + ", m as u64);
-    put(out, end, b"\n")
-}
-
-// The line of the constraint.
-fn put_constraint(out: &mut [u8], at: usize, k: usize, start: usize) -> usize
-    ensures written { λ r. ⌜ Added (constraintLine k start) at (now (out .entry)) (now (out .exit)) r ⌝ }
-{
-    let count = put(out, at, b"constraint of ");
-    let first = put_count(out, count, k, b" state");
-    let end = put_number(out, first, b", start ", start as u64);
+    let colon = put_number(out, lookahead, b", lookahead ", a as u64);
+    let reach = put(out, colon, b": a bad word at i can spoil ");
+    let end = put_reach(out, reach, m, a);
     put(out, end, b"\n")
 }
 
@@ -69,6 +76,6 @@ pub fn show(t: Table, out: &mut [u8], at: usize) -> usize
     }
     let window = put_rate(out, at, t.p, t.q, t.states);
     let constraint = put_window(out, window, t.memory, t.lookahead);
-    let first = put_constraint(out, constraint, t.constraint.states, t.start);
+    let first = put_constraint(out, constraint, t.constraint, t.start);
     put_listing(out, first, t)
 }

@@ -19,23 +19,20 @@ slice-aggregate-put-number-2 c = search needs
 put-number-requires-2 : tie.Need-put-number-requires-2
 put-number-requires-2 c κs = search needs
 
-slice-aggregate-put-number-3 : tie.Need-slice-aggregate-put-number-3
-slice-aggregate-put-number-3 c = search needs
-
-put-number-requires-3 : tie.Need-put-number-requires-3
-put-number-requires-3 c κs = search needs
-
-slice-aggregate-put-number-4 : tie.Need-slice-aggregate-put-number-4
-slice-aggregate-put-number-4 c = search needs
-
-put-number-requires-4 : tie.Need-put-number-requires-4
-put-number-requires-4 c κs = search needs
-
 slice-aggregate-put : tie.Need-slice-aggregate-put
 slice-aggregate-put c = search needs
 
 put-requires : tie.Need-put-requires
 put-requires c κs = search needs
+
+put-reach-requires : tie.Need-put-reach-requires
+put-reach-requires c κs = search needs
+
+slice-aggregate-put-2 : tie.Need-slice-aggregate-put-2
+slice-aggregate-put-2 c = search needs
+
+put-requires-2 : tie.Need-put-requires-2
+put-requires-2 c κs = search needs
 
 same-length : tie.Need-same-length
 same-length c = search needs
@@ -45,11 +42,10 @@ unfolding windowLine
 returns c =
     let x5 = c .before .before in
     let x4 = x5 .before .before .before .before .before in
-    let x3 = x4 .before .before .before .before .before in
+    let x3 = x4 .before .before .before .before in
     let x2 = x3 .before .before .before .before .before in
     let x1 = x2 .before .before .before .before .before in
-    x1 .put-number .ensures then x2 .put-number2 .ensures then x3 .put-number3 .ensures then
-    x4 .put-number4 .ensures then x5 .put .ensures
+    x1 .put-number .ensures then x2 .put-number2 .ensures then x3 .put .ensures then x4 .put-reach .ensures then x5 .put2 .ensures
 
 pub put-window-spec : {M : Type 1} → statement M
 put-window-spec =
@@ -59,11 +55,10 @@ put-window-spec =
     put-number-requires
     slice-aggregate-put-number-2
     put-number-requires-2
-    slice-aggregate-put-number-3
-    put-number-requires-3
-    slice-aggregate-put-number-4
-    put-number-requires-4
     slice-aggregate-put
     put-requires
+    put-reach-requires
+    slice-aggregate-put-2
+    put-requires-2
     same-length
     returns)

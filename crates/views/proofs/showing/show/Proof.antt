@@ -4,7 +4,7 @@ use mathlib.Core.Path.{sym, subst, _∙_}
 use lib.Dec.{T}
 use borrow.Author.Tests.{not-true, not-false}
 use Rattle.text.proofs.Adding.{added-same, _then_}
-use Rattle.views.proofs.Listings.{whole→, shown-is, nothing-shown}
+use Rattle.views.proofs.Shown.{whole→, shown-is, nothing-shown}
 use borrow.Author.Needs.{needs}
 use Rattle.views.proofs.showing.show.Statement.{statement}
 use Rattle.views.proofs.showing.show.Tie as tie
@@ -33,7 +33,11 @@ put-window-requires : tie.Need-put-window-requires
 put-window-requires c κs = search needs
 
 put-constraint-requires : tie.Need-put-constraint-requires
-put-constraint-requires c κs = search needs
+put-constraint-requires c κs =
+    let test = c .before .before .before .before .before .before .before .before .before in
+    let whole = test .before in
+    whole→ (whole .before .before .args .t)
+    (subst T (sym (sym (whole .is-whole .ensures) ∙ not-false _ (test .if1 .left))) tt) .limits
 
 put-listing-requires : tie.Need-put-listing-requires
 put-listing-requires c κs =

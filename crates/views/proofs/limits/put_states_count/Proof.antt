@@ -1,11 +1,11 @@
--- `put_constraint` meets its contract: its parts are put in a row.
+-- `put_states_count` meets its contract: its parts are put in a row.
 -- Assumes nothing.
 use Rattle.text.proofs.Adding.{_then_}
 use Rattle.text.specs.Texts.{bytes}
-use Rattle.views.specs.Shown.{constraintLine}
+use Rattle.views.specs.Limits.{countLine}
 use borrow.Author.Needs.{needs}
-use Rattle.views.proofs.showing.put_constraint.Statement.{statement}
-use Rattle.views.proofs.showing.put_constraint.Tie as tie
+use Rattle.views.proofs.limits.put_states_count.Statement.{statement}
+use Rattle.views.proofs.limits.put_states_count.Tie as tie
 
 slice-aggregate-put : tie.Need-slice-aggregate-put
 slice-aggregate-put c = search needs
@@ -35,7 +35,7 @@ same-length : tie.Need-same-length
 same-length c = search needs
 
 returns : tie.Need-returns
-unfolding constraintLine
+unfolding countLine
 returns c =
     let x4 = c .before .before in
     let x3 = x4 .before .before .before .before .before in
@@ -43,8 +43,8 @@ returns c =
     let x1 = x2 .before .before .before .before .before in
     x1 .put .ensures then x2 .put-count .ensures then x3 .put-number .ensures then x4 .put2 .ensures
 
-pub put-constraint-spec : {M : Type 1} → statement M
-put-constraint-spec =
+pub put-states-count-spec : {M : Type 1} → statement M
+put-states-count-spec =
     tie.close
     (tie.spec
     slice-aggregate-put
