@@ -1,11 +1,11 @@
 -- The code's lines of words are the phrases: computed once for the whole table.
--- In order: row; line-is.
+-- In order: row; line-is; no-words.
 -- Assumes nothing.
 use mathlib.Core.Path.{_≡_, refl, sym, ap, _∙_}
 use mathlib.Core.List.{List, [], _∷_, _++_, map}
 use Prim.Native.Nat.{ℕ, suc, _≤_, _<_}
 use native.Mathlib.Omega.{arith}
-use lib.ListN.{getD}
+use lib.ListN.{length, getD, List·getD-eq-default}
 use Rattle.laws.specs.Lists.{range}
 use Rattle.laws.proofs.Tests.{map-range-at}
 use Rattle.answer.specs.Refusals.{most}
@@ -33,3 +33,10 @@ unfolding wordsOf
 line-is n h =
     let low : n < suc most = omega arith in
     sym (map-range-at line (suc most) n [] low) ∙ ap (λ l. getD l n []) lines-are
+
+-- a number that is no refusal has no words
+pub no-words : (n : ℕ) → most < n → [] ≡ wordsOf n
+unfolding wordsOf phrases
+no-words n h =
+    let over : length phrases ≤ n = omega arith in
+    sym (List·getD-eq-default phrases [] over)

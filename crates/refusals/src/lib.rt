@@ -1,7 +1,5 @@
 // The refusals in words, in one table.
 ghost use mathlib.Core.Path.{_≡_};
-ghost use Prim.Native.Nat.{_≤_};
-ghost use Rattle.answer.specs.Refusals.{most};
 ghost use Rattle.text.specs.Texts.{Added};
 ghost use Rattle.refusals.specs.Phrases.{wordsOf, phraseOf, refusalWords, refusalLine};
 use crate::lines::line;
@@ -14,12 +12,14 @@ use text::put_number;
 
 mod lines;
 
-// The words of a number behind the first `at` bytes; the answer is the place behind them. Line 0 is empty, and 11 has
-// its place behind the words.
-fn put_words(out: &mut [u8], at: usize, number: u64) -> usize
-    requires { ⌜ number ≤ most ⌝ }
+// The words of a number behind the first `at` bytes; the answer is the place behind them. Line 0 is empty, a number
+// that is no refusal has no words, and 11 has its place behind the words.
+pub fn put_words(out: &mut [u8], at: usize, number: u64) -> usize
     ensures written { λ e. ⌜ Added (wordsOf number) at (now (out .entry)) (now (out .exit)) e ⌝ }
 {
+    if 13 < number {
+        return put(out, at, b"");
+    }
     let words: &[u8] = b"\n\
         p, q or cap out of range\n\
         K, a next state, or d and k out of range\n\
