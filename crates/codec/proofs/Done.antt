@@ -1,23 +1,27 @@
--- When calls under a record are done, and that a loaded table answers as its record does.
--- In order: encodes, decodes; loaded.
+-- When calls under a record are done, that a loaded table answers as its record does, and that for an accepted record
+-- the calls that do not look at 9 and 10 answer as those that do.
+-- In order: encodes, decodes; loaded; fields-too, checked.
 -- Assumes nothing.
 use mathlib.Core.Path.{_≡_, sym, ap, _∙_}
-use mathlib.Core.List.{List}
+use mathlib.Core.List.{List, []}
 use Prim.Native.Nat.{ℕ, _+_, _-_, _^_, _≤_}
 use lib.Dec.{T}
 use lib.ListN.{length}
 use Rattle.laws.specs.Sums.{Below}
-use Rattle.answer.specs.declared.Refusal.the-variants.{Field}
-use Rattle.answer.specs.Outcomes.{done, onward}
-use Rattle.answer.proofs.Outcomes.{unless-true}
+use Rattle.answer.specs.declared.Refusal.the-variants.{Field, Disobeys, WindowFails}
+use Rattle.answer.specs.Outcomes.{done, unless, onward}
+use Rattle.answer.proofs.Outcomes.{unless-true, unless→, onward→}
 use Rattle.table.specs.declared.Table.{Table}
 use Rattle.table.specs.Rows.{Code}
 use Rattle.table.specs.Paths.{Blocks, recording}
 use Rattle.table.specs.Value.{codeIn, ready}
 use Rattle.table.proofs.Paths.{length-recording}
-use Rattle.checker.specs.Parse.{parse}
+use Rattle.windows.specs.Works.{works}
+use Rattle.obeying.specs.Obeys.{obeys}
+use Rattle.record.specs.Checks.{fieldsChecked}
+use Rattle.checker.specs.Parse.{judged, parse, checkedOnly}
 use Rattle.reading.specs.Reading.{decode}
-use Rattle.codec.specs.Answers.{encoded, decoded, encodeUnder, decodeUnder}
+use Rattle.codec.specs.Answers.{encoded, decoded, encodeUnder, decodeUnder, encodeChecked, decodeChecked}
 use Rattle.codec.specs.With.{encodedWith, decodedWith}
 use Rattle.codec.proofs.Answers.{→encoded, →decoded}
 use Rattle.codec.proofs.Decoded.{length-decode}
@@ -55,3 +59,21 @@ module _ (xs : List ℕ) where
     unless-true Field (ready t) (decoded (codeIn t) room ys) k
         ∙ sym (ap (λ o. onward o (λ c. decoded c room ys)) p),
   )
+
+  -- the code of an accepted record is the one that its fields name
+  fields-too : (c : Code) → parse xs ≡ done c → fieldsChecked xs ≡ parse xs
+  unfolding parse
+  fields-too c p =
+      let (d, e, j) = onward→ (fieldsChecked xs) judged c p in
+      let (_, w) = unless→ Disobeys (obeys d) (unless WindowFails (works (d .table) (d .window)) (done d)) c j in
+      let (_, f) = unless→ WindowFails (works (d .table) (d .window)) (done d) c w in
+      e ∙ f ∙ sym p
+
+  -- for an accepted record the calls that do not look at 9 and 10 answer as those that do
+  pub checked : checkedOnly xs ≡ done [] → (room : ℕ) (ys : List ℕ)
+      → (encodeChecked xs room ys ≡ encodeUnder xs room ys) × (decodeChecked xs room ys ≡ decodeUnder xs room ys)
+  unfolding checkedOnly encodeChecked decodeChecked encodeUnder decodeUnder
+  checked e room ys =
+      let (c, p, _) = onward→ (parse xs) (λ c. done []) [] e in
+      let f = fields-too c p in
+      (ap (λ o. onward o (λ c. encoded c room ys)) f, ap (λ o. onward o (λ c. decoded c room ys)) f)

@@ -1,5 +1,6 @@
 -- Encoding and decoding with their refusals: "Encode: record, 13, 11. Decode: record, 12, 13, 11."
--- In order: encoded and decoded, under a loaded code; encodeUnder and decodeUnder, under a record's bytes.
+-- In order: encoded and decoded, under a loaded code; encodeUnder and decodeUnder, under a record's bytes; encodeChecked
+-- and decodeChecked, under those of a record that was accepted before.
 -- `room` is the length of the output that was lent.
 -- Assumes nothing.
 use mathlib.Core.List.{List}
@@ -11,6 +12,7 @@ use Rattle.answer.specs.Outcomes.{Outcome, unless, onward}
 use Rattle.answer.specs.FirstBad.{allBelow}
 use Rattle.table.specs.Rows.{Code}
 use Rattle.table.specs.Paths.{recording}
+use Rattle.record.specs.Checks.{fieldsChecked}
 use Rattle.checker.specs.Parse.{parse}
 use Rattle.reading.specs.Reading.{decode}
 
@@ -32,3 +34,11 @@ encodeUnder xs room ds = onward (parse xs) (λ c. encoded c room ds)
 -- decoding under the record in the bytes xs
 unfoldable pub decodeUnder : List ℕ → ℕ → List ℕ → Outcome (List ℕ)
 decodeUnder xs room ws = onward (parse xs) (λ c. decoded c room ws)
+
+-- encoding under the record in the bytes xs, with its refusals up to 9 and 10, which are not looked at
+unfoldable pub encodeChecked : List ℕ → ℕ → List ℕ → Outcome (List ℕ)
+encodeChecked xs room ds = onward (fieldsChecked xs) (λ c. encoded c room ds)
+
+-- decoding under the record in the bytes xs, with its refusals up to 9 and 10, which are not looked at
+unfoldable pub decodeChecked : List ℕ → ℕ → List ℕ → Outcome (List ℕ)
+decodeChecked xs room ws = onward (fieldsChecked xs) (λ c. decoded c room ws)

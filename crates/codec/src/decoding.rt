@@ -9,7 +9,7 @@ ghost use Rattle.table.specs.Edges.{borrowed, rowsOf};
 ghost use Rattle.reading.specs.Reading.{block};
 ghost use Rattle.runs.specs.EdgeRuns.{Laid};
 ghost use Rattle.reading.specs.BlockParts.{under};
-ghost use Rattle.codec.specs.Answers.{decodeUnder};
+ghost use Rattle.codec.specs.Answers.{decodeUnder, decodeChecked};
 ghost use Rattle.codec.specs.With.{decodedWith};
 use answer::Answer;
 use answer::Refusal;
@@ -17,6 +17,7 @@ use answer::Verdict;
 use answer::bytes::first_bad;
 use checker::load;
 use reading::blocks::read_block;
+use record::read;
 use runs::laying::lay;
 use table::Table;
 use table::chains::ways;
@@ -108,6 +109,24 @@ pub fn decode(bytes: &[u8], words: &[u8], out: &mut [u8]) -> Answer
         (now (out .entry)) ⌝ }
 {
     let r = load(bytes);
+    let v = r.verdict;
+    let t = r.table;
+    match v {
+        Verdict::Bad(x) => Answer::Refused(x),
+        Verdict::Good => decode_with(t, words, out),
+    }
+}
+
+// The same for a record that was accepted before: 9 and 10 are not looked at.
+pub fn decode_checked(bytes: &[u8], words: &[u8], out: &mut [u8]) -> Answer
+    ensures answer { λ r. ⌜
+        r ≡ answerOf (decodeChecked (now (bytes .entry)) (length (now (out .entry))) (now (words .entry))) ⌝ }
+    ensures written { λ r. ⌜
+        now (out .exit)
+        ≡ outputOf (decodeChecked (now (bytes .entry)) (length (now (out .entry))) (now (words .entry)))
+        (now (out .entry)) ⌝ }
+{
+    let r = read(bytes);
     let v = r.verdict;
     let t = r.table;
     match v {

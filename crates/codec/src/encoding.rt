@@ -8,13 +8,14 @@ ghost use Rattle.laws.specs.Sums.{Below};
 ghost use Rattle.answer.specs.Outcomes.{answerOf, outputOf};
 ghost use Rattle.table.specs.Paths.{ends, spells};
 ghost use Rattle.table.specs.Edges.{borrowed, rowsOf, Fits};
-ghost use Rattle.codec.specs.Answers.{encodeUnder};
+ghost use Rattle.codec.specs.Answers.{encodeUnder, encodeChecked};
 ghost use Rattle.codec.specs.With.{encodedWith};
 use answer::Answer;
 use answer::Refusal;
 use answer::Verdict;
 use answer::bytes::first_bad;
 use checker::load;
+use record::read;
 use table::Table;
 use table::chains::ways;
 use table::ready::is_ready;
@@ -129,6 +130,24 @@ pub fn encode(bytes: &[u8], blocks: &[u8], out: &mut [u8]) -> Answer
         (now (out .entry)) ⌝ }
 {
     let r = load(bytes);
+    let v = r.verdict;
+    let t = r.table;
+    match v {
+        Verdict::Bad(x) => Answer::Refused(x),
+        Verdict::Good => encode_with(t, blocks, out),
+    }
+}
+
+// The same for a record that was accepted before: 9 and 10 are not looked at.
+pub fn encode_checked(bytes: &[u8], blocks: &[u8], out: &mut [u8]) -> Answer
+    ensures answer { λ r. ⌜
+        r ≡ answerOf (encodeChecked (now (bytes .entry)) (length (now (out .entry))) (now (blocks .entry))) ⌝ }
+    ensures written { λ r. ⌜
+        now (out .exit)
+        ≡ outputOf (encodeChecked (now (bytes .entry)) (length (now (out .entry))) (now (blocks .entry)))
+        (now (out .entry)) ⌝ }
+{
+    let r = read(bytes);
     let v = r.verdict;
     let t = r.table;
     match v {
