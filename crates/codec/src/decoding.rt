@@ -130,7 +130,7 @@ pub fn decode_checked(bytes: &[u8], words: &[u8], out: &mut [u8]) -> Answer
     let v = r.verdict;
     let t = r.table;
     match v {
-        Verdict::Bad(x) => Answer::Refused(x),
+        Verdict::Bad(refusal) => Answer::Refused(refusal),
         Verdict::Good => decode_with(t, words, out),
     }
 }

@@ -151,7 +151,7 @@ pub fn encode_checked(bytes: &[u8], blocks: &[u8], out: &mut [u8]) -> Answer
     let v = r.verdict;
     let t = r.table;
     match v {
-        Verdict::Bad(x) => Answer::Refused(x),
+        Verdict::Bad(refusal) => Answer::Refused(refusal),
         Verdict::Good => encode_with(t, blocks, out),
     }
 }

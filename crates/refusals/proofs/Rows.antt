@@ -1,13 +1,16 @@
--- The code's lines of words are the phrases: computed once for the whole table.
--- In order: row; line-is; no-words.
+-- The code's lines of words are the phrases: computed once for the whole table. How long the words are.
+-- In order: row; line-is; no-words; words-short.
 -- Assumes nothing.
 use mathlib.Core.Path.{_≡_, refl, sym, ap, _∙_}
+use mathlib.Core.Bool.{Bool}
 use mathlib.Core.List.{List, [], _∷_, _++_, map}
 use Prim.Native.Nat.{ℕ, suc, _≤_, _<_}
 use native.Mathlib.Omega.{arith}
+use native.Mathlib.Decide.{decLe}
+use lib.Dec.{T, leb, leb→le}
 use lib.ListN.{length, getD, List·getD-eq-default}
-use Rattle.laws.specs.Lists.{range}
-use Rattle.laws.proofs.Tests.{map-range-at}
+use Rattle.laws.specs.Lists.{range, all}
+use Rattle.laws.proofs.Tests.{all→, map-range-at}
 use Rattle.answer.specs.Refusals.{most}
 use Rattle.refusals.specs.TextLines.{lineOf}
 use Rattle.refusals.specs.Phrases.{phrases, wordsOf}
@@ -40,3 +43,21 @@ unfolding wordsOf phrases
 no-words n h =
     let over : length phrases ≤ n = omega arith in
     sym (List·getD-eq-default phrases [] over)
+
+-- words of at most 60 bytes
+abbrev short : List ℕ → Bool
+short p = leb (length p) 60
+
+phrases-short : T (all short phrases)
+unfolding phrases
+phrases-short = tt
+
+short-of : (n : ℕ) → Dec (n ≤ most) → length (wordsOf n) ≤ 60
+unfolding wordsOf phrases
+short-of n (yes h) =
+    let low : n < length phrases = omega arith in
+    leb→le (length (wordsOf n)) 60 (all→ short [] phrases phrases-short n low)
+short-of n (no h) = let none : [] ≡ wordsOf n = no-words n (omega arith) in rw (sym none) (omega arith)
+
+pub words-short : (n : ℕ) → length (wordsOf n) ≤ 60
+words-short n = short-of n (decLe n most)

@@ -1,0 +1,43 @@
+-- `info` meets its contract: a refused record ends the call, and the numbers of an accepted one fill the output.
+-- Assumes nothing.
+use denote.Ref.{now}
+use Rattle.answer.proofs.Outcomes.{said-good, said-bad}
+use Rattle.table.specs.Value.{codeIn}
+use Rattle.info.proofs.Numbers.{ends, goes-on}
+use borrow.Author.Needs.{needs}
+use Rattle.info.proofs.info.Statement.{statement}
+use Rattle.info.proofs.info.Tie as tie
+
+tell-numbers-requires : tie.Need-tell-numbers-requires
+tell-numbers-requires c κs = c .before .before .before .before .load .ensures .1 (c .before .enum-told .given .1)
+
+returns : tie.Need-returns
+returns c =
+    let r = c .before .before .before .before in
+    let a = r .before .before .before .args in
+    let x = r .load .result in
+    ends (now (a .bytes)) (now (a .out)) _
+    (said-bad (x .verdict) (codeIn (x .table)) _ (r .load .ensures .0) _ (c .before .v .given .1))
+
+returns-2 : tie.Need-returns-2
+returns-2 c =
+    let w = c .before .before .tell-numbers in
+    let v = c .before .before .before .before in
+    let r = v .before .before .before in
+    let a = r .before .before .before .args in
+    let x = r .load .result in
+    goes-on (now (a .bytes)) (now (a .out)) (codeIn (x .table)) _ _
+    (said-good (x .verdict) (codeIn (x .table)) _ (r .load .ensures .0) (v .enum-told .given .1)) (w .ensures .0)
+    (w .ensures .1)
+
+pub info-spec : {M : Type 1} → statement M
+info-spec =
+    tie.close
+    (tie.spec
+    (λ c κs. search needs)
+    (λ c. search needs)
+    (λ c. search needs)
+    tell-numbers-requires
+    returns
+    (λ c. search needs)
+    returns-2)
