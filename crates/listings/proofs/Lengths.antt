@@ -1,26 +1,31 @@
 -- How long the texts are: 43,028 bytes hold what the listing program prints.
--- In order: refusal-is, refusal-short; compiled-short.
+-- In order: refusal-is, refusal-short; compiled-short, never-short.
 -- Assumes nothing.
 use mathlib.Core.Path.{_≡_, ap, _∙_}
+use mathlib.Core.Logic.{_⊎_, inl, inr}
 use mathlib.Core.List.{List, [], _∷_, _++_}
-use Prim.Native.Nat.{ℕ, _≤_}
+use Prim.Native.Nat.{ℕ, _≤_, _<_}
 use native.Mathlib.Omega.{arith}
 use lib.ListN.{length, length-append}
 use Rattle.answer.specs.declared.Refusal.{Refusal}
+use Rattle.answer.specs.declared.Refusal.the-variants.{ShortOutput}
 use Rattle.answer.specs.Refusals.{numberOf}
-use Rattle.answer.specs.Outcomes.{done, onward}
+use Rattle.answer.specs.Outcomes.{done, refused, onward, fitting}
 use Rattle.answer.proofs.Outcomes.{onward→}
 use Rattle.table.specs.Rows.{Code}
 use Rattle.table.proofs.Formed.{formed→}
-use Rattle.job.specs.Jobs.{readRunLength}
+use Rattle.job.specs.Jobs.{Job, readRunLength}
 use Rattle.compiler.specs.Compile.{compile}
 use Rattle.job.proofs.Jobs.{readRunLength-allowed}
 use Rattle.compiler.proofs.Accepted.{compiled-passes}
+use Rattle.compiler.proofs.Refused.{onward-refused, fitting-refused}
+use Rattle.compiler.proofs.Early.{run-length-early}
+use Rattle.compiler.proofs.Exact.{not-short}
 use Rattle.text.specs.Texts.{bytes, decimal}
 use Rattle.text.proofs.Numbers.{decimal-long}
 use Rattle.views.specs.Listing.{listing}
 use Rattle.views.proofs.Listings.{formed-short}
-use Rattle.listings.specs.Listings.{refusal}
+use Rattle.listings.specs.Listings.{refusal, listInto}
 
 pub refusal-is : (r : Refusal) (n : ℕ) → n ≡ numberOf r → bytes "refused " ++ decimal n ++ 10 ∷ [] ≡ refusal r
 unfolding refusal
@@ -40,3 +45,25 @@ pub compiled-short : (xs : List ℕ) (c : Code) → onward (readRunLength xs) co
 compiled-short xs c e =
     let (j, q, f) = onward→ (readRunLength xs) compile c e in
     formed-short c (formed→ c (compiled-passes j (readRunLength-allowed xs j q) c f .formed))
+
+-- with room for the longest listing 13 never comes
+pub never-short : (xs : List ℕ) (room : ℕ) → 43028 ≤ room → listInto xs room ≡ refused ShortOutput → ⊥
+unfolding listInto
+never-short xs room h e =
+    first (onward-refused (onward (readRunLength xs) compile) (λ c. fitting room (listing c)) ShortOutput e)
+  where
+    not-early : (numberOf ShortOutput < 3) ⊎ (numberOf ShortOutput ≡ 8) → ⊥
+    not-early (inl k) = omega arith
+    not-early (inr k) = omega arith
+
+    second : (readRunLength xs ≡ refused ShortOutput)
+        ⊎ ((j : Job) × (readRunLength xs ≡ done j) × (compile j ≡ refused ShortOutput)) → ⊥
+    second (inl q) = not-early (run-length-early xs ShortOutput q)
+    second (inr (j, p, q)) = not-short j q
+
+    first : (onward (readRunLength xs) compile ≡ refused ShortOutput)
+        ⊎ ((c : Code) × (onward (readRunLength xs) compile ≡ done c) × (fitting room (listing c) ≡ refused ShortOutput))
+        → ⊥
+    first (inl q) = second (onward-refused (readRunLength xs) compile ShortOutput q)
+    first (inr (c, q, k)) =
+        omega (arith, compiled-short xs c q, fitting-refused room (listing c) ShortOutput k .1)
