@@ -20,7 +20,7 @@ use Rattle.constraint.specs.Walking.{NextStates, Constraint as Limits, none, no
 use Rattle.constraint.specs.Value.{nextStatesAt, constraintOf}
 use Rattle.constraint.proofs.Values.{length-constraintOf}
 use Rattle.text.specs.Texts.{bytes, decimal}
-use Rattle.text.proofs.Rows.{concat-more}
+use Rattle.laws.proofs.Ranges.{concat-more}
 use Rattle.views.specs.Limits.{alike, alikeAt, isRuns, leastRun, nextText, stateLine, stateOf, statesTo}
 use Rattle.views.specs.Limits.{runsLine, countLine, constraintLines}
 
