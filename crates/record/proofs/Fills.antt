@@ -1,16 +1,15 @@
--- Arrays filled place by place, and lists made from a range.
+-- Arrays filled place by place.
 -- In order: fill-more, one place more; spot-once, spot-lt, the places of edges; reach-spot, reach-step, reach-end,
--- column-more; map-range.
+-- column-more.
 -- Assumes nothing.
-use mathlib.Core.Path.{_≡_, refl, sym, ap₂, subst, _∙_}
-use mathlib.Core.List.{List, _∷_, map}
-use Prim.Native.Nat.{ℕ, zero, suc, _+_, _*_, _/_, _%_, _≤_, _<_}
+use mathlib.Core.Path.{_≡_, sym, ap₂, subst, _∙_}
+use mathlib.Core.List.{List}
+use Prim.Native.Nat.{ℕ, _+_, _*_, _/_, _%_, _≤_, _<_}
 use native.Mathlib.Nat.{mod-lt, div-add-mod', div-lt-iff-lt-mul}
 use native.Mathlib.Omega.{arith}
 use borrow.Author.Count.{below-more}
 use lib.ListN.{length, getD, set, length-set}
 use lib.Seq.{getD-set-same, getD-set-other}
-use Rattle.laws.specs.Lists.{from, range}
 use Rattle.bits.specs.Fields.{field}
 use Rattle.record.specs.Places.{spot, Column, Reach}
 use Rattle.record.proofs.Sizes.{place-le, product-le}
@@ -58,13 +57,3 @@ module _ (l n k o d w e : ℕ) (r : Reach l n k o d w) (h : e < k) where
     filled = fill-more (spot n) (λ i. field bs (o + i * d) w) a e v (λ i g. spot-once n e i (r .some) (r .few))
         (subst (λ m. spot n e < m) (sym (c .whole)) reach-spot) q (c .filled);
   }
-
-map-from : {A : Type 0} (f g : ℕ → A) (i n : ℕ) → ((k : ℕ) → k < i + n → f k ≡ g k) → map f (from i n)
-    ≡ map g (from i n)
-map-from f g i zero h = refl
-map-from f g i (suc n) h =
-    ap₂ _∷_ (h i (omega arith)) (map-from f g (suc i) n (λ k l. h k (omega arith)))
-
--- lists over a range are equal where their elements are
-pub map-range : {A : Type 0} (f g : ℕ → A) (n : ℕ) → ((k : ℕ) → k < n → f k ≡ g k) → map f (range n) ≡ map g (range n)
-map-range f g n h = map-from f g 0 n (λ k l. h k (omega arith))

@@ -4,9 +4,7 @@ pub mod RecordAgain
 pub mod RecordRead
 pub mod RecordBytes
 pub mod RecordPlaces
-pub mod RecordPuts
 pub mod Sizes
-pub mod Alls
 pub mod Fills
 pub mod RecordChecks
 pub mod RecordTables

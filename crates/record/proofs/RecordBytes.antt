@@ -19,7 +19,7 @@ use Rattle.record.specs.Layout.{size, widths, values, pack}
 use Rattle.record.proofs.RecordWrite.{length-pack}
 
 -- the number in a field of w bits, where there are as many or fewer
-value-take : (w : ℕ) (bs : List ℕ) → Below 2 bs → value (take w bs) < 2 ^ w
+pub value-take : (w : ℕ) (bs : List ℕ) → Below 2 bs → value (take w bs) < 2 ^ w
 value-take w bs h =
     lt-of-lt-of-le (value-lt (take w bs) (below-take 2 w bs h))
     (pow-mono {i = length (take w bs)} {j = w} (rw (length-take w bs) (omega arith)))

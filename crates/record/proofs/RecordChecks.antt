@@ -2,7 +2,7 @@
 -- In order: all-split, all-shift; states-checked, targets-checked, fill-checked; rest-checked.
 -- Assumes nothing.
 use mathlib.Core.Path.{_≡_, refl, sym, ap, ap₂, _∙_}
-use mathlib.Core.Bool.{Bool, true, false, _&&_}
+use mathlib.Core.Bool.{Bool, _&&_, and-assoc, and-true}
 use mathlib.Core.List.{List, [], _∷_, _++_, append-assoc}
 use Prim.Native.Nat.{ℕ, zero, suc, _+_, _*_, _-_, _^_}
 use native.Mathlib.Nat.{zero-mul, suc-mul, add-zero, zero-add}
@@ -20,10 +20,6 @@ use Rattle.record.specs.Parse.{goodField, goodFields, goodTarget, filler
 use Rattle.record.specs.Checks.{codeAt, restGood}
 use Rattle.record.specs.Places.{goodAt, edgesPlace, goodTargetAt}
 use Rattle.record.proofs.RecordPlaces.{behind, behind-head}
-
-and-assoc : (a b c : Bool) → ((a && b) && c) ≡ (a && (b && c))
-and-assoc true b c = refl
-and-assoc false b c = refl
 
 -- a test of a + b numbers in a row
 pub all-split : (p : ℕ → Bool) (i a b : ℕ) → all p (from i (a + b)) ≡ (all p (from i a) && all p (from (i + a) b))
@@ -49,10 +45,6 @@ nextGood bs K o i = goodField K (field bs (o + i * 5) 1) (field bs (o + i * 5 + 
 past : (bs : List ℕ) (k o m : ℕ) → o + k ≡ m → drop k (drop o bs) ≡ drop m bs
 past bs k o m e = drop-drop k o bs ∙ ap (λ n. drop n bs) e
 
-and-true : (a : Bool) → a ≡ (a && true)
-and-true true = refl
-and-true false = refl
-
 module _ (bs us : List ℕ) (K : ℕ) where
   five : (o : ℕ) → drop 4 (drop 1 (drop o bs)) ≡ drop (o + 5) bs
   five o = ap (drop 4) (past bs 1 o (o + 1) refl) ∙ past bs 4 (o + 1) (o + 5) (omega arith)
@@ -76,7 +68,7 @@ module _ (bs us : List ℕ) (K : ℕ) where
       ap₂ (λ u v. (goodField K (value (take 1 (drop o bs))) (value (take 4 (drop 1 (drop o bs))))
       && goodField K (value (take 1 u)) (value (take 4 (drop 1 u))))
       && goodFields K n (read (repeat n (1 ∷ 4 ∷ 1 ∷ 4 ∷ []) ++ us) v)) (five o) d
-      ∙ ap₂ _&&_ (ap₂ _&&_ (next-good o 0 o z) (next-good o 1 (o + 5) w ∙ and-true (nextGood bs K o 1)))
+      ∙ ap₂ _&&_ (ap₂ _&&_ (next-good o 0 o z) (next-good o 1 (o + 5) w ∙ sym (and-true (nextGood bs K o 1))))
       (states-good n (o + 10) ∙ sym (all-shift (nextGood bs K o) (nextGood bs K (o + 10)) 2 0 (2 * n) (shifted o)))
       ∙ sym (ap (λ m. all (nextGood bs K o) (range m)) e ∙ all-split (nextGood bs K o) 0 2 (2 * n))
     where

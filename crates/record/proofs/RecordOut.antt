@@ -6,15 +6,14 @@ use mathlib.Core.Path.{_≡_, refl, sym, ap, ap₂, _∙_}
 use mathlib.Core.List.{List, [], _∷_, _++_, map, append-assoc, append-nil}
 use Prim.Native.Nat.{ℕ, suc, _+_, _*_, _^_, _≤_}
 use native.Mathlib.Omega.{arith}
-use lib.ListN.{length, drop, replicate, length-append, length-drop}
-use Rattle.laws.specs.Lists.{concat, repeat, sum}
+use lib.ListN.{length, drop, length-append}
+use Rattle.laws.specs.Lists.{concat, repeat}
 use Rattle.laws.specs.Sums.{Each, Below}
-use Rattle.laws.proofs.Lists.{sum-repeat, sum-replicate, below-append, below-drop}
-use Rattle.bits.specs.Fields.{bits, write, read, bitsOf}
+use Rattle.laws.proofs.Lists.{sum-repeat, sum-replicate}
+use Rattle.bits.specs.Fields.{bits, write, bitsOf}
 use Rattle.bits.specs.Bytes.{spliced}
-use Rattle.bits.proofs.Fields.{write-read, read-back, below-write, fits-bytes}
-use Rattle.bits.proofs.Places.{drop-bytes}
-use Rattle.bits.proofs.Puts.{bitsOf-append}
+use Rattle.bits.proofs.Fields.{below-write}
+use Rattle.bits.proofs.Runs.{bytes-in-front}
 use Rattle.constraint.specs.Walking.{Constraint}
 use Rattle.table.specs.Rows.{Edge, Rows, Code}
 use Rattle.table.specs.declared.Head.{Head}
@@ -25,7 +24,6 @@ use Rattle.record.specs.Parts.{frontBits, nextBits, stateBits, edgeBits,
 use Rattle.record.proofs.RecordFits.{sum-widths}
 use Rattle.record.proofs.RecordParts.{length-fields, write-append}
 use Rattle.record.proofs.RecordWrite.{length-pack}
-use Rattle.record.proofs.RecordBytes.{pack-bytes}
 
 -- ---- the constraint
 length-nexts : (c : Constraint) → length {A = ℕ} (repeat (length c) (1 ∷ 4 ∷ 1 ∷ 4 ∷ [])) ≡ length (nexts c)
@@ -136,35 +134,13 @@ module _ (c : Code) (even : Each (λ es. length es ≡ 2 ^ c .p) (c .table)) whe
   length-parts = length-fields (widths (head c)) (values c) length-values ∙ sum-widths (head c)
       ∙ sum-replicate (size (head c)) 8
 
--- bytes are known by their bits
-same-bytes : (xs ys : List ℕ) → Below 256 xs → Below 256 ys → length xs ≡ length ys → bitsOf xs ≡ bitsOf ys → xs ≡ ys
-same-bytes xs ys b d l e =
-    sym (read-back (replicate (length xs) 8) xs (fits-bytes xs b))
-    ∙ ap₂ (λ n t. read (replicate n 8) t) l e ∙ read-back (replicate (length ys) 8) ys (fits-bytes ys d)
-
 -- bytes that hold the record's bits in front, and are as lent behind them
-module _ (c : Code) (long : length (write (widths (head c)) (values c)) ≡ size (head c) * 8) where
-  abbrev W : List ℕ
-  W = write (widths (head c)) (values c)
-
-  filled : length W ≡ sum (replicate (size (head c)) 8)
-  filled = long ∙ sym (sum-replicate (size (head c)) 8)
-
-  pack-bits : bitsOf (pack c) ≡ W
-  unfolding pack
-  pack-bits =
-      ap (λ n. write (replicate n 8) (pack c)) (length-pack c)
-      ∙ write-read (replicate (size (head c)) 8) W (below-write (widths (head c)) (values c)) filled
-
-  pub bytes-are : (out new : List ℕ) → Below 256 out → Below 256 new → size (head c) ≤ length out
-      → length new ≡ length out → bitsOf new ≡ spliced 0 W (bitsOf out) → new ≡ pack c ++ drop (length (pack c)) out
-  bytes-are out new b d h l e =
-      let k = length (pack c) in
-      let ek : k ≡ size (head c) = length-pack c in
-      let ln : length new ≡ length (pack c ++ drop k out) =
-      l ∙ sym (length-append (pack c) (drop k out) ∙ ap (λ n. k + n) (length-drop k out) ∙ omega arith) in
-      let lw : k * 8 ≡ 0 + length W = omega arith in
-      same-bytes new (pack c ++ drop k out) d
-      (below-append 256 (pack c) (drop k out) (pack-bytes c) (below-drop 256 k out b)) ln
-      (e ∙ sym (bitsOf-append (pack c) (drop k out) ∙ ap₂ _++_ pack-bits
-      (sym (drop-bytes k out) ∙ ap (λ n. drop n (bitsOf out)) lw)))
+pub bytes-are : (c : Code) → length (write (widths (head c)) (values c)) ≡ size (head c) * 8 → (out new : List ℕ)
+    → Below 256 out → Below 256 new → size (head c) ≤ length out → length new ≡ length out
+    → bitsOf new ≡ spliced 0 (write (widths (head c)) (values c)) (bitsOf out)
+    → new ≡ pack c ++ drop (length (pack c)) out
+unfolding pack
+bytes-are c long out new b d h l e =
+    bytes-in-front (write (widths (head c)) (values c)) (size (head c)) (below-write (widths (head c)) (values c)) long
+    out new b d h l e
+    ∙ ap (λ n. pack c ++ drop n out) (sym (length-pack c))

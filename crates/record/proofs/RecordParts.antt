@@ -1,6 +1,5 @@
 -- Parts of a record put one behind the other among lent bits.
--- In order: put-low-is; put-absent, put-present; spliced-next, spliced-none; length-fields, write-append;
--- front-spliced.
+-- In order: put-low-is; put-absent, put-present; spliced-none; length-fields, write-append; front-spliced.
 -- Assumes nothing.
 use mathlib.Core.Path.{_≡_, refl, sym, ap, ap₂, subst, _∙_}
 use mathlib.Core.Bool.{false}
@@ -18,7 +17,8 @@ use Rattle.bits.specs.Bytes.{spliced}
 use Rattle.bits.proofs.Bytes.{bits-rest}
 use Rattle.bits.proofs.Fields.{length-bits}
 use Rattle.bits.proofs.Places.{bits-join}
-use Rattle.bits.proofs.Puts.{spliced-field, spliced-twice}
+use Rattle.bits.proofs.Puts.{spliced-field}
+use Rattle.bits.proofs.Runs.{spliced-next}
 use Rattle.constraint.specs.Walking.{none}
 use Rattle.table.specs.declared.Head.{Head}
 use Rattle.record.specs.Layout.{headerBits}
@@ -53,12 +53,6 @@ put-present B at s v h e =
     let q : shown s ≡ s = rw n in
     sym (spliced-field at 5 (16 + v) B) ∙ ap (λ l. spliced at l B)
     (joined s 1 v refl e ∙ ap₂ (λ x y. bits 1 x ++ bits 4 y) (sym p) (sym q))
-
--- ---- one part behind another
-pub spliced-next : (B B₁ B₂ F G : List ℕ) (at m : ℕ) → m ≡ at + length F → m + length G ≤ length B
-    → B₁ ≡ spliced at F B → B₂ ≡ spliced m G B₁ → B₂ ≡ spliced at (F ++ G) B
-spliced-next B B₁ B₂ F G at m e h p q =
-    q ∙ ap₂ (λ o l. spliced o G l) e p ∙ spliced-twice B F G at (omega arith)
 
 -- nothing put
 pub spliced-none : (at : ℕ) (B : List ℕ) → B ≡ spliced at [] B

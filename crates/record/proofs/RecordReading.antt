@@ -8,27 +8,26 @@ use mathlib.Core.List.{List}
 use Prim.Native.Nat.{ℕ, _^_, _≤_, _<_}
 use native.Mathlib.Omega.{arith}
 use lib.Dec.{T, leb, ltb, eqb, leb→le, ltb→lt, lit<}
-use lib.ListN.{length, getD, take, drop, replicate, length-take}
-use lib.Pow.{pow-mono}
+use lib.ListN.{length, getD, drop, replicate}
 use Rattle.laws.specs.Sums.{Below}
-use Rattle.laws.proofs.Lists.{below-take, below-drop}
+use Rattle.laws.proofs.Lists.{below-drop}
 use Rattle.laws.proofs.Tests.{and→}
 use Rattle.answer.specs.declared.Refusal.{Refusal}
 use Rattle.answer.specs.declared.Refusal.the-variants.{Field, Length}
 use Rattle.answer.specs.Outcomes.{Outcome, done, refused, unless}
+use Rattle.answer.proofs.Outcomes.{unless-false}
 use Rattle.bits.specs.Fields.{field, read, bitsOf}
-use Rattle.bits.proofs.Fields.{value-lt, read-at, below-write}
+use Rattle.bits.proofs.Fields.{read-at, below-write}
 use Rattle.table.specs.declared.Head.{Head}
 use Rattle.table.specs.Formed.{Ranges}
 use Rattle.record.specs.Layout.{header, headOf, size}
 use Rattle.record.specs.Parse.{goodHead}
 use Rattle.record.specs.Checks.{codeAt, restGood, fieldsGood, fieldsChecked}
+use Rattle.record.proofs.RecordBytes.{value-take}
 
 -- a field is below 2 to its width
 pub field-lt : (bs : List ℕ) → Below 2 bs → (o w : ℕ) → field bs o w < 2 ^ w
-field-lt bs b o w =
-    let l : length (take w (drop o bs)) ≤ w = rw length-take (omega arith) in
-    omega (arith, value-lt (take w (drop o bs)) (below-take 2 w (drop o bs) (below-drop 2 o bs b)), pow-mono l)
+field-lt bs b o w = value-take w (drop o bs) (below-drop 2 o bs b)
 
 pub below-bytes : (xs : List ℕ) → Below 2 (bitsOf xs)
 below-bytes xs = below-write (replicate (length xs) 8) xs
@@ -64,9 +63,6 @@ pub ranges-in : (xs : List ℕ) (h : Head) → h ≡ headOf (read header (bitsOf
 ranges-in xs h e g =
     subst Ranges (sym e) (ranges-of (bitsOf xs) (below-bytes xs) (subst T (sym (ap goodHead (sym e) ∙ g)) tt))
 
-unless-no : {A : Type 0} (r : Refusal) (b : Bool) (x : Outcome A) → b ≡ false → unless r b x ≡ refused r
-unless-no r b x e = ap (λ c. unless r c x) e
-
 unless-yes : {A : Type 0} (r : Refusal) (b : Bool) (x : Outcome A) → b ≡ true → unless r b x ≡ x
 unless-yes r b x e = ap (λ c. unless r c x) e
 
@@ -82,7 +78,7 @@ module _ (xs : List ℕ) where
     step = rw (e₀, front)
 
     pub checked-front : goodHead h ≡ false → fieldsChecked xs ≡ refused Field
-    checked-front e = step ∙ unless-no Field (goodHead h) _ e
+    checked-front e = step ∙ unless-false Field (goodHead h) _ e
 
     module _ (e₁ : goodHead h ≡ true) where
       step₁ : fieldsChecked xs ≡ unless Length (eqb (length xs) (size h))
@@ -90,14 +86,14 @@ module _ (xs : List ℕ) where
       step₁ = step ∙ unless-yes Field (goodHead h) _ e₁
 
       pub checked-length : eqb (length xs) (size h) ≡ false → fieldsChecked xs ≡ refused Length
-      checked-length e = step₁ ∙ unless-no Length (eqb (length xs) (size h)) _ e
+      checked-length e = step₁ ∙ unless-false Length (eqb (length xs) (size h)) _ e
 
       module _ (e₂ : eqb (length xs) (size h) ≡ true) where
         step₂ : fieldsChecked xs ≡ unless Field (restGood h (bitsOf xs)) (done (codeAt h (bitsOf xs)))
         step₂ = step₁ ∙ unless-yes Length (eqb (length xs) (size h)) _ e₂
 
         pub checked-rest : restGood h (bitsOf xs) ≡ false → fieldsChecked xs ≡ refused Field
-        checked-rest e = step₂ ∙ unless-no Field (restGood h (bitsOf xs)) _ e
+        checked-rest e = step₂ ∙ unless-false Field (restGood h (bitsOf xs)) _ e
 
         pub checked-good : restGood h (bitsOf xs) ≡ true → fieldsChecked xs ≡ done (codeAt h (bitsOf xs))
         checked-good e = step₂ ∙ unless-yes Field (restGood h (bitsOf xs)) _ e

@@ -7,9 +7,12 @@ use Prim.Native.Nat.{ℕ, _+_, _*_, _/_, _%_, _^_, _≤_}
 use native.Mathlib.Omega.{arith}
 use lib.ListN.{length, getD, length-append}
 use Rattle.laws.specs.Lists.{concat, range}
+use Rattle.laws.proofs.Ranges.{map-range-same}
+use Rattle.laws.proofs.Places.{quotient-of, remainder-of}
 use Rattle.bits.specs.Fields.{bits}
 use Rattle.bits.specs.Bytes.{spliced}
 use Rattle.bits.proofs.Fields.{length-bits}
+use Rattle.bits.proofs.Runs.{spliced-next, run-next}
 use Rattle.constraint.specs.declared.Constraint.{Constraint}
 use Rattle.constraint.specs.Value.{nextStatesAt}
 use Rattle.table.specs.declared.Table.{Table}
@@ -17,10 +20,8 @@ use Rattle.table.specs.Rows.{Edge}
 use Rattle.table.specs.Value.{edgeIn, rowIn, rowsIn}
 use Rattle.record.specs.Layout.{headerBits, stateSize}
 use Rattle.record.specs.Parts.{nextBits, stateBits, edgeBits, statesBits, rowsBits}
-use Rattle.record.proofs.Fills.{map-range}
-use Rattle.record.proofs.RecordParts.{spliced-next, spliced-none}
-use Rattle.record.proofs.RecordTables.{quotient-of, remainder-of}
-use Rattle.record.proofs.Runs.{run-next, flat}
+use Rattle.record.proofs.RecordParts.{spliced-none}
+use Rattle.record.proofs.Runs.{flat}
 
 length-next : (s : ℕ) → length (nextBits s) ≡ 5
 unfolding nextBits
@@ -100,6 +101,6 @@ edges-all t =
     let n = 2 ^ t .p in
     ap concat (sym (map-map (edgeBits (t .q)) (edgeNo t n) (range (t .states * n))))
     ∙ ap (λ l. concat (map (edgeBits (t .q)) l)) (sym (flat (edgeNo t n) n (t .states))
-    ∙ ap concat (map-range (λ s. map (λ d. edgeNo t n (s * n + d)) (range n)) (rowIn t) (t .states)
-    (λ s h. map-range (λ d. edgeNo t n (s * n + d)) (edgeIn t s) n
+    ∙ ap concat (map-range-same (λ s. map (λ d. edgeNo t n (s * n + d)) (range n)) (rowIn t) (t .states)
+    (λ s h. map-range-same (λ d. edgeNo t n (s * n + d)) (edgeIn t s) n
     (λ d g. ap₂ (edgeIn t) (quotient-of n s d g) (remainder-of n s d g)))))

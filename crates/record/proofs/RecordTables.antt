@@ -1,16 +1,15 @@
 -- A table's arrays filled from a record's bits stand for the code that the bits hold.
--- In order: length-over; states-are; quotient-of, remainder-of, spot-of, edge-lt; rows-are; code-is.
+-- In order: states-are; rows-are; code-is.
 -- Assumes nothing.
 use mathlib.Core.Path.{_≡_, sym, ap, ap₂, subst, _∙_}
 use mathlib.Core.List.{List, [], map}
-use Prim.Native.Nat.{ℕ, zero, suc, _+_, _*_, _/_, _%_, _^_, _<_}
-use native.Mathlib.Nat.{mul-le-mul-right, not-suc-le-zero, le-of-suc-le-suc, mod-eq-of-lt, add-mul-div-right}
-use native.Mathlib.Nat.{mul-add-mod-self-right, div-eq-of-lt, add-comm}
+use Prim.Native.Nat.{ℕ, zero, suc, _+_, _*_, _^_, _<_}
+use native.Mathlib.Nat.{not-suc-le-zero, le-of-suc-le-suc}
 use native.Mathlib.Omega.{arith}
-use lib.ListN.{length, getD, drop, length-map}
-use lib.Seq.{ext-getD}
+use lib.ListN.{length, getD, drop}
 use Rattle.laws.specs.Lists.{range}
-use Rattle.laws.proofs.Tests.{length-from, map-range-at}
+use Rattle.laws.proofs.Ranges.{is-map}
+use Rattle.laws.proofs.Places.{quotient-of, remainder-of, place-lt}
 use Rattle.bits.specs.Fields.{field}
 use Rattle.constraint.specs.Walking.{Constraint, nowhere}
 use Rattle.table.specs.Rows.{Edge, edge, at}
@@ -22,16 +21,11 @@ use Rattle.record.specs.Places.{stateIn, edgesPlace, spot, Column}
 use Rattle.record.proofs.RecordAgain.{length-edgesOf, length-nextsOf, length-rowsOf}
 use Rattle.record.proofs.RecordPlaces.{nextAt, constraint-at, table-at}
 
-pub length-over : {A : Type 0} (f : ℕ → A) (n : ℕ) → length (map f (range n)) ≡ n
-length-over f n = length-map (range n) f ∙ length-from 0 n
-
 -- the constraint
 pub states-are : (h : Head) (bs : List ℕ) → map (stateIn bs) (range (h .count)) ≡ codeAt h bs .constraint
 states-are h bs =
-    ext-getD nowhere (map (stateIn bs) (range (h .count))) (codeAt h bs .constraint)
-    (length-over (stateIn bs) (h .count) ∙ sym (length-nextsOf (h .count) _))
-    (λ k l. let g : k < h .count = subst (λ n. k < n) (length-over (stateIn bs) (h .count)) l in
-    map-range-at (stateIn bs) (h .count) k nowhere g ∙ same k ∙ sym (constraint-at h bs k nowhere g))
+    sym (is-map nowhere (stateIn bs) (h .count) (codeAt h bs .constraint) (length-nextsOf (h .count) _)
+    (λ k l. constraint-at h bs k nowhere l ∙ sym (same k)))
   where
     same : (k : ℕ) → stateIn bs k ≡ nextAt bs (headerBits + k * stateSize)
     same k =
@@ -42,21 +36,9 @@ states-are h bs =
           one = opened (field bs x 1) (field bs y 4);
         }) e f
 
--- the state and the datum of an edge by its number
-pub quotient-of : (n s d : ℕ) → d < n → (s * n + d) / n ≡ s
-quotient-of n s d h =
-    let z : d / n + s ≡ s = rw (div-eq-of-lt h) (omega arith) in
-    ap (λ m. m / n) (add-comm (s * n) d) ∙ add-mul-div-right d s {z = n} (omega arith) ∙ z
-
-pub remainder-of : (n s d : ℕ) → d < n → (s * n + d) % n ≡ d
-remainder-of n s d h = mul-add-mod-self-right s n d ∙ mod-eq-of-lt h
-
 -- the place of the edge of s that carries d
-pub spot-of : (n s d : ℕ) → d < n → spot n (s * n + d) ≡ s * 16 + d
+spot-of : (n s d : ℕ) → d < n → spot n (s * n + d) ≡ s * 16 + d
 spot-of n s d h = ap₂ (λ x y. x * 16 + y) (quotient-of n s d h) (remainder-of n s d h)
-
-pub edge-lt : (S n s d : ℕ) → s < S → d < n → s * n + d < S * n
-edge-lt S n s d h g = omega (arith, mul-le-mul-right {m = s + 1} {n = S} n (omega arith))
 
 length-row : (s n : ℕ) (vs : List ℕ) (i : ℕ) → i < s → length (getD (rowsOf s n vs) i []) ≡ n
 length-row zero n vs i h = absurd (not-suc-le-zero h)
@@ -77,7 +59,7 @@ module _ (h : Head) (bs word next : List ℕ) where
         let n = 2 ^ h .p in
         let e = s * n + d in
         let p : spot n e ≡ s * 16 + d = spot-of n s d l in
-        let g : e < h .states * n = edge-lt (h .states) n s d i l in
+        let g : e < h .states * n = place-lt (h .states) n s d i l in
         let o : edgesPlace h + h .q + e * (h .q + 7) ≡ edgesPlace h + e * (h .q + 7) + h .q = omega arith in
         ap (λ m. edge (getD word m 0) (getD next m 0)) (sym p)
         ∙ ap₂ edge (w .filled e g) (x .filled e g ∙ ap (λ m. field bs m 7) o)
@@ -85,19 +67,14 @@ module _ (h : Head) (bs word next : List ℕ) where
 
     row-is : (s : ℕ) → s < h .states → rowOf s ≡ getD (codeAt h bs .table) s []
     row-is s i =
-        let n = 2 ^ h .p in
-        ext-getD (edge 0 0) (rowOf s) (getD (codeAt h bs .table) s [])
-        (length-over (edgeOf s) n ∙ sym (length-row (h .states) n _ s i))
-        (λ d l. let g : d < n = subst (λ m. d < m) (length-over (edgeOf s) n) l in
-        map-range-at (edgeOf s) n d (edge 0 0) g ∙ edge-is s d i g)
+        sym (is-map (edge 0 0) (edgeOf s) (2 ^ h .p) (getD (codeAt h bs .table) s [])
+        (length-row (h .states) (2 ^ h .p) _ s i) (λ d l. sym (edge-is s d i l)))
 
     -- the table
     pub rows-are : map rowOf (range (h .states)) ≡ codeAt h bs .table
     rows-are =
-        ext-getD [] (map rowOf (range (h .states))) (codeAt h bs .table)
-        (length-over rowOf (h .states) ∙ sym (length-rowsOf (h .states) (2 ^ h .p) _))
-        (λ s l. let g : s < h .states = subst (λ m. s < m) (length-over rowOf (h .states)) l in
-        map-range-at rowOf (h .states) s [] g ∙ row-is s g)
+        sym (is-map [] rowOf (h .states) (codeAt h bs .table) (length-rowsOf (h .states) (2 ^ h .p) _)
+        (λ s l. sym (row-is s l)))
 
 -- the code, from the constraint and the columns
 pub code-is : (h : Head) (bs word next : List ℕ) (k : Constraint) (n : ℕ) → n ≡ 2 ^ h .p

@@ -13,6 +13,7 @@ use lib.ListN.{length, getD, take, drop, length-append}
 use Rattle.laws.specs.Lists.{range}
 use Rattle.laws.specs.Sums.{Each, Below}
 use Rattle.laws.proofs.Sums.{each-image, each-always}
+use Rattle.laws.proofs.Ranges.{length-map-range}
 use Rattle.answer.specs.declared.Refusal.the-variants.{Field, ShortOutput}
 use Rattle.answer.specs.Outcomes.{done, refused, unless}
 use Rattle.answer.proofs.Outcomes.{unless-true}
@@ -20,6 +21,7 @@ use Rattle.bits.specs.Fields.{bits, bitsOf}
 use Rattle.bits.specs.Bytes.{spliced}
 use Rattle.bits.proofs.Fields.{length-bits}
 use Rattle.bits.proofs.Puts.{length-bitsOf, spliced-field}
+use Rattle.bits.proofs.Runs.{spliced-next, size-holds}
 use Rattle.constraint.specs.Value.{nextStatesAt}
 use Rattle.table.specs.declared.Table.{Table}
 use Rattle.table.specs.Rows.{Code}
@@ -33,9 +35,6 @@ use Rattle.record.specs.Checks.{packWith}
 use Rattle.table.specs.Value.{tableHead}
 use Rattle.record.specs.Parts.{frontBits, statesBits, rowsBits}
 use Rattle.record.specs.Places.{Small}
-use Rattle.record.proofs.Sizes.{size-holds}
-use Rattle.record.proofs.RecordTables.{length-over}
-use Rattle.record.proofs.RecordParts.{spliced-next}
 use Rattle.record.proofs.RecordWrite.{length-pack}
 use Rattle.record.proofs.RecordOut.{length-front, length-states, length-table, parts-are, length-parts}
 use Rattle.record.proofs.RecordOut.{bytes-are}
@@ -50,7 +49,7 @@ below-all n (x ∷ xs) h = (h 0, below-all n xs (λ i. h (suc i)))
 pub even : (t : Table) → Each (λ es. length es ≡ 2 ^ t .p) (rowsIn t)
 even t =
     each-image (λ es. length es ≡ 2 ^ t .p) (rowIn t) (range (t .states))
-    (each-always (λ s. length (rowIn t s) ≡ 2 ^ t .p) (λ s. length-over (edgeIn t s) (2 ^ t .p)) (range (t .states)))
+    (each-always (λ s. length (rowIn t s) ≡ 2 ^ t .p) (λ s. length-map-range (edgeIn t s) (2 ^ t .p)) (range (t .states)))
 
 -- the four parts put one behind the other are the record
 module _ (c : Code) (each : Each (λ es. length es ≡ 2 ^ c .p) (c .table)) (out new B₁ B₂ B₃ : List ℕ) (a w m : ℕ) where
@@ -77,7 +76,7 @@ module _ (c : Code) (each : Each (λ es. length es ≡ 2 ^ c .p) (c .table)) (ou
       let lr : length R ≡ length (c .table) * (2 ^ c .p * (c .q + 7)) = length-table (c .q) (2 ^ c .p) (c .table)
       each in
       let lz : length (bits w 0) ≡ w = length-bits w 0 in
-      let fits : bitCount (head c) ≤ 8 * size (head c) = size-holds (head c) in
+      let fits : bitCount (head c) ≤ 8 * size (head c) = size-holds (bitCount (head c)) in
       let fs = length-append F S in
       let fr = length-append (F ++ S) R in
       let s₂ = spliced-next B B₁ B₂ F S 0 headerBits (omega arith) (omega arith) e₁ e₂ in

@@ -1,6 +1,6 @@
 -- How large the numbers of a record get, and which fields the header has.
 -- In order: small-of; power-le, row-le, edges-le, bitCount-le; front-is; place-le, product-le; edge-count-le,
--- size-holds, edges-end; reach-words, reach-nexts.
+-- edges-end; reach-words, reach-nexts.
 -- Assumes nothing.
 use mathlib.Core.Path.{_≡_}
 use mathlib.Core.List.{List}
@@ -11,6 +11,7 @@ use lib.Dec.{lit<, lit≤}
 use lib.Pow.{pow-mono, pow-pos}
 use Rattle.bits.specs.Fields.{field, read}
 use Rattle.bits.proofs.Fields.{read-at}
+use Rattle.bits.proofs.Runs.{size-holds}
 use Rattle.table.specs.declared.Head.{Head}
 use Rattle.table.specs.Formed.{Ranges}
 use Rattle.record.specs.Layout.{header, headOf, bitCount, size}
@@ -62,16 +63,9 @@ product-le e d k m h g = mul-le-mul {n₁ = e} {m₁ = d} {n₂ = k} {m₂ = m} 
 pub edge-count-le : (h : Head) (n : ℕ) → Small h → n ≡ 2 ^ h .p → h .states * n ≤ 2048
 edge-count-le h n r e = rw e (product-le (h .states) (2 ^ h .p) 128 16 (r .s₂) (power-le h r))
 
--- the record holds all its fields
-pub size-holds : (h : Head) → bitCount h ≤ 8 * size h
-size-holds h = go (bitCount h)
-  where
-    go : (b : ℕ) → b ≤ 8 * ((b + 7) / 8)
-    go b = omega arith
-
 pub edges-end : (h : Head) (n l : ℕ) → n ≡ 2 ^ h .p → l ≡ size h → edgesPlace h + h .states * n * (h .q + 7) ≤ 8 * l
 edges-end h n l e f =
-    let g : bitCount h ≤ 8 * l = rw f (size-holds h) in
+    let g : bitCount h ≤ 8 * l = rw f (size-holds (bitCount h)) in
     let m : h .states * n * (h .q + 7) ≡ h .states * (2 ^ h .p * (h .q + 7)) = rw e
     (mul-assoc (h .states) (2 ^ h .p) (h .q + 7)) in
     omega arith

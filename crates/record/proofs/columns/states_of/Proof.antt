@@ -6,10 +6,11 @@ use Prim.Native.Nat.{ℕ, _+_, _*_, _-_, _≤_, _<_}
 use native.Mathlib.Omega.{arith}
 use denote.Ref.{now}
 use lib.ListN.{length, getD, length-set}
+use Rattle.laws.proofs.Ranges.{map-range-same}
 use Rattle.bits.specs.Fields.{bitsOf}
 use Rattle.record.specs.Layout.{headerBits, stateSize}
 use Rattle.record.specs.Places.{nextIn}
-use Rattle.record.proofs.Fills.{fill-more, map-range}
+use Rattle.record.proofs.Fills.{fill-more}
 use Rattle.record.proofs.columns.states_of.Statement.{statement}
 use Rattle.record.proofs.columns.states_of.Tie as tie
 
@@ -78,7 +79,7 @@ returns : tie.Need-returns Inv-loop μ-loop
 returns c =
     let b = c .before in
     let a = b .before .before .args in (
-      map-range _ _ (a .count) (λ k h. ap₂ (λ x y. record { zero = x; one = y }) (b .loop .inv .3 k (omega arith))
+      map-range-same _ _ (a .count) (λ k h. ap₂ (λ x y. record { zero = x; one = y }) (b .loop .inv .3 k (omega arith))
           (b .loop .inv .4 k (omega arith))),
       refl,
     )

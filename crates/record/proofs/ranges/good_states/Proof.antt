@@ -8,9 +8,9 @@ use native.Mathlib.Omega.{arith}
 use borrow.Author.Count.{below-more}
 use borrow.Author.Tests.{not-true, not-false}
 use denote.Ref.{now}
+use Rattle.laws.proofs.Ranges.{all-range-true, all-range-false}
 use Rattle.bits.specs.Fields.{bitsOf}
 use Rattle.record.specs.Places.{goodAt}
-use Rattle.record.proofs.Alls.{all-yes, all-not}
 use Rattle.record.proofs.ranges.good_states.Statement.{statement}
 use Rattle.record.proofs.ranges.good_states.Tie as tie
 
@@ -38,9 +38,9 @@ good-next-requires c κs = (omega arith, omega arith)
 returns : tie.Need-returns Inv-loop μ-loop
 returns c =
     let a = c .before .before .before .before .before .args in
-    all-not (goodAt (bitsOf (now (a .bytes))) (a .count)) (2 * a .count) (c .before .before .before .loop .i)
-    (omega arith)
-    (sym (c .before .good-next .ensures) ∙ not-true (c .before .good-next .result) (c .if1 .taken))
+    sym (all-range-false (goodAt (bitsOf (now (a .bytes))) (a .count)) (2 * a .count)
+    (c .before .before .before .loop .i) (omega arith)
+    (sym (c .before .good-next .ensures) ∙ not-true (c .before .good-next .result) (c .if1 .taken)))
 
 add-i : tie.Need-add-i Inv-loop μ-loop
 add-i c = omega arith
@@ -58,8 +58,8 @@ loop-again c = (
 returns-2 : tie.Need-returns-2 Inv-loop μ-loop
 returns-2 c =
     let a = c .before .before .before .args in
-    all-yes (goodAt (bitsOf (now (a .bytes))) (a .count)) (2 * a .count)
-    (λ k h. c .before .loop .inv .1 k (omega arith))
+    sym (all-range-true (goodAt (bitsOf (now (a .bytes))) (a .count)) (2 * a .count)
+    (λ k h. c .before .loop .inv .1 k (omega arith)))
 
 pub good-states-spec : {M : Type 1} → statement M
 good-states-spec =

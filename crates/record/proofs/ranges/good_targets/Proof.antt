@@ -11,10 +11,10 @@ use borrow.Author.Tests.{lt-ltb, le-ltb}
 use denote.Ref.{now}
 use lib.ListN.{length}
 use lib.Dec.{ltb}
+use Rattle.laws.proofs.Ranges.{all-range-true, all-range-false}
 use Rattle.bits.specs.Fields.{bitsOf, field}
 use Rattle.record.specs.Layout.{headerBits, stateSize}
 use Rattle.record.specs.Places.{goodTargetAt}
-use Rattle.record.proofs.Alls.{all-yes, all-not}
 use Rattle.record.proofs.Sizes.{place-le, product-le}
 use Rattle.record.proofs.ranges.good_targets.Statement.{statement}
 use Rattle.record.proofs.ranges.good_targets.Tie as tie
@@ -81,9 +81,9 @@ cast-if1 c = search needs
 returns : tie.Need-returns Inv-loop μ-loop
 returns c =
     let a = c .before .before .before .before .before .before .before .before .args in
-    all-not (goodTargetAt (bitsOf (now (a .bytes))) (a .f)) (a .edges) (c .before .before .before .loop .e)
-    (omega arith)
-    (ap (λ x. ltb x (a .f .states)) (sym (c .before .get .ensures)) ∙ le-ltb _ _ (c .if1 .taken))
+    sym (all-range-false (goodTargetAt (bitsOf (now (a .bytes))) (a .f)) (a .edges)
+    (c .before .before .before .loop .e) (omega arith)
+    (ap (λ x. ltb x (a .f .states)) (sym (c .before .get .ensures)) ∙ le-ltb _ _ (c .if1 .taken)))
 
 add-e : tie.Need-add-e Inv-loop μ-loop
 add-e c = omega arith
@@ -102,8 +102,8 @@ loop-again c =
 returns-2 : tie.Need-returns-2 Inv-loop μ-loop
 returns-2 c =
     let a = c .before .before .before .before .before .before .args in
-    all-yes (goodTargetAt (bitsOf (now (a .bytes))) (a .f)) (a .edges)
-    (λ k h. c .before .loop .inv .1 k (omega arith))
+    sym (all-range-true (goodTargetAt (bitsOf (now (a .bytes))) (a .f)) (a .edges)
+    (λ k h. c .before .loop .inv .1 k (omega arith)))
 
 pub good-targets-spec : {M : Type 1} → statement M
 good-targets-spec =

@@ -9,6 +9,7 @@ use lib.ListN.{length}
 use lib.Pow.{pow-pos}
 use Rattle.bits.specs.Bytes.{spliced}
 use Rattle.bits.specs.Fields.{bitsOf}
+use Rattle.bits.proofs.Runs.{size-holds}
 use Rattle.table.specs.Formed.{head}
 use Rattle.table.specs.Value.{codeIn}
 use Rattle.record.specs.Layout.{headerBits, stateSize}
@@ -17,7 +18,7 @@ use Rattle.table.specs.Value.{tableHead}
 use Rattle.record.specs.Parts.{frontBits}
 use Rattle.record.specs.Places.{Small}
 use Rattle.table.proofs.ReadyTables.{head-in}
-use Rattle.record.proofs.Sizes.{bitCount-le, size-holds, edges-end}
+use Rattle.record.proofs.Sizes.{bitCount-le, edges-end}
 use Rattle.record.proofs.RecordWriting.{small-in, below-all, even, whole-record}
 use Rattle.record.proofs.writing.put_record.Statement.{statement}
 use Rattle.record.proofs.writing.put_record.Tie as tie
@@ -74,7 +75,7 @@ mul-put c =
 sub-put : tie.Need-sub-put
 sub-put c =
     let s = start c in
-    omega (arith, place c, s .pre .2, size-holds (tableHead (s .args .t)))
+    omega (arith, place c, s .pre .2, size-holds (bitCount (tableHead (s .args .t))))
 
 put-requires : tie.Need-put-requires
 put-requires c κs =
@@ -85,7 +86,7 @@ put-requires c κs =
     let l = p .put-edges .ensures .1 ∙ q .put-states .ensures .1 ∙ r .put-front .ensures .1 in (
       omega (arith, place c, s .pre .2),
       omega
-          (arith, place c, s .pre .2, s .pre .3, size-holds (tableHead (s .args .t))),
+          (arith, place c, s .pre .2, s .pre .3, size-holds (bitCount (tableHead (s .args .t)))),
       pow-pos _,
     )
 
