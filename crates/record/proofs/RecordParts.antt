@@ -1,5 +1,6 @@
 -- Parts of a record put one behind the other among lent bits.
--- In order: put-low-is; put-absent, put-present; spliced-none; length-fields, write-append; front-spliced.
+-- In order: put-low-is; put-absent, put-present; spliced-none; length-fields, write-append;
+-- Putting, front-spliced.
 -- Assumes nothing.
 use mathlib.Core.Path.{_≡_, refl, sym, ap, ap₂, subst, _∙_}
 use mathlib.Core.Bool.{false}
@@ -9,7 +10,7 @@ use native.Mathlib.Nat.{mod-lt, add-zero}
 use native.Mathlib.Omega.{arith}
 use borrow.Author.Tests.{ne-eqb}
 use lib.Dec.{eqb}
-use lib.ListN.{length, take, drop, length-append, take-append-drop}
+use lib.ListN.{length, take, drop, length-append, length-take, length-drop, take-append-drop}
 use lib.Pow.{pow-pos}
 use Rattle.laws.specs.Lists.{sum}
 use Rattle.bits.specs.Fields.{bits, write}
@@ -22,7 +23,7 @@ use Rattle.bits.proofs.Runs.{spliced-next}
 use Rattle.constraint.specs.Walking.{none}
 use Rattle.table.specs.declared.Head.{Head}
 use Rattle.record.specs.Layout.{headerBits}
-use Rattle.record.specs.Layout.{frontValues, header, present, shown}
+use Rattle.record.specs.Layout.{header, present, shown}
 use Rattle.record.specs.Parts.{frontBits, nextBits}
 
 -- a field of the lowest bits
@@ -75,33 +76,39 @@ write-append (w ∷ ws) us (v ∷ vs) xs e =
     ap (λ l. bits w v ++ l) (write-append ws us vs xs (omega arith))
     ∙ sym (append-assoc (bits w v) (write ws vs) (write us xs))
 
--- one field more
-field-next : (B B₁ B₂ ws vs : List ℕ) (w v m : ℕ) → length ws ≡ length vs → sum ws ≡ m → m + w ≤ length B
-    → B₁ ≡ spliced 0 (write ws vs) B → B₂ ≡ spliced m (bits w v) B₁
-    → B₂ ≡ spliced 0 (write (ws ++ w ∷ []) (vs ++ v ∷ [])) B
-field-next B B₁ B₂ ws vs w v m e s h p q =
-    let l = length-fields ws vs e in
-    let b = length-bits w v in
-    spliced-next B B₁ B₂ (write ws vs) (bits w v) 0 m (omega arith) (omega arith) p q
-    ∙ ap (λ l. spliced 0 l B) (sym (write-append ws (w ∷ []) vs (v ∷ []) e
-    ∙ ap (λ l. write ws vs ++ l) (append-nil (bits w v))))
+-- the numbers vs put one by one into fields of the widths ws, from the place o on, make B′ of the bits B
+abbrev pub Putting : List ℕ → ℕ → List ℕ → List ℕ → List ℕ → Type 0
+Putting B o [] [] B′ = B′ ≡ B
+Putting B o [] (v ∷ vs) B′ = ⊥
+Putting B o (w ∷ ws) [] B′ = ⊥
+Putting B o (w ∷ ws) (v ∷ vs) B′ = (B₁ : List ℕ) × (B₁ ≡ spliced o (bits w v) B) × Putting B₁ (o + w) ws vs B′
+
+length-spliced : (o : ℕ) (F B : List ℕ) → o + length F ≤ length B → length (spliced o F B) ≡ length B
+length-spliced o F B h = simp (length-append, length-take, length-drop) (omega arith)
+
+length-le : (ws vs : List ℕ) → length (write ws vs) ≤ sum ws
+length-le [] vs = omega arith
+length-le (w ∷ ws) [] = omega arith
+length-le (w ∷ ws) (v ∷ vs) =
+    omega (arith, length-append (bits w v) (write ws vs), length-bits w v, length-le ws vs)
+
+put-all : (B : List ℕ) (o : ℕ) (ws vs B′ : List ℕ) → o + sum ws ≤ length B → Putting B o ws vs B′
+    → B′ ≡ spliced o (write ws vs) B
+put-all B o [] [] B′ h e = e ∙ spliced-none o B
+put-all B o [] (v ∷ vs) B′ h e = absurd e
+put-all B o (w ∷ ws) [] B′ h e = absurd e
+put-all B o (w ∷ ws) (v ∷ vs) B′ h (B₁, e, r) =
+    let b : length (bits w v) ≡ w = length-bits w v in
+    let l : length B₁ ≡ length B = ap length e ∙ length-spliced o (bits w v) B (omega arith) in
+    spliced-next B B₁ B′ (bits w v) (write ws vs) o (o + w) (omega arith) (omega (arith, length-le ws vs)) e
+    (put-all B₁ (o + w) ws vs B′ (omega arith) r)
 
 -- the numbers in front, field by field
-pub front-spliced : (h : Head) (s k : ℕ) (B B₁ B₂ B₃ B₄ B₅ B₆ B₇ : List ℕ) → headerBits ≤ length B
-    → s ≡ h .states - 1 → k ≡ h .count - 1
-    → B₁ ≡ spliced 0 (bits 3 (h .p)) B → B₂ ≡ spliced 3 (bits 4 (h .q)) B₁ → B₃ ≡ spliced 7 (bits 7 s) B₂
-    → B₄ ≡ spliced 14 (bits 4 (h .memory)) B₃ → B₅ ≡ spliced 18 (bits 4 (h .lookahead)) B₄
-    → B₆ ≡ spliced 22 (bits 4 k) B₅ → B₇ ≡ spliced 26 (bits 4 (h .start)) B₆
-    → B₇ ≡ spliced 0 (frontBits h) B
+pub front-spliced : (h : Head) (s k : ℕ) (B B′ : List ℕ) → headerBits ≤ length B → s ≡ h .states - 1
+    → k ≡ h .count - 1
+    → Putting B 0 header (h .p ∷ h .q ∷ s ∷ h .memory ∷ h .lookahead ∷ k ∷ h .start ∷ []) B′
+    → B′ ≡ spliced 0 (frontBits h) B
 unfolding frontBits
-front-spliced h s k B B₁ B₂ B₃ B₄ B₅ B₆ B₇ l es ek e₁ e₂ e₃ e₄ e₅ e₆ e₇ =
-    let g₃ = subst (λ x. B₃ ≡ spliced 7 (bits 7 x) B₂) es e₃ in
-    let g₆ = subst (λ x. B₆ ≡ spliced 22 (bits 4 x) B₅) ek e₆ in
-    let vs = frontValues h in
-    let f₁ = field-next B B B₁ [] [] 3 (h .p) 0 refl refl (omega arith) refl e₁ in
-    let f₂ = field-next B B₁ B₂ (take 1 header) (take 1 vs) 4 (h .q) 3 refl refl (omega arith) f₁ e₂ in
-    let f₃ = field-next B B₂ B₃ (take 2 header) (take 2 vs) 7 (h .states - 1) 7 refl refl (omega arith) f₂ g₃ in
-    let f₄ = field-next B B₃ B₄ (take 3 header) (take 3 vs) 4 (h .memory) 14 refl refl (omega arith) f₃ e₄ in
-    let f₅ = field-next B B₄ B₅ (take 4 header) (take 4 vs) 4 (h .lookahead) 18 refl refl (omega arith) f₄ e₅ in
-    let f₆ = field-next B B₅ B₆ (take 5 header) (take 5 vs) 4 (h .count - 1) 22 refl refl (omega arith) f₅ g₆ in
-    field-next B B₆ B₇ (take 6 header) (take 6 vs) 4 (h .start) 26 refl refl (omega arith) f₆ e₇
+front-spliced h s k B B′ l es ek e =
+    put-all B 0 header (h .p ∷ h .q ∷ s ∷ h .memory ∷ h .lookahead ∷ k ∷ h .start ∷ []) B′ l e
+    ∙ ap₂ (λ s k. spliced 0 (write header (h .p ∷ h .q ∷ s ∷ h .memory ∷ h .lookahead ∷ k ∷ h .start ∷ [])) B) es ek

@@ -1,5 +1,5 @@
 -- A record read check by check: the header's numbers are in range, and what each check comes to.
--- In order: field-lt; below-bytes, ranges-of, ranges-in; checked-short, checked-front, checked-length, checked-rest,
+-- In order: below-bytes, ranges-of, ranges-in; checked-short, checked-front, checked-length, checked-rest,
 -- checked-good.
 -- Assumes nothing.
 use mathlib.Core.Path.{_≡_, refl, sym, ap, subst, _∙_}
@@ -8,7 +8,8 @@ use mathlib.Core.List.{List}
 use Prim.Native.Nat.{ℕ, _^_, _≤_, _<_}
 use native.Mathlib.Omega.{arith}
 use lib.Dec.{T, leb, ltb, eqb, leb→le, ltb→lt, lit<}
-use lib.ListN.{length, getD, drop, replicate}
+use lib.ListN.{length, getD, take, drop, replicate}
+use Rattle.laws.specs.Lists.{sum}
 use Rattle.laws.specs.Sums.{Below}
 use Rattle.laws.proofs.Lists.{below-drop}
 use Rattle.laws.proofs.Tests.{and→}
@@ -16,7 +17,7 @@ use Rattle.answer.specs.declared.Refusal.{Refusal}
 use Rattle.answer.specs.declared.Refusal.the-variants.{Field, Length}
 use Rattle.answer.specs.Outcomes.{Outcome, done, refused, unless}
 use Rattle.answer.proofs.Outcomes.{unless-false}
-use Rattle.bits.specs.Fields.{field, read, bitsOf}
+use Rattle.bits.specs.Fields.{read, bitsOf}
 use Rattle.bits.proofs.Fields.{read-at, below-write}
 use Rattle.table.specs.declared.Head.{Head}
 use Rattle.table.specs.Formed.{Ranges}
@@ -25,9 +26,12 @@ use Rattle.record.specs.Parse.{goodHead}
 use Rattle.record.specs.Checks.{codeAt, restGood, fieldsGood, fieldsChecked}
 use Rattle.record.proofs.RecordBytes.{value-take}
 
--- a field is below 2 to its width
-pub field-lt : (bs : List ℕ) → Below 2 bs → (o w : ℕ) → field bs o w < 2 ^ w
-field-lt bs b o w = value-take w (drop o bs) (below-drop 2 o bs b)
+-- a number that is read is below 2 to its width
+read-lt : (bs : List ℕ) → Below 2 bs → (ws : List ℕ) (i : ℕ) → i < length ws
+    → getD (read ws bs) i 0 < 2 ^ getD ws i 0
+read-lt bs b ws i h =
+    rw (read-at ws bs i h)
+    (value-take (getD ws i 0) (drop (sum (take i ws)) bs) (below-drop 2 (sum (take i ws)) bs b))
 
 pub below-bytes : (xs : List ℕ) → Below 2 (bitsOf xs)
 below-bytes xs = below-write (replicate (length xs) 8) xs
@@ -40,10 +44,10 @@ ranges-of bs b g =
     let (gq, gz) = and→ (leb 1 (h .q) && leb (h .q) 8) (ltb (h .start) (h .count)) g₁ in
     let (p₁, p₂) = and→ (leb 1 (h .p)) (leb (h .p) 4) gp in
     let (q₁, q₂) = and→ (leb 1 (h .q)) (leb (h .q) 8) gq in
-    let s : getD (read header bs) 2 0 < 128 = rw (read-at header bs 2 (lit< tt)) (field-lt bs b 7 7) in
-    let m : getD (read header bs) 3 0 < 16 = rw (read-at header bs 3 (lit< tt)) (field-lt bs b 14 4) in
-    let a : getD (read header bs) 4 0 < 16 = rw (read-at header bs 4 (lit< tt)) (field-lt bs b 18 4) in
-    let k : getD (read header bs) 5 0 < 16 = rw (read-at header bs 5 (lit< tt)) (field-lt bs b 22 4) in
+    let s : getD (read header bs) 2 0 < 128 = read-lt bs b header 2 (lit< tt) in
+    let m : getD (read header bs) 3 0 < 16 = read-lt bs b header 3 (lit< tt) in
+    let a : getD (read header bs) 4 0 < 16 = read-lt bs b header 4 (lit< tt) in
+    let k : getD (read header bs) 5 0 < 16 = read-lt bs b header 5 (lit< tt) in
     record {
       p₁ = leb→le _ _ p₁;
       p₂ = leb→le _ _ p₂;

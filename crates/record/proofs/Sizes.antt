@@ -1,16 +1,17 @@
 -- How large the numbers of a record get, and which fields the header has.
--- In order: small-of; power-le, row-le, edges-le, bitCount-le; front-is; place-le, product-le; edge-count-le,
+-- In order: small-of; power-le, row-le, edges-le, bitCount-le; Standing, front-is; place-le, product-le; edge-count-le,
 -- edges-end; reach-words, reach-nexts.
 -- Assumes nothing.
-use mathlib.Core.Path.{_≡_}
-use mathlib.Core.List.{List}
-use Prim.Native.Nat.{ℕ, _+_, _*_, _/_, _^_, _≤_, _<_}
+use mathlib.Core.Path.{_≡_, refl, sym, ap, ap₂, _∙_}
+use mathlib.Core.List.{List, [], _∷_}
+use Prim.Native.Nat.{ℕ, _+_, _*_, _^_, _≤_, _<_}
 use native.Mathlib.Nat.{mul-le-mul, mul-le-mul-right, mul-assoc}
 use native.Mathlib.Omega.{arith}
-use lib.Dec.{lit<, lit≤}
+use lib.Dec.{lit≤}
+use lib.ListN.{drop}
+use lib.Seq.{drop-drop}
 use lib.Pow.{pow-mono, pow-pos}
 use Rattle.bits.specs.Fields.{field, read}
-use Rattle.bits.proofs.Fields.{read-at}
 use Rattle.bits.proofs.Runs.{size-holds}
 use Rattle.table.specs.declared.Head.{Head}
 use Rattle.table.specs.Formed.{Ranges}
@@ -36,20 +37,25 @@ edges-le h r =
 pub bitCount-le : (h : Head) → Small h → bitCount h ≤ 30910
 bitCount-le h r = omega (arith, edges-le h r, r .k₂)
 
--- the numbers in front, by bit places
-pub front-is : (bs : List ℕ) (p q s m a k z : ℕ) → p ≡ field bs 0 3 → q ≡ field bs 3 4 → s ≡ field bs 7 7
-    → m ≡ field bs 14 4 → a ≡ field bs 18 4 → k ≡ field bs 22 4 → z ≡ field bs 26 4
+-- the numbers vs stand in fields of the widths ws, one behind the other from the place o on
+abbrev pub Standing : List ℕ → ℕ → List ℕ → List ℕ → Type 0
+Standing bs o [] [] = Unit {0}
+Standing bs o [] (v ∷ vs) = ⊥
+Standing bs o (w ∷ ws) [] = ⊥
+Standing bs o (w ∷ ws) (v ∷ vs) = (v ≡ field bs o w) × Standing bs (o + w) ws vs
+
+fields-are : (bs : List ℕ) (o : ℕ) (ws vs : List ℕ) → Standing bs o ws vs → vs ≡ read ws (drop o bs)
+fields-are bs o [] [] s = refl
+fields-are bs o [] (v ∷ vs) s = absurd s
+fields-are bs o (w ∷ ws) [] s = absurd s
+fields-are bs o (w ∷ ws) (v ∷ vs) (e, s) =
+    ap₂ _∷_ e (fields-are bs (o + w) ws vs s ∙ ap (read ws) (sym (drop-drop w o bs)))
+
+-- the numbers in front, field by field
+pub front-is : (bs : List ℕ) (p q s m a k z : ℕ) → Standing bs 0 header (p ∷ q ∷ s ∷ m ∷ a ∷ k ∷ z ∷ [])
     → record { p = p; q = q; states = s + 1; memory = m; lookahead = a; count = k + 1; start = z }
     ≡ headOf (read header bs)
-front-is bs p q s m a k z ep eq es em ea ek ez =
-    let e₀ = read-at header bs 0 (lit< tt) in
-    let e₁ = read-at header bs 1 (lit< tt) in
-    let e₂ = read-at header bs 2 (lit< tt) in
-    let e₃ = read-at header bs 3 (lit< tt) in
-    let e₄ = read-at header bs 4 (lit< tt) in
-    let e₅ = read-at header bs 5 (lit< tt) in
-    let e₆ = read-at header bs 6 (lit< tt) in
-    cc
+front-is bs p q s m a k z e = ap headOf (fields-are bs 0 header (p ∷ q ∷ s ∷ m ∷ a ∷ k ∷ z ∷ []) e)
 
 -- the e-th of k fields of w bits, d bits apart
 pub place-le : (o k d w l e : ℕ) → e < k → o + k * d + w ≤ l + d → o + e * d + w ≤ l

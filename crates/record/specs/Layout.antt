@@ -7,7 +7,7 @@ use mathlib.Core.List.{List, [], _∷_, _++_}
 use Prim.Native.Nat.{ℕ, zero, suc, _+_, _*_, _-_, _/_, _^_}
 use lib.Dec.{eqb}
 use lib.ListN.{length, getD, drop, replicate}
-use Rattle.laws.specs.Lists.{if_then_else_, repeat}
+use Rattle.laws.specs.Lists.{if_then_else_, sum, repeat}
 use Rattle.bits.specs.Fields.{write, read}
 use Rattle.constraint.specs.Walking.{Constraint, none}
 use Rattle.table.specs.Rows.{Edge, edge, Rows, Code}
@@ -37,11 +37,11 @@ frontValues h =
 
 -- how many fields are in front
 abbrev pub headerFields : ℕ
-headerFields = 7
+headerFields = length header
 
 -- how many bits they have
 abbrev pub headerBits : ℕ
-headerBits = 30
+headerBits = sum header
 
 -- the bits of a constraint state: twice "present 1, next state 4"
 abbrev pub stateSize : ℕ

@@ -58,10 +58,22 @@ cast-start c = search needs
 returns : tie.Need-returns
 returns c =
     let b = c .before .before .before .before .before .before in
-    front-is (bitsOf (now (b .before .before .args .bytes))) _ _ _ _ _ _ _ (b .get .ensures)
-    (c .before .before .before .before .before .get2 .ensures) (c .before .before .before .before .get3 .ensures)
-    (c .before .before .before .get4 .ensures) (c .before .before .get5 .ensures) (c .before .get6 .ensures)
-    (c .get7 .ensures)
+    front-is (bitsOf (now (b .before .before .args .bytes))) _ _ _ _ _ _ _ (
+      b .get .ensures,
+      (
+        c .before .before .before .before .before .get2 .ensures,
+        (
+          c .before .before .before .before .get3 .ensures,
+          (
+            c .before .before .before .get4 .ensures,
+            (
+              c .before .before .get5 .ensures,
+              (c .before .get6 .ensures, (c .get7 .ensures, tt)),
+            ),
+          ),
+        ),
+      ),
+    )
 
 pub front-of-spec : {M : Type 1} → statement M
 front-of-spec =

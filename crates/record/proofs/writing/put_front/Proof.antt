@@ -1,6 +1,6 @@
 -- `put_front` meets its contract: the seven fields stand one behind the other.
 -- Assumes nothing.
-use mathlib.Core.Path.{_∙_}
+use mathlib.Core.Path.{refl, _∙_}
 use native.Mathlib.Omega.{arith}
 use borrow.Author.Needs.{needs}
 use denote.Ref.{now}
@@ -50,11 +50,33 @@ returns c =
     let p2 = p3 .before .before .before .before .before in
     let p1 = p2 .before .before .before .before in
     let a = p1 .before .before .before in (
-      front-spliced (a .args .f) _ _ (bitsOf (now (a .args .out))) _ _ _ _ _ _ _
+      front-spliced (a .args .f) _ _ (bitsOf (now (a .args .out))) _
           (omega (arith, length-bitsOf (now (a .args .out)), a .pre)) (p3 .before .less-one .ensures)
-          (p6 .before .less-one2 .ensures)
-          (p1 .put-low .ensures .0) (p2 .put-low2 .ensures .0) (p3 .put-low3 .ensures .0) (p4 .put-low4 .ensures .0)
-          (p5 .put-low5 .ensures .0) (p6 .put-low6 .ensures .0) (p7 .put-low7 .ensures .0),
+          (p6 .before .less-one2 .ensures) (
+            _,
+            p1 .put-low .ensures .0,
+            (
+              _,
+              p2 .put-low2 .ensures .0,
+              (
+                _,
+                p3 .put-low3 .ensures .0,
+                (
+                  _,
+                  p4 .put-low4 .ensures .0,
+                  (
+                    _,
+                    p5 .put-low5 .ensures .0,
+                    (
+                      _,
+                      p6 .put-low6 .ensures .0,
+                      (_, p7 .put-low7 .ensures .0, refl),
+                    ),
+                  ),
+                ),
+              ),
+            ),
+          ),
       p7 .put-low7 .ensures .1 ∙ p6 .put-low6 .ensures .1 ∙ p5 .put-low5 .ensures .1 ∙ p4 .put-low4 .ensures .1
           ∙ p3 .put-low3 .ensures .1 ∙ p2 .put-low2 .ensures .1 ∙ p1 .put-low .ensures .1,
     )
