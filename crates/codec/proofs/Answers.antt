@@ -1,5 +1,5 @@
 -- Demand 2, second half, of the outcomes of encoding and decoding under a code: round trip, and recordings recognised.
--- In order: words-below; →encoded, encoded→, →decoded, decoded→; returns; recognised-answers.
+-- In order: words-below; →encoded, encoded→, →decoded; returns; recognised-answers.
 -- Assumes nothing.
 use mathlib.Core.Path.{_≡_, sym, ap, subst, _∙_}
 use mathlib.Core.Logic.{_↔_}
@@ -7,10 +7,8 @@ use mathlib.Core.List.{List, _++_}
 use Prim.Native.Nat.{ℕ, _+_, _-_, _^_, _≤_}
 use native.Mathlib.Omega.{arith}
 use lib.Dec.{leb, le→leb, leb→le}
-use lib.Pow.{pow-pos}
 use lib.ListN.{length}
 use Rattle.laws.specs.Sums.{Below}
-use Rattle.laws.proofs.Lists.{below-append, below-zeros}
 use Rattle.answer.specs.declared.Refusal.the-variants.{TooFewWords, ShortOutput}
 use Rattle.answer.specs.Outcomes.{done, unless}
 use Rattle.answer.specs.FirstBad.{allBelow}
@@ -27,6 +25,7 @@ use Rattle.checker.proofs.Acceptance.{sound}
 use Rattle.reading.specs.Reading.{decode}
 use Rattle.codec.specs.Answers.{encoded, decoded}
 use Rattle.codec.specs.Damage.{Recording}
+use Rattle.codec.proofs.Damage.{closed-blocks}
 use Rattle.codec.proofs.RoundTrip.{decode-recording}
 
 -- ---- when encoding and decoding are done
@@ -60,17 +59,6 @@ module _ (c : Code) where
       (le→leb (length ws - c .window .lookahead) room h)
       ∙ allBelow-true (2 ^ c .q) ws (decode c ws) b
 
-  pub decoded→ : (room : ℕ) (ws xs : List ℕ) → decoded c room ws ≡ done xs
-      → (c .window .lookahead ≤ length ws) × Below (2 ^ c .q) ws × (decode c ws ≡ xs)
-  unfolding decoded
-  decoded→ room ws xs e =
-      let last = allBelow (2 ^ c .q) ws (decode c ws) in
-      let (t, q) = unless→ TooFewWords (leb (c .window .lookahead) (length ws))
-      (unless ShortOutput (leb (length ws - c .window .lookahead) room) last) xs e in
-      let (t′, q′) = unless→ ShortOutput (leb (length ws - c .window .lookahead) room) last xs q in
-      let (b, r) = allBelow→ (2 ^ c .q) ws (decode c ws) xs q′ in
-      (leb→le (c .window .lookahead) (length ws) t, b, r)
-
 -- ---- under an accepted table
 module _ (c : Code) (f : Formed c) (w : Window (c .table) (c .window)) where
   -- the words of a recording have q bits
@@ -79,9 +67,7 @@ module _ (c : Code) (f : Formed c) (w : Window (c .table) (c .window)) where
       let g : Sound c = sound c f w in
       let D = ds ++ closing c in
       path-words (c .table) (2 ^ c .q) (words (c .p) (c .q) (length (c .table)) (c .table) (f .rows)) D 0
-      (blocks→path (c .table) (2 ^ c .p) (g .closed) (g .full) D 0 (g .some)
-      (below-append (2 ^ c .p) ds (closing c) b
-      (below-zeros (2 ^ c .p) (c .window .lookahead) (pow-pos (c .p)))))
+      (blocks→path (c .table) (2 ^ c .p) (g .closed) (g .full) D 0 (g .some) (closed-blocks c ds b))
 
   -- decoding a recording returns its data
   pub returns : (room room′ : ℕ) (ds R : List ℕ) → length ds ≤ room′ → encoded c room ds ≡ done R

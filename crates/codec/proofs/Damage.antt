@@ -1,5 +1,5 @@
 -- A block that stands clear is read as it was recorded, whatever the rest of the list holds.
--- In order: same-reading, cut-before, cut-at, cut-ahead, recovered.
+-- In order: same-reading, cut-before, cut-at, cut-ahead, closed-blocks, recovered.
 -- Assumes nothing.
 use mathlib.Core.Path.{_≡_, refl, sym, ap, subst, _∙_}
 use mathlib.Core.Logic.{inl, inr, _⊎_}
@@ -10,14 +10,14 @@ use native.Mathlib.Nat.{le-refl, sub-self}
 use native.Mathlib.Omega.{arith}
 use lib.Dec.{T}
 use borrow.Author.Tests.{lt-ltb, le-ltb}
-use lib.ListN.{length, getD, take, drop, replicate, length-drop, List·getD-append}
+use lib.ListN.{length, getD, take, drop, length-drop, List·getD-append}
 use lib.Seq.{length-take-le, take-take, drop-drop, getD-take, getD-drop}
 use lib.Pow.{pow-pos}
 use Rattle.laws.specs.Lists.{if_then_else_}
 use Rattle.laws.proofs.Tests.{map-range-at, tab→, →tab}
 use Rattle.table.specs.Rows.{Rows, edges, at, Code}
 use Rattle.laws.specs.Sums.{Below}
-use Rattle.table.specs.Paths.{spells, recording, ends, Closed, closing}
+use Rattle.table.specs.Paths.{Blocks, spells, recording, ends, Closed, closing}
 use Rattle.stepping.specs.StateSets.{alongAll, oneState, everyState}
 use Rattle.reading.specs.Reading.{decode, block, reading}
 use Rattle.laws.specs.Sets.{member}
@@ -49,12 +49,16 @@ module _ (L : List ℕ) (n k a : ℕ) where
   pub cut-ahead : drop (suc k) (take (suc k + a) (drop n L)) ≡ take a (drop (n + suc k) L)
   cut-ahead = drop-take (suc k) a (drop n L) ∙ ap (take a) (drop-drop (suc k) n L)
 
+-- blocks with the closing blocks behind them are blocks
+pub closed-blocks : (c : Code) (ds : List ℕ) → Blocks c ds → Blocks c (ds ++ closing c)
+closed-blocks c ds b =
+    below-append (2 ^ c .p) ds (closing c) b (below-zeros (2 ^ c .p) (c .window .lookahead) (pow-pos (c .p)))
+
 module _ (c : Code) (good : Sound c) (data′ L : List ℕ) (fit : Below (2 ^ c .p) data′) where
   recorded : Reads (c .table) 0 (data′ ++ closing c) (recording c data′)
   recorded = run-reads (c .table) (2 ^ c .p) (good .closed) (good .full)
       (data′ ++ closing c) 0 (good .some)
-      (below-append (2 ^ c .p) data′ (closing c) fit
-      (below-zeros (2 ^ c .p) (c .window .lookahead) (pow-pos (c .p))))
+      (closed-blocks c data′ fit)
 
   -- k words before block i, and the reading of a stretch of L that equals the recording's from there on
   piece : (S : List Bool) (k i n : ℕ) → k ≤ i → i < length data′ → n + k + c .window .lookahead < length L
@@ -69,7 +73,7 @@ module _ (c : Code) (good : Sound c) (data′ L : List ℕ) (fit : Below (2 ^ c 
       (take (c .window .lookahead) (drop (n + suc k) L)) ≡ getD data′ i 0
   piece S k i n ki hi hn sn si agree e =
       let a = c .window .lookahead in
-      let D = data′ ++ replicate a 0 in
+      let D = data′ ++ closing c in
       let g = c .table in
       let s = ends g 0 (take (i - k) D) in
       let W = take (suc k + a) (drop n L) in
@@ -82,7 +86,7 @@ module _ (c : Code) (good : Sound c) (data′ L : List ℕ) (fit : Below (2 ^ c 
       (sym (cut-ahead L n k a))
       ∙ at-place g (good .closed) S (take (suc k + a) (drop (i - k) D)) W k s sn si r (omega arith)
       (subst (λ b. (t : ℕ) → T (member S t) → AgreeSame g k b t s) (omega arith) agree)
-      ∙ cut-at D (i - k) k a ∙ ap (λ x. getD D x 0) (omega arith) ∙ List·getD-append data′ (replicate a 0) 0 i hi
+      ∙ cut-at D (i - k) k a ∙ ap (λ x. getD D x 0) (omega arith) ∙ List·getD-append data′ (closing c) 0 i hi
 
   later : (i j : ℕ) → i < length data′ → j + c .window .lookahead < length L → c .window .memory ≤ i
       → c .window .memory ≤ j
@@ -93,7 +97,7 @@ module _ (c : Code) (good : Sound c) (data′ L : List ℕ) (fit : Below (2 ^ c 
       let m = c .window .memory in
       let a = c .window .lookahead in
       let g = c .table in
-      let D = data′ ++ replicate a 0 in
+      let D = data′ ++ closing c in
       let s = ends g 0 (take (i - m) D) in
       let sN : s < length g =
       reads-end g (good .closed) (take (i - m) D) _ 0 (good .some)
@@ -114,7 +118,7 @@ module _ (c : Code) (good : Sound c) (data′ L : List ℕ) (fit : Below (2 ^ c 
   early i hi hj mi e =
       let a = c .window .lookahead in
       let g = c .table in
-      let D = data′ ++ replicate a 0 in
+      let D = data′ ++ closing c in
       let q₁ : i ≡ 0 + i = omega arith in
       let q₂ : i + 1 ≡ 0 + suc i = omega arith in
       same-reading g _ _ _ _ _ _

@@ -3,10 +3,11 @@ ghost use mathlib.Core.Path.{_≡_};
 ghost use mathlib.Core.List.{_++_};
 ghost use Prim.Native.Nat.{_+_, _-_, _≤_, _<_};
 ghost use lib.Dec.{ltb};
-ghost use lib.ListN.{length, take, drop, replicate};
+ghost use lib.ListN.{length, take, drop};
 ghost use Rattle.laws.specs.Sums.{Below};
 ghost use Rattle.answer.specs.Outcomes.{answerOf, outputOf};
-ghost use Rattle.table.specs.Paths.{ends, spells};
+ghost use Rattle.table.specs.Rows.{Code};
+ghost use Rattle.table.specs.Paths.{ends, spells, closing};
 ghost use Rattle.table.specs.Edges.{borrowed, rowsOf, Fits};
 ghost use Rattle.codec.specs.Answers.{encodeUnder, encodeChecked};
 ghost use Rattle.codec.specs.With.{encodedWith};
@@ -51,7 +52,7 @@ fn write_blocks(
     s
 }
 
-// The words of data 0 from a state, from place `at` of the output to `end`.
+// The words of the closing blocks from a state, from place `at` of the output to `end`.
 fn write_closing(
     states: usize,
     n: usize,
@@ -66,10 +67,10 @@ fn write_closing(
         Fits (borrowed states n word next) × (0 < n) × (state < states) × (at ≤ end)
         × (end ≤ length (now out)) ⌝ }
     ensures written { λ r. ⌜
-        now (out .exit)
+        ((c : Code) → c .window .lookahead ≡ end - at → now (out .exit)
         ≡ (take at (now (out .entry))
-        ++ spells (rowsOf (borrowed states n (word .entry) (next .entry))) state (replicate (end - at) 0))
-        ++ drop end (now (out .entry)) ⌝ }
+        ++ spells (rowsOf (borrowed states n (word .entry) (next .entry))) state (closing c))
+        ++ drop end (now (out .entry))) ⌝ }
 {
     let mut s = state;
     let mut i = at;

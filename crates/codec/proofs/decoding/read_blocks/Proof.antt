@@ -9,7 +9,7 @@ use Rattle.laws.specs.Lists.{range}
 use Rattle.table.specs.Edges.{arrays, rowsOf}
 use Rattle.reading.specs.Reading.{block}
 use Rattle.reading.specs.BlockParts.{under}
-use Rattle.codec.proofs.Writing.{map-more}
+use Rattle.laws.proofs.Arrays.{map-more}
 use borrow.Author.Needs.{needs}
 use Rattle.codec.proofs.decoding.read_blocks.Statement.{statement}
 use Rattle.codec.proofs.decoding.read_blocks.Tie as tie

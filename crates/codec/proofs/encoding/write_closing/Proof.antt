@@ -1,14 +1,14 @@
 -- Each turn writes the word of datum 0 and steps to its next state.
-use mathlib.Core.Path.{_≡_}
+use mathlib.Core.Path.{_≡_, sym}
 use mathlib.Core.List.{List}
 use Prim.Native.Nat.{ℕ, _+_, _-_, _*_, _≤_, _<_}
 use native.Mathlib.Omega.{arith}
 use denote.Ref.{now}
-use lib.ListN.{length, getD, take, replicate, length-replicate, getD-replicate}
+use lib.ListN.{length, getD, take, replicate, length-replicate, getD-replicate, take-append-drop}
 use lib.Seq.{length-take-le}
 use Rattle.table.specs.Edges.{Arrays, arrays, nextOf}
 use Rattle.table.proofs.RowsOf.{place-next}
-use Rattle.codec.proofs.Writing.{Writes, writes-start, writes-more, writes-end, split-front}
+use Rattle.codec.proofs.Writing.{Writes, writes-start, writes-more, writes-end}
 use borrow.Author.Needs.{needs}
 use Rattle.codec.proofs.encoding.write_closing.Statement.{statement}
 use Rattle.codec.proofs.encoding.write_closing.Tie as tie
@@ -54,7 +54,7 @@ loop-holds c =
       c .pre .3,
       c .pre .4,
       rw z (writes-start (table c) (front c) (a .state) (zeros c) (now (a .out)) (a .at)
-          (length-take-le (a .at) (now (a .out)) (omega arith)) (c .pre .2) (split-front (a .at) (now (a .out)))),
+          (length-take-le (a .at) (now (a .out)) (omega arith)) (c .pre .2) (sym (take-append-drop (a .at) (now (a .out))))),
     )
 
 mul-first : tie.Need-mul-first Inv-loop μ-loop
@@ -106,9 +106,8 @@ returns c =
     let s = c .before .before in
     let a = s .args in
     let l = c .before .loop in
-    writes-end (table s) (front s) (a .state) (zeros s) (now (a .out)) (l .i - a .at) (l .i) (l .s) (l .out)
-    (l .inv .3)
-    (a .end) (omega arith) (rw (length-replicate {A = ℕ} (a .end - a .at) 0) (omega arith)) .1
+    λ d e. rw e (writes-end (table s) (front s) (a .state) (zeros s) (now (a .out)) (l .i - a .at) (l .i) (l .s)
+    (l .out) (l .inv .3) (a .end) (omega arith) (rw (length-replicate {A = ℕ} (a .end - a .at) 0) (omega arith)) .1)
 
 pub write-closing-spec : {M : Type 1} → statement M
 write-closing-spec =
