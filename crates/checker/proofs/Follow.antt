@@ -1,5 +1,5 @@
 -- What the two checks of a table need, and what loading and checking come to after each of them.
--- In order: followable, near; judged-disobeys, judged-fails, judged-good; fields-read, parse-read, parse-bad;
+-- In order: followable, near; judged-disobeys, judged-fails, judged-good; parse-read, parse-bad;
 -- check-bad, check-read.
 -- Assumes nothing.
 use mathlib.Core.Path.{_≡_, sym, _∙_, ap}
@@ -13,7 +13,7 @@ use Rattle.answer.specs.declared.Refusal.the-variants.{Disobeys, WindowFails}
 use Rattle.answer.specs.declared.Answer.the-variants.{Done, Refused}
 use Rattle.answer.specs.declared.Verdict.the-variants.{Good, Bad}
 use Rattle.answer.specs.Outcomes.{done, unless, refused, onward, verdictOn, answerOf}
-use Rattle.answer.proofs.Outcomes.{unless-false}
+use Rattle.answer.proofs.Outcomes.{unless-false, said-good, said-bad}
 use Rattle.table.specs.declared.Table.{Table}
 use Rattle.table.specs.Rows.{Code}
 use Rattle.table.specs.Value.{codeIn, ready}
@@ -48,20 +48,17 @@ judged-good c e f =
     ∙ ap (λ b. unless WindowFails b (done c)) f
 
 -- ---- a reading goes on to the two checks
-pub fields-read : (xs : List ℕ) (r : TableAnswer) → outcomeIn r ≡ fieldsChecked xs → r .verdict ≡ Good
-    → fieldsChecked xs ≡ done (codeIn (r .table))
-fields-read xs r e q = sym e ∙ ap (λ v. verdictOn v (codeIn (r .table))) q
-
 pub parse-read : (xs : List ℕ) (r : TableAnswer) → outcomeIn r ≡ fieldsChecked xs → r .verdict ≡ Good
     → parse xs ≡ judged (codeIn (r .table))
 unfolding parse
-parse-read xs r e q = ap (λ o. onward o judged) (fields-read xs r e q)
+parse-read xs r e q =
+    ap (λ o. onward o judged) (said-good (r .verdict) (codeIn (r .table)) (fieldsChecked xs) e q)
 
 pub parse-bad : (xs : List ℕ) (r : TableAnswer) (x : Refusal) → outcomeIn r ≡ fieldsChecked xs → r .verdict ≡ Bad x
     → parse xs ≡ refused x
 unfolding parse
 parse-bad xs r x e q =
-    ap (λ o. onward o judged) (sym e ∙ ap (λ v. verdictOn v (codeIn (r .table))) q)
+    ap (λ o. onward o judged) (said-bad (r .verdict) (codeIn (r .table)) (fieldsChecked xs) e x q)
 
 -- ---- the checker's answer
 pub check-bad : (xs : List ℕ) (r : TableAnswer) (x : Refusal) → outcomeIn r ≡ parse xs → r .verdict ≡ Bad x

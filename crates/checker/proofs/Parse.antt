@@ -1,6 +1,6 @@
 -- A code with its fields in range, written as a record and parsed again, is judged as it stands; and what bytes that
 -- are accepted hold.
--- In order: parse-pack, parse-pack-good; Checked, parse-good.
+-- In order: parse-pack, parse-pack-good; parse-formed; Checked, parse-good.
 -- Assumes nothing.
 use mathlib.Core.Path.{_≡_, ap, subst, _∙_}
 use mathlib.Core.List.{List}
@@ -17,7 +17,7 @@ use Rattle.table.specs.Formed.{formed}
 use Rattle.record.specs.Layout.{pack}
 use Rattle.record.specs.Checks.{fieldsChecked}
 use Rattle.record.proofs.RecordWrite.{fields-pack}
-use Rattle.record.proofs.RecordRead.{fields-good}
+use Rattle.record.proofs.RecordRead.{fields-formed, fields-good}
 use Rattle.checker.specs.Parse.{judged, parse}
 
 -- a code with its fields in range, packed and parsed, is judged as it stands
@@ -32,6 +32,20 @@ parse-pack-good c t u v =
     parse-pack c t ∙ unless-true Disobeys (obeys c) (unless WindowFails (works (c .table) (c .window)) (done c)) u
     ∙ unless-true WindowFails (works (c .table) (c .window)) (done c) v
 
+judged→ : (d c : Code) → judged d ≡ done c → T (obeys d) × T (works (d .table) (d .window)) × (d ≡ c)
+judged→ d c e =
+    let (o, e₁) = unless→ Disobeys (obeys d) (unless WindowFails (works (d .table) (d .window)) (done d)) c e in
+    let (w, e₂) = unless→ WindowFails (works (d .table) (d .window)) (done d) c e₁ in
+    (o, w, done-inj d c e₂)
+
+-- what parse accepts has its fields in range
+pub parse-formed : (xs : List ℕ) (c : Code) → parse xs ≡ done c → T (formed c)
+unfolding parse
+parse-formed xs c e =
+    let (d, e₀, e₁) = onward→ (fieldsChecked xs) judged c e in
+    let (_, _, q) = judged→ d c e₁ in
+    subst (λ d. T (formed d)) q (fields-formed xs d e₀)
+
 module _ (xs : List ℕ) (bytes : Below 256 xs) where
   pub record Checked (c : Code) : Type 0 where
     pub formed : T (formed c)
@@ -44,10 +58,9 @@ module _ (xs : List ℕ) (bytes : Below 256 xs) where
   unfolding parse
   parse-good c e =
       let (d, e₀, e₁) = onward→ (fieldsChecked xs) judged c e in
-      let (o, e₂) = unless→ Disobeys (obeys d) (unless WindowFails (works (d .table) (d .window)) (done d)) c e₁ in
-      let (w, e₃) = unless→ WindowFails (works (d .table) (d .window)) (done d) c e₂ in
+      let (o, w, q) = judged→ d c e₁ in
       let g = fields-good xs bytes d e₀ in
-      subst Checked (done-inj d c e₃) (record {
+      subst Checked q (record {
         formed = g .formed;
         obeys = o;
         works = w;

@@ -20,6 +20,7 @@ use Rattle.windows.specs.Works.{works}
 use Rattle.obeying.specs.Obeys.{obeys}
 use Rattle.record.specs.Checks.{fieldsChecked}
 use Rattle.checker.specs.Parse.{judged, parse, checkedOnly}
+use Rattle.checker.proofs.Parse.{parse-formed}
 use Rattle.reading.specs.Reading.{decode}
 use Rattle.codec.specs.Answers.{encoded, decoded, encodeUnder, decodeUnder, encodeChecked, decodeChecked}
 use Rattle.codec.specs.With.{encodedWith, decodedWith}
@@ -50,15 +51,16 @@ module _ (xs : List ℕ) where
   )
 
   -- a table by value whose code the record holds answers as the record does
-  pub loaded : (t : Table) → T (ready t) → parse xs ≡ done (codeIn t) → (room : ℕ) (ys : List ℕ)
+  pub loaded : (t : Table) → parse xs ≡ done (codeIn t) → (room : ℕ) (ys : List ℕ)
       → (encodedWith t room ys ≡ encodeUnder xs room ys) × (decodedWith t room ys ≡ decodeUnder xs room ys)
-  unfolding encodedWith decodedWith encodeUnder decodeUnder
-  loaded t k p room ys = (
-    unless-true Field (ready t) (encoded (codeIn t) room ys) k
-        ∙ sym (ap (λ o. onward o (λ c. encoded c room ys)) p),
-    unless-true Field (ready t) (decoded (codeIn t) room ys) k
-        ∙ sym (ap (λ o. onward o (λ c. decoded c room ys)) p),
-  )
+  unfolding ready encodedWith decodedWith encodeUnder decodeUnder
+  loaded t p room ys =
+      let k : T (ready t) = parse-formed xs (codeIn t) p in (
+        unless-true Field (ready t) (encoded (codeIn t) room ys) k
+            ∙ sym (ap (λ o. onward o (λ c. encoded c room ys)) p),
+        unless-true Field (ready t) (decoded (codeIn t) room ys) k
+            ∙ sym (ap (λ o. onward o (λ c. decoded c room ys)) p),
+      )
 
   -- the code of an accepted record is the one that its fields name
   fields-too : (c : Code) → parse xs ≡ done c → fieldsChecked xs ≡ parse xs

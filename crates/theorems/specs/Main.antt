@@ -19,7 +19,7 @@ use Rattle.answer.specs.Outcomes.{done, refused}
 use Rattle.table.specs.declared.Table.{Table}
 use Rattle.table.specs.Rows.{Size, Code}
 use Rattle.table.specs.Paths.{Blocks, recording}
-use Rattle.table.specs.Value.{codeIn, ready}
+use Rattle.table.specs.Value.{codeIn}
 use Rattle.table.specs.Formed.{formed, Formed}
 use Rattle.windows.specs.Window.{Window, NoLater}
 use Rattle.obeying.specs.Obeys.{Obeys, Breaks}
@@ -197,8 +197,8 @@ pub different-data : (rec : List ℕ) → Below 256 rec → (room room′ : ℕ)
     → encodeUnder rec room ds ≡ done R → encodeUnder rec room′ es ≡ done R → ds ≡ es
 different-data = Rattle.codec.proofs.Promises.different-data
 
--- A table by value that is ready and whose code the record holds encodes and decodes as the record does.
-pub loaded : (rec : List ℕ) (t : Table) → T (ready t) → parse rec ≡ done (codeIn t) → (room : ℕ) (ys : List ℕ)
+-- A table by value whose code the record holds encodes and decodes as the record does.
+pub loaded : (rec : List ℕ) (t : Table) → parse rec ≡ done (codeIn t) → (room : ℕ) (ys : List ℕ)
     → (encodedWith t room ys ≡ encodeUnder rec room ys) × (decodedWith t room ys ≡ decodeUnder rec room ys)
 loaded = Rattle.codec.proofs.Done.loaded
 
