@@ -3,8 +3,9 @@ ghost use mathlib.Core.Path.{_≡_};
 ghost use lib.Dec.{T};
 ghost use Rattle.answer.specs.Outcomes.{answerOf};
 ghost use Rattle.table.specs.Value.{codeIn, ready};
-ghost use Rattle.answer.specs.declared.Verdict.the-variants.{Good};
-ghost use Rattle.record.specs.Checks.{outcomeIn};
+ghost use Rattle.answer.specs.declared.Refusal.{Refusal};
+ghost use Rattle.answer.specs.declared.Verdict.the-variants.{Good, Bad};
+ghost use Rattle.record.specs.Checks.{outcomeIn, noTable};
 ghost use Rattle.checker.specs.Parse.{judged, parse, checkedOnly};
 use answer::Answer;
 use answer::Refusal;
@@ -19,6 +20,7 @@ fn judge(t: Table) -> TableAnswer
     requires { ⌜ T (ready t) ⌝ }
     ensures answer { λ r. ⌜ outcomeIn r ≡ judged (codeIn t) ⌝ }
     ensures kept { λ r. ⌜ (r .verdict ≡ Good → T (ready (r .table))) ⌝ }
+    ensures empty { λ r. ⌜ ((x : Refusal) → r .verdict ≡ Bad x → r .table ≡ noTable) ⌝ }
 {
     if !obeying::obeys(t) {
         return declined(Refusal::Disobeys);
@@ -36,6 +38,7 @@ fn judge(t: Table) -> TableAnswer
 pub fn load(bytes: &[u8]) -> TableAnswer
     ensures answer { λ r. ⌜ outcomeIn r ≡ parse (now (bytes .entry)) ⌝ }
     ensures kept { λ r. ⌜ (r .verdict ≡ Good → T (ready (r .table))) ⌝ }
+    ensures empty { λ r. ⌜ ((x : Refusal) → r .verdict ≡ Bad x → r .table ≡ noTable) ⌝ }
 {
     let r = read(bytes);
     let v = r.verdict;

@@ -1,5 +1,5 @@
 -- A record read check by check: the header's numbers are in range, and what each check comes to.
--- In order: below-bytes, ranges-of, ranges-in; checked-short, checked-front, checked-length, checked-rest,
+-- In order: below-bytes, ranges-of, ranges-in; good-not; checked-short, checked-front, checked-length, checked-rest,
 -- checked-good.
 -- Assumes nothing.
 use mathlib.Core.Path.{_≡_, refl, sym, ap, subst, _∙_}
@@ -13,8 +13,10 @@ use Rattle.laws.specs.Lists.{sum}
 use Rattle.laws.specs.Sums.{Below}
 use Rattle.laws.proofs.Lists.{below-drop}
 use Rattle.laws.proofs.Tests.{and→}
+use Rattle.laws.proofs.Totals.{never}
 use Rattle.answer.specs.declared.Refusal.{Refusal}
 use Rattle.answer.specs.declared.Refusal.the-variants.{Field, Length}
+use Rattle.answer.specs.declared.Verdict.the-variants.{Good, Bad}
 use Rattle.answer.specs.Outcomes.{Outcome, done, refused, unless}
 use Rattle.answer.proofs.Outcomes.{unless-false}
 use Rattle.bits.specs.Fields.{read, bitsOf}
@@ -69,6 +71,10 @@ ranges-in xs h e g =
 
 unless-yes : {A : Type 0} (r : Refusal) (b : Bool) (x : Outcome A) → b ≡ true → unless r b x ≡ x
 unless-yes r b x e = ap (λ c. unless r c x) e
+
+-- a good verdict is no refusal
+pub good-not : {A : Type 0} (x : Refusal) → Good ≡ Bad x → A
+good-not x e = never (cc)
 
 -- ---- the outcome at each return of the code
 module _ (xs : List ℕ) where

@@ -1,12 +1,12 @@
 -- A record's fields read and checked, before the two checks of the table: "8 below four bytes, header by 7, 8, the
 -- rest by 7"; and what values of the code's structs stand for.
--- In order: codeAt, restGood, fieldsGood, fieldsChecked; outcomeIn; packWith.
+-- In order: codeAt, restGood, fieldsGood, fieldsChecked; outcomeIn, noTable; packWith.
 -- Assumes nothing.
 use mathlib.Core.Bool.{Bool}
 use mathlib.Core.List.{List}
 use Prim.Native.Nat.{ℕ}
 use lib.Dec.{leb, eqb}
-use lib.ListN.{length}
+use lib.ListN.{length, replicate}
 use Rattle.answer.specs.declared.Refusal.the-variants.{Field, Length}
 use Rattle.answer.specs.Outcomes.{Outcome, done, unless, verdictOn}
 use Rattle.bits.specs.Fields.{read, bitsOf}
@@ -41,6 +41,20 @@ fieldsChecked xs =
 -- what an answer with a table comes to
 abbrev pub outcomeIn : TableAnswer → Outcome Code
 outcomeIn r = verdictOn (r .verdict) (codeIn (r .table))
+
+-- the table that stands beside a refusal: every number in it is 0
+unfoldable pub noTable : Table
+noTable = record {
+  p = 0;
+  q = 0;
+  states = 0;
+  memory = 0;
+  lookahead = 0;
+  constraint = record { states = 0; zero = replicate 16 0; one = replicate 16 0 };
+  start = 0;
+  word = replicate 2048 0;
+  next = replicate 2048 0;
+}
 
 -- the record of a table by value in lent bytes, with 7 for a value of the struct whose fields are not in range
 unfoldable pub packWith : Table → ℕ → Outcome (List ℕ)

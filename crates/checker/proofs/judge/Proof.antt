@@ -5,6 +5,7 @@ use borrow.Author.Tests.{not-true, not-false}
 use borrow.Author.Needs.{needs}
 use Rattle.table.specs.Value.{codeIn}
 use Rattle.table.proofs.ReadyTables.{ready→}
+use Rattle.record.proofs.RecordReading.{good-not}
 use Rattle.checker.proofs.Follow.{followable, near, judged-disobeys, judged-fails, judged-good}
 use Rattle.checker.proofs.judge.Statement.{statement}
 use Rattle.checker.proofs.judge.Tie as tie
@@ -21,7 +22,7 @@ returns c =
       c .declined .ensures .0
           ∙ sym (judged-disobeys (codeIn (o .before .args .t))
           (sym (o .obeys .ensures) ∙ not-true (o .obeys .result) (c .before .if1 .taken))),
-      λ e. absurd (c .declined .ensures .1 e),
+      (λ e. absurd (c .declined .ensures .1 .0 e), λ x e. c .declined .ensures .1 .1),
     )
 
 works-requires : tie.Need-works-requires
@@ -40,7 +41,7 @@ returns-2 c =
           ∙ sym (judged-fails (codeIn (o .before .args .t))
           (sym (o .obeys .ensures) ∙ not-false (o .obeys .result) (w .before .if1 .left))
           (sym (w .works .ensures) ∙ not-true (w .works .result) (c .before .if2 .taken))),
-      λ e. absurd (c .declined2 .ensures .1 e),
+      (λ e. absurd (c .declined2 .ensures .1 .0 e), λ x e. c .declined2 .ensures .1 .1),
     )
 
 returns-3 : tie.Need-returns-3
@@ -50,7 +51,7 @@ returns-3 c =
       sym (judged-good (codeIn (o .before .args .t))
           (sym (o .obeys .ensures) ∙ not-false (o .obeys .result) (w .before .if1 .left))
           (sym (w .works .ensures) ∙ not-false (w .works .result) (c .if2 .left))),
-      λ e. o .before .pre,
+      (λ e. o .before .pre, good-not),
     )
 
 pub judge-spec : {M : Type 1} → statement M

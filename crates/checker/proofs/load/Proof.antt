@@ -20,7 +20,7 @@ enum-told : tie.Need-enum-told
 enum-told c = search needs
 
 judge-requires : tie.Need-judge-requires
-judge-requires c κs = c .before .before .before .read .ensures .1 (c .enum-told .given .1)
+judge-requires c κs = c .before .before .before .read .ensures .1 .0 (c .enum-told .given .1)
 
 returns : tie.Need-returns
 returns c =
@@ -28,7 +28,7 @@ returns c =
     let r = v .before .before .before in
     let xs = now (r .before .before .args .bytes) in (
       c .declined .ensures .0 ∙ sym (parse-bad xs (r .read .result) _ (r .read .ensures .0) (v .v .given .1)),
-      λ e. absurd (c .declined .ensures .1 e),
+      (λ e. absurd (c .declined .ensures .1 .0 e), λ x e. c .declined .ensures .1 .1),
     )
 
 returns-2 : tie.Need-returns-2

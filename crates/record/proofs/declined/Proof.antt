@@ -1,13 +1,14 @@
--- `declined` meets its contract: the verdict is the refusal.
+-- `declined` meets its contract: the verdict is the refusal, and the table is the one that holds nothing.
 -- Assumes nothing.
-use mathlib.Core.Path.{_≡_, refl}
-use Prim.Native.Nat.{ℕ}
-use native.Mathlib.Omega.{arith}
+use mathlib.Core.Path.{refl}
+use Rattle.laws.proofs.Totals.{never}
+use Rattle.record.specs.Checks.{noTable}
 use Rattle.record.proofs.declined.Statement.{statement}
 use Rattle.record.proofs.declined.Tie as tie
 
 returns : tie.Need-returns
-returns c = (refl, λ e. let z : _≡_ {A = ℕ} 0 1 = cc in omega arith)
+unfolding noTable
+returns c = (refl, (λ e. never (cc), refl))
 
 pub declined-spec : {M : Type 1} → statement M
 declined-spec = tie.close (tie.spec returns)

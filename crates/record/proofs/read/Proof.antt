@@ -16,7 +16,7 @@ use Rattle.record.specs.Places.{Small}
 use Rattle.record.proofs.Sizes.{small-of}
 use Rattle.record.proofs.RecordRead.{read-ready}
 use Rattle.record.proofs.RecordReading.{below-bytes, ranges-in, checked-short, checked-front, checked-length}
-use Rattle.record.proofs.RecordReading.{checked-rest, checked-good}
+use Rattle.record.proofs.RecordReading.{checked-rest, checked-good, good-not}
 use Rattle.record.proofs.read.Statement.{statement}
 use Rattle.record.proofs.read.Tie as tie
 
@@ -49,8 +49,7 @@ returns : tie.Need-returns
 returns c =
     let xs = now (c .before .before .before .args .bytes) in (
       c .declined .ensures .0 ∙ sym (checked-short xs (lt-leb 4 (length xs) (c .before .if1 .taken))),
-      λ e. absurd
-          (c .declined .ensures .1 e),
+      (λ e. absurd (c .declined .ensures .1 .0 e), λ x e. c .declined .ensures .1 .1),
     )
 
 front-of-requires : tie.Need-front-of-requires
@@ -70,8 +69,7 @@ returns-2 c =
       c .declined2 .ensures .0 ∙ sym (checked-front xs (f .front-of .result) (f .front-of .ensures)
           (le-leb 4 (length xs) (f .before .if1 .left))
           (sym (g .good-front .ensures) ∙ not-true (g .good-front .result) (c .before .if2 .taken))),
-      λ e. absurd
-          (c .declined2 .ensures .1 e),
+      (λ e. absurd (c .declined2 .ensures .1 .0 e), λ x e. c .declined2 .ensures .1 .1),
     )
 
 size-of-requires : tie.Need-size-of-requires
@@ -88,7 +86,7 @@ returns-3 c =
       c .declined3 .ensures .0 ∙ sym (checked-length xs (f .front-of .result) (f .front-of .ensures)
           (le-leb 4 (length xs) (f .before .if1 .left)) (fronted (s .before))
           (ne-eqb _ _ (λ e. c .before .if3 .taken (e ∙ sym (s .size-of .ensures))))),
-      λ e. absurd (c .declined3 .ensures .1 e),
+      (λ e. absurd (c .declined3 .ensures .1 .0 e), λ x e. c .declined3 .ensures .1 .1),
     )
 
 good-rest-requires : tie.Need-good-rest-requires
@@ -106,7 +104,7 @@ returns-4 c =
       c .declined4 .ensures .0 ∙ sym (checked-rest xs (f .front-of .result) (f .front-of .ensures)
           (le-leb 4 (length xs) (f .before .if1 .left)) (fronted (s .before)) (eq-eqb _ _ (sized (g .before)))
           (sym (g .good-rest .ensures) ∙ not-true (g .good-rest .result) (c .before .if4 .taken))),
-      λ e. absurd (c .declined4 .ensures .1 e),
+      (λ e. absurd (c .declined4 .ensures .1 .0 e), λ x e. c .declined4 .ensures .1 .1),
     )
 
 table-of-requires : tie.Need-table-of-requires
@@ -122,7 +120,7 @@ returns-5 c =
     let good = sym (g .good-rest .ensures) ∙ not-false (g .good-rest .result) (c .before .if4 .left) in
     let same = ap done (c .table-of .ensures) ∙ sym (checked-good xs h (f .front-of .ensures)
     (le-leb 4 (length xs) (f .before .if1 .left)) (fronted (s .before)) (eq-eqb _ _ (sized (g .before))) good) in
-    (same, λ e. read-ready xs (c .table-of .result) same)
+    (same, (λ e. read-ready xs (c .table-of .result) same, good-not))
 
 pub read-spec : {M : Type 1} → statement M
 read-spec =

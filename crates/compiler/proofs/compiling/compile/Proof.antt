@@ -24,7 +24,7 @@ returns c =
     let f = c .before .before .before .component-of in
     let j = jobIn (c .before .before .before .before .before .args .j) in (
       c .declined .ensures .0 ∙ sym (compile-none j (sym (f .ensures .total) ∙ c .before .if1 .taken)),
-      λ e. absurd (c .declined .ensures .1 e),
+      λ e. absurd (c .declined .ensures .1 .0 e),
     )
 
 declined-requires-2 : tie.Need-declined-requires-2
@@ -37,7 +37,7 @@ returns-2 c =
       c .declined2 .ensures .0
           ∙ sym (compile-heavy j (omega (arith, f .ensures .total, c .before .before .before .if1 .left))
           (omega (arith, f .ensures .total, c .before .if2 .taken))),
-      λ e. absurd (c .declined2 .ensures .1 e),
+      λ e. absurd (c .declined2 .ensures .1 .0 e),
     )
 
 declined-requires-3 : tie.Need-declined-requires-3
@@ -51,7 +51,7 @@ returns-3 c =
           ∙ sym (compile-crowded j (omega (arith, f .ensures .total, c .before .before .before .before .if1 .left))
           (omega (arith, f .ensures .total, c .before .before .if2 .left))
           (crowded-stays (ways j) (componentOf j) (sym (f .ensures .crowds) ∙ c .before .if3 .taken))),
-      λ e. absurd (c .declined3 .ensures .1 e),
+      λ e. absurd (c .declined3 .ensures .1 .0 e),
     )
 
 split-and-window-requires : tie.Need-split-and-window-requires

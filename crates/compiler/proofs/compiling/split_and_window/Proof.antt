@@ -27,7 +27,7 @@ returns c =
           ∙ sym (compile-crowded (jobIn (a .j)) (b .pre .1 .some) (b .pre .1 .light)
           (begun-crowded (jobIn (a .j)) (b .pre .0 .allowed) (a .n) (a .g) (a .start) (b .pre .1) (s .result)
           (s .ensures) (c .before .if1 .taken))),
-      λ e. absurd (c .declined .ensures .1 e),
+      λ e. absurd (c .declined .ensures .1 .0 e),
     )
 
 finish-table-requires : tie.Need-finish-table-requires

@@ -25,7 +25,7 @@ returns c =
       c .declined .ensures .0
           ∙ sym (windowed-none (l .before .args .t) (l .least-window .result) (l .least-window .ensures) _
           (c .before .before .memory-of .ensures) (c .before .if1 .taken)),
-      λ e. absurd (c .declined .ensures .1 e),
+      λ e. absurd (c .declined .ensures .1 .0 e),
     )
 
 lookahead-of-requires : tie.Need-lookahead-of-requires
