@@ -11,12 +11,10 @@ use borrow.Author.Tests.{le-leb, lt-leb, leb-true, leb-false, lt-ltb, le-ltb, eq
 use lib.Dec.{leb, eqb}
 use lib.ListN.{length, getD}
 use Rattle.laws.specs.Lists.{if_then_else_}
+use Rattle.laws.proofs.Totals.{never}
 use Rattle.sets.specs.declared.Place.{Place}
 use Rattle.sets.specs.declared.Place.the-variants.{At, Nowhere}
 use Rattle.sets.specs.Offsets.{lengthAt, endAt, placeAt, offsetOf, recordPlace}
-
-never : {A : Type 0} → (_≡_ {A = ℕ} 0 1) → A
-never z = absurd (omega arith)
 
 -- a record whose bytes are all there
 pub place-whole : (s : List ℕ) (at : ℕ) → endAt s at ≤ length s → placeAt s at ≡ At (at + 2) (lengthAt s at)

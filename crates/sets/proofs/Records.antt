@@ -9,6 +9,7 @@ use native.Mathlib.Omega.{arith}
 use borrow.Author.Tests.{leb-true, leb-false}
 use lib.Dec.{leb}
 use lib.ListN.{length, getD, take, drop}
+use Rattle.laws.proofs.Totals.{never}
 use Rattle.answer.specs.declared.Refusal.the-variants.{Length}
 use Rattle.answer.specs.Outcomes.{Outcome, done}
 use Rattle.table.specs.Rows.{Code}
@@ -19,9 +20,6 @@ use Rattle.sets.specs.Offsets.{lengthAt, endAt, placeAt, offsetOf, recor
 use Rattle.sets.proofs.Sets.{next→}
 use Rattle.sets.proofs.Offsets.{place-whole, record-at}
 use Rattle.sets.proofs.Walks.{walk-cut, walk-whole}
-
-never : {A : Type 0} → (_≡_ {A = ℕ} 0 1) → A
-never z = absurd (omega arith)
 
 -- the bytes at a place hold the code c
 abbrev pub Holds : List ℕ → ℕ → ℕ → Code → Type 0

@@ -17,6 +17,7 @@ use Rattle.laws.specs.Lists.{if_then_else_, concat}
 use Rattle.table.specs.Rows.{Code}
 use Rattle.laws.specs.Sums.{Below}
 use Rattle.laws.proofs.Lists.{below-take, below-drop}
+use Rattle.laws.proofs.Totals.{never}
 use Rattle.record.specs.Layout.{pack}
 use Rattle.checker.specs.Parse.{parse}
 use Rattle.answer.specs.Outcomes.{Outcome, done, refused}
@@ -43,9 +44,6 @@ unfolding readSet writeSet
 set-back cs e = walked-framed cs 0 e
 
 -- ---- the other way round
-never : {A : Type 0} → (_≡_ {A = ℕ} 0 1) → A
-never z = absurd (omega arith)
-
 also→ : (c : Code) (w : Walk) (cs : List Code) → also c w ≡ codes cs
     → (ds : List Code) × (w ≡ codes ds) × (c ∷ ds ≡ cs)
 also→ c (codes ds) cs e = (ds, refl, (cc))

@@ -14,6 +14,7 @@ use lib.Dec.{leb}
 use lib.ListN.{length, getD, take, drop, length-drop, drop-of-length-le}
 use lib.Seq.{getD-drop, drop-drop, drop-cons}
 use Rattle.laws.specs.Lists.{if_then_else_}
+use Rattle.laws.proofs.Totals.{never}
 use Rattle.answer.specs.declared.Refusal.{Refusal}
 use Rattle.answer.specs.declared.Refusal.the-variants.{Length}
 use Rattle.answer.specs.declared.Answer.{Answer}
@@ -30,9 +31,6 @@ use Rattle.sets.specs.declared.Place.the-variants.{At}
 use Rattle.sets.specs.Offsets.{lengthAt, endAt, placeAt}
 use Rattle.sets.proofs.Offsets.{place→}
 use Rattle.sets.specs.Results.{setAnswer, stepOf, stepAt}
-
-never : {A : Type 0} → (_≡_ {A = ℕ} 0 1) → A
-never z = absurd (omega arith)
 
 -- the answer of a set whose first k records are good, by the walk of the others
 abbrev pub after : ℕ → Walk → SetAnswer
