@@ -7,7 +7,7 @@ use mathlib.Core.List.{List, []}
 use Prim.Native.Nat.{ℕ}
 use lib.Dec.{T}
 use Rattle.laws.specs.Sums.{Below}
-use Rattle.answer.specs.Outcomes.{Outcome, done, onward}
+use Rattle.answer.specs.Outcomes.{done, onward}
 use Rattle.answer.proofs.Outcomes.{onward→}
 use Rattle.table.specs.Rows.{Code}
 use Rattle.table.specs.Formed.{formed}

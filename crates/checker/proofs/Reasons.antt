@@ -9,7 +9,7 @@ use lib.Dec.{T, leb, eqb}
 use lib.ListN.{length}
 use borrow.Author.Tests.{leb-true, leb-false, eqb-true, eqb-false}
 use Rattle.answer.specs.declared.Refusal.the-variants.{Field, Length, Disobeys, WindowFails}
-use Rattle.answer.specs.Outcomes.{Outcome, done, unless, onward}
+use Rattle.answer.specs.Outcomes.{done, unless, onward}
 use Rattle.bits.specs.Fields.{bitsOf}
 use Rattle.windows.specs.Works.{works}
 use Rattle.obeying.specs.Obeys.{obeys}

@@ -9,7 +9,7 @@ use native.Mathlib.Omega.{arith}
 use lib.ListN.{length, drop, length-append}
 use Rattle.laws.specs.Lists.{concat, repeat}
 use Rattle.laws.specs.Sums.{Each, Below}
-use Rattle.laws.proofs.Lists.{sum-repeat, sum-replicate}
+use Rattle.laws.proofs.Lists.{sum-repeat, sum-replicate, length-repeat}
 use Rattle.bits.specs.Fields.{bits, write, bitsOf}
 use Rattle.bits.specs.Bytes.{spliced}
 use Rattle.bits.proofs.Fields.{below-write}
@@ -23,12 +23,11 @@ use Rattle.record.specs.Layout.{frontValues, header, size, fill, widths,
 use Rattle.record.specs.Parts.{frontBits, nextBits, stateBits, edgeBits, statesBits, rowsBits}
 use Rattle.record.proofs.RecordFits.{sum-widths}
 use Rattle.record.proofs.RecordParts.{length-fields, write-append}
-use Rattle.record.proofs.RecordWrite.{length-pack}
+use Rattle.record.proofs.RecordWrite.{length-nexts, length-pairs, length-rows, length-pack}
 
 -- ---- the constraint
-length-nexts : (c : Constraint) → length {A = ℕ} (repeat (length c) (1 ∷ 4 ∷ 1 ∷ 4 ∷ [])) ≡ length (nexts c)
-length-nexts [] = refl
-length-nexts (r ∷ c) = ap (λ n. suc (suc (suc (suc n)))) (length-nexts c)
+fields-nexts : (c : Constraint) → length {A = ℕ} (repeat (length c) (1 ∷ 4 ∷ 1 ∷ 4 ∷ [])) ≡ length (nexts c)
+fields-nexts c = length-repeat (length c) (1 ∷ 4 ∷ 1 ∷ 4 ∷ []) ∙ sym (length-nexts c)
 
 states-write : (c : Constraint) → write (repeat (length c) (1 ∷ 4 ∷ 1 ∷ 4 ∷ [])) (nexts c) ≡ statesBits c
 unfolding statesBits stateBits nextBits
@@ -37,9 +36,8 @@ states-write (r ∷ c) = ap (λ l. stateBits r ++ l) (states-write c)
 
 -- ---- the table
 module _ (q : ℕ) where
-  length-pairs : (es : List Edge) → length (repeat (length es) (q ∷ 7 ∷ [])) ≡ length (pairs es)
-  length-pairs [] = refl
-  length-pairs (e ∷ es) = ap (λ n. suc (suc n)) (length-pairs es)
+  fields-pairs : (es : List Edge) → length (repeat (length es) (q ∷ 7 ∷ [])) ≡ length (pairs es)
+  fields-pairs es = length-repeat (length es) (q ∷ 7 ∷ []) ∙ sym (length-pairs es)
 
   pairs-write : (es : List Edge) → write (repeat (length es) (q ∷ 7 ∷ [])) (pairs es) ≡ concat (map (edgeBits q) es)
   unfolding edgeBits
@@ -55,13 +53,11 @@ module _ (q : ℕ) where
       ap (λ l. edgeBits q e ++ l) (pieces es fs)
       ∙ sym (append-assoc (edgeBits q e) (concat (map (edgeBits q) es)) (concat (map (edgeBits q) fs)))
 
-  length-rows : (n : ℕ) (t : Rows) → Each (λ es. length es ≡ n) t
+  fields-rows : (n : ℕ) (t : Rows) → Each (λ es. length es ≡ n) t
       → length (repeat (length t) (repeat n (q ∷ 7 ∷ []))) ≡ length (rows t)
-  length-rows n [] h = refl
-  length-rows n (es ∷ t) (e, h) =
-      length-append (repeat n (q ∷ 7 ∷ [])) (repeat (length t) (repeat n (q ∷ 7 ∷ [])))
-      ∙ ap₂ _+_ (ap (λ m. length (repeat m (q ∷ 7 ∷ []))) (sym e) ∙ length-pairs es) (length-rows n t h)
-      ∙ sym (length-append (pairs es) (rows t))
+  fields-rows n t h =
+      length-repeat (length t) (repeat n (q ∷ 7 ∷ [])) ∙ ap (λ m. length t * m) (length-repeat n (q ∷ 7 ∷ []))
+      ∙ sym (length-rows n t h)
 
   rows-write : (n : ℕ) (t : Rows) → Each (λ es. length es ≡ n) t
       → write (repeat (length t) (repeat n (q ∷ 7 ∷ []))) (rows t) ≡ rowsBits q t
@@ -70,7 +66,7 @@ module _ (q : ℕ) where
   rows-write n (es ∷ t) (e, h) =
       let R = repeat (length t) (repeat n (q ∷ 7 ∷ [])) in
       write-append (repeat n (q ∷ 7 ∷ [])) R (pairs es) (rows t)
-      (ap (λ m. length (repeat m (q ∷ 7 ∷ []))) (sym e) ∙ length-pairs es)
+      (ap (λ m. length (repeat m (q ∷ 7 ∷ []))) (sym e) ∙ fields-pairs es)
       ∙ ap₂ _++_ (ap (λ m. write (repeat m (q ∷ 7 ∷ [])) (pairs es)) (sym e) ∙ pairs-write es) (rows-write n t h)
       ∙ sym (pieces es (concat t))
 
@@ -82,14 +78,14 @@ length-front h = length-fields header (frontValues h) refl
 pub length-states : (c : Constraint) → length (statesBits c) ≡ length c * stateSize
 length-states c =
     ap length (sym (states-write c)) ∙ length-fields (repeat (length c) (1 ∷ 4 ∷ 1 ∷ 4 ∷ [])) (nexts c)
-    (length-nexts c)
+    (fields-nexts c)
     ∙ sum-repeat (length c) (1 ∷ 4 ∷ 1 ∷ 4 ∷ [])
 
 pub length-table : (q n : ℕ) (t : Rows) → Each (λ es. length es ≡ n) t
     → length (rowsBits q t) ≡ length t * (n * (q + 7))
 length-table q n t h =
     ap length (sym (rows-write q n t h))
-    ∙ length-fields (repeat (length t) (repeat n (q ∷ 7 ∷ []))) (rows t) (length-rows q n t h)
+    ∙ length-fields (repeat (length t) (repeat n (q ∷ 7 ∷ []))) (rows t) (fields-rows q n t h)
     ∙ sum-repeat (length t) (repeat n (q ∷ 7 ∷ [])) ∙ ap (λ m. length t * m) (sum-repeat n (q ∷ 7 ∷ []))
 
 -- the parts are the record's bits
@@ -100,7 +96,7 @@ module _ (c : Code) (even : Each (λ es. length es ≡ 2 ^ c .p) (c .table)) whe
   behind-states : write (wide ++ (fill (head c) ∷ [])) (rows (c .table) ++ (0 ∷ []))
       ≡ rowsBits (c .q) (c .table) ++ bits (fill (head c)) 0
   behind-states =
-      write-append wide (fill (head c) ∷ []) (rows (c .table)) (0 ∷ []) (length-rows (c .q) (2 ^ c .p) (c .table) even)
+      write-append wide (fill (head c) ∷ []) (rows (c .table)) (0 ∷ []) (fields-rows (c .q) (2 ^ c .p) (c .table) even)
       ∙ ap₂ _++_ (rows-write (c .q) (2 ^ c .p) (c .table) even) (append-nil (bits (fill (head c)) 0))
 
   pub parts-are : ((frontBits (head c) ++ statesBits (c .constraint)) ++ rowsBits (c .q) (c .table))
@@ -115,7 +111,7 @@ module _ (c : Code) (even : Each (λ es. length es ≡ 2 ^ c .p) (c .table)) whe
       ∙ sym (write-append header (ks ++ (wide ++ (fill (head c) ∷ []))) (frontValues (head c))
       (nexts (c .constraint) ++ (rows (c .table) ++ (0 ∷ []))) refl
       ∙ ap (λ l. frontBits (head c) ++ l) (write-append ks (wide ++ (fill (head c) ∷ [])) (nexts (c .constraint))
-      (rows (c .table) ++ (0 ∷ [])) (length-nexts (c .constraint))
+      (rows (c .table) ++ (0 ∷ [])) (fields-nexts (c .constraint))
       ∙ ap₂ _++_ (states-write (c .constraint)) behind-states))
 
   -- there are as many fields as widths
@@ -126,8 +122,8 @@ module _ (c : Code) (even : Each (λ es. length es ≡ 2 ^ c .p) (c .table)) whe
       let b = length-append wide (fill (head c) ∷ []) in
       let d = length-append (nexts (c .constraint)) (rows (c .table) ++ (0 ∷ [])) in
       let e = length-append (rows (c .table)) (0 ∷ []) in
-      let f = length-nexts (c .constraint) in
-      let g = length-rows (c .q) (2 ^ c .p) (c .table) even in
+      let f = fields-nexts (c .constraint) in
+      let g = fields-rows (c .q) (2 ^ c .p) (c .table) even in
       omega arith
 
   pub length-parts : length (write (widths (head c)) (values c)) ≡ size (head c) * 8

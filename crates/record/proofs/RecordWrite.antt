@@ -1,5 +1,5 @@
 -- A code with its fields in range, written as a record and read again, is the same code.
--- In order: code-back, length-pack, bits-pack, fields-pack.
+-- In order: length-nexts, length-pairs, length-rows; code-back, length-pack, bits-pack, fields-pack.
 -- Assumes nothing.
 use mathlib.Core.Path.{_≡_, refl, sym, ap, ap₂, subst, _∙_}
 use mathlib.Core.Bool.{Bool, true, false, _&&_, _||_}
@@ -13,7 +13,10 @@ use lib.Seq.{drop-at}
 use Rattle.answer.specs.declared.Refusal.the-variants.{Field, Length}
 use Rattle.answer.specs.Outcomes.{Outcome, done, unless}
 use Rattle.laws.specs.Lists.{if_then_else_, all}
+use Rattle.laws.specs.Sums.{Each}
 use Rattle.laws.proofs.Tests.{and→, →and}
+use Rattle.laws.proofs.Sums.{each-map}
+use Rattle.laws.proofs.Elems.{all-each, all-of}
 use Rattle.constraint.specs.Walking.{Constraint, none}
 use Rattle.table.specs.Rows.{Edge, Rows, Code}
 use Rattle.bits.specs.Fields.{read, write, bitsOf}
@@ -37,11 +40,11 @@ opened-present s = go (eqb s none) refl
     go true e = sym (eqb→eq s none (rw e tt))
     go false e = refl
 
-length-nexts : (c : Constraint) → length (nexts c) ≡ length c * 4
+pub length-nexts : (c : Constraint) → length (nexts c) ≡ length c * 4
 length-nexts [] = refl
 length-nexts (r ∷ c) = rw (length-nexts c) (omega arith)
 
-length-pairs : (es : List Edge) → length (pairs es) ≡ length es * 2
+pub length-pairs : (es : List Edge) → length (pairs es) ≡ length es * 2
 length-pairs [] = refl
 length-pairs (e ∷ es) = rw (length-pairs es) (omega arith)
 
@@ -55,17 +58,24 @@ edges-back : (es : List Edge) (r : List ℕ) → edgesOf (length es) (pairs es +
 edges-back [] r = refl
 edges-back (e ∷ es) r = ap (λ l. e ∷ l) (edges-back es r)
 
-rows-back : (p q n : ℕ) (g : Rows) (r : List ℕ) → T (all (goodRow p q n) g)
-    → rowsOf (length g) (2 ^ p) (rows g ++ r) ≡ g
-rows-back p q n [] r t = refl
-rows-back p q n (es ∷ g) r t =
-    let (a, b) = and→ (goodRow p q n es) (all (goodRow p q n) g) t in
-    let l : length es ≡ 2 ^ p =
-    eqb→eq (length es) (2 ^ p) (and→ (eqb (length es) (2 ^ p)) (all (goodEdge q n) es) a .0) in
+-- rows with the same number of edges each
+rows-back : (n : ℕ) (g : Rows) (r : List ℕ) → Each (λ es. length es ≡ n) g → rowsOf (length g) n (rows g ++ r) ≡ g
+rows-back n [] r h = refl
+rows-back n (es ∷ g) r (l, h) =
     rw append-assoc (ap₂ _∷_ (ap (λ m. edgesOf m (pairs es ++ (rows g ++ r))) (sym l) ∙ edges-back es (rows g ++ r))
-    (ap (rowsOf (length g) (2 ^ p))
-    (drop-at (pairs es) (rows g ++ r) (2 ^ p * 2) (length-pairs es ∙ ap (λ m. m * 2) l))
-    ∙ rows-back p q n g r b))
+    (ap (rowsOf (length g) n) (drop-at (pairs es) (rows g ++ r) (n * 2) (length-pairs es ∙ ap (λ m. m * 2) l))
+    ∙ rows-back n g r h))
+
+pub length-rows : (n : ℕ) (g : Rows) → Each (λ es. length es ≡ n) g → length (rows g) ≡ length g * (n * 2)
+length-rows n [] h = omega arith
+length-rows n (es ∷ g) (l, h) =
+    length-append (pairs es) (rows g) ∙ rw (length-pairs es, length-rows n g h, l, suc-mul) (omega arith)
+
+good-even : (p q n : ℕ) (g : Rows) → T (all (goodRow p q n) g) → Each (λ es. length es ≡ 2 ^ p) g
+good-even p q n g t =
+    each-map (λ es. T (goodRow p q n es)) (λ es. length es ≡ 2 ^ p)
+    (λ es x. eqb→eq (length es) (2 ^ p) (and→ (eqb (length es) (2 ^ p)) (all (goodEdge q n) es) x .0)) g
+    (all-each (goodRow p q n) g t)
 
 pub code-back : (c : Code) → Formed c → codeOf (head c) (values c) ≡ c
 code-back c f =
@@ -74,7 +84,7 @@ code-back c f =
     (ap (rowsOf (length (c .table)) (2 ^ c .p))
     (drop-at (nexts (c .constraint)) (rows (c .table) ++ (0 ∷ [])) (length (c .constraint) * 4)
     (length-nexts (c .constraint)))
-    ∙ rows-back (c .p) (c .q) (length (c .table)) (c .table) (0 ∷ []) (f .rows))
+    ∙ rows-back (2 ^ c .p) (c .table) (0 ∷ []) (good-even (c .p) (c .q) (length (c .table)) (c .table) (f .rows)))
 
 -- ---- the checks of a record that was written
 field-good : (k s : ℕ) → T (goodState k s) → T (goodField k (present s) (shown s))
@@ -96,26 +106,15 @@ fields-good k (x ∷ c) r t =
     (field-good k (x .zero) y) (field-good k (x .one) z)) (fields-good k c r b)
 
 targets-good : (q n : ℕ) (es : List Edge) → T (all (goodEdge q n) es) → T (all (goodTarget n) es)
-targets-good q n [] t = tt
-targets-good q n (e ∷ es) t =
-    let (a, b) = and→ (goodEdge q n e) (all (goodEdge q n) es) t in
-    →and (goodTarget n e) (all (goodTarget n) es) (and→ (ltb (e .word) (2 ^ q)) (ltb (e .next) n) a .1)
-    (targets-good q n es b)
+targets-good q n es t =
+    all-of (goodTarget n) es (each-map (λ e. T (goodEdge q n e)) (λ e. T (goodTarget n e))
+    (λ e x. and→ (ltb (e .word) (2 ^ q)) (ltb (e .next) n) x .1) es (all-each (goodEdge q n) es t))
 
 rows-good : (p q n : ℕ) (g : Rows) → T (all (goodRow p q n) g) → T (all (all (goodTarget n)) g)
-rows-good p q n [] t = tt
-rows-good p q n (es ∷ g) t =
-    let (a, b) = and→ (goodRow p q n es) (all (goodRow p q n) g) t in
-    →and (all (goodTarget n) es) (all (all (goodTarget n)) g)
-    (targets-good q n es (and→ (eqb (length es) (2 ^ p)) (all (goodEdge q n) es) a .1)) (rows-good p q n g b)
-
-length-rows : (p q n : ℕ) (g : Rows) → T (all (goodRow p q n) g) → length (rows g) ≡ length g * (2 ^ p * 2)
-length-rows p q n [] t = omega arith
-length-rows p q n (es ∷ g) t =
-    let (a, b) = and→ (goodRow p q n es) (all (goodRow p q n) g) t in
-    let l : length es ≡ 2 ^ p =
-    eqb→eq (length es) (2 ^ p) (and→ (eqb (length es) (2 ^ p)) (all (goodEdge q n) es) a .0) in
-    length-append (pairs es) (rows g) ∙ rw (length-pairs es, length-rows p q n g b, l, suc-mul) (omega arith)
+rows-good p q n g t =
+    all-of (all (goodTarget n)) g (each-map (λ es. T (goodRow p q n es)) (λ es. T (all (goodTarget n) es))
+    (λ es x. targets-good q n es (and→ (eqb (length es) (2 ^ p)) (all (goodEdge q n) es) x .1)) g
+    (all-each (goodRow p q n) g t))
 
 rest-good : (c : Code) → Formed c → T (goodRest (head c) (values c) c)
 rest-good c f =
@@ -126,7 +125,7 @@ rest-good c f =
     ap (drop (S * (2 ^ c .p * 2)))
     (drop-at (nexts (c .constraint)) (rows (c .table) ++ (0 ∷ [])) (K * 4) (length-nexts (c .constraint)))
     ∙ drop-at (rows (c .table)) (0 ∷ []) (S * (2 ^ c .p * 2))
-    (length-rows (c .p) (c .q) S (c .table) (f .rows)) in
+    (length-rows (2 ^ c .p) (c .table) (good-even (c .p) (c .q) S (c .table) (f .rows))) in
     →and (goodFields K K (nexts (c .constraint) ++ (rows (c .table) ++ (0 ∷ []))))
     (all (all (goodTarget S)) (c .table) && eqb (filler (head c) (values c)) 0)
     (fields-good K (c .constraint) (rows (c .table) ++ (0 ∷ [])) (f .nexts))

@@ -2,7 +2,7 @@
 -- In order: small-in; below-all; even, whole-record; pack-field, pack-ready, pack-long, pack-short,
 -- pack-fits.
 -- Assumes nothing.
-use mathlib.Core.Path.{_≡_, sym, ap, ap₂, subst, _∙_}
+use mathlib.Core.Path.{_≡_, sym, ap, subst, _∙_}
 use mathlib.Core.Bool.{true, false}
 use mathlib.Core.List.{List, [], _∷_, _++_}
 use Prim.Native.Nat.{ℕ, suc, _+_, _*_, _-_, _^_, _≤_, _<_}
@@ -22,7 +22,6 @@ use Rattle.bits.specs.Bytes.{spliced}
 use Rattle.bits.proofs.Fields.{length-bits}
 use Rattle.bits.proofs.Puts.{length-bitsOf, spliced-field}
 use Rattle.bits.proofs.Runs.{spliced-next, size-holds}
-use Rattle.constraint.specs.Value.{nextStatesAt}
 use Rattle.table.specs.declared.Table.{Table}
 use Rattle.table.specs.Rows.{Code}
 use Rattle.table.specs.Formed.{head}
@@ -49,7 +48,8 @@ below-all n (x ∷ xs) h = (h 0, below-all n xs (λ i. h (suc i)))
 pub even : (t : Table) → Each (λ es. length es ≡ 2 ^ t .p) (rowsIn t)
 even t =
     each-image (λ es. length es ≡ 2 ^ t .p) (rowIn t) (range (t .states))
-    (each-always (λ s. length (rowIn t s) ≡ 2 ^ t .p) (λ s. length-map-range (edgeIn t s) (2 ^ t .p)) (range (t .states)))
+    (each-always (λ s. length (rowIn t s) ≡ 2 ^ t .p) (λ s. length-map-range (edgeIn t s) (2 ^ t .p))
+    (range (t .states)))
 
 -- the four parts put one behind the other are the record
 module _ (c : Code) (each : Each (λ es. length es ≡ 2 ^ c .p) (c .table)) (out new B₁ B₂ B₃ : List ℕ) (a w m : ℕ) where

@@ -12,7 +12,6 @@ use lib.Dec.{leb, eqb}
 use lib.ListN.{length, getD}
 use Rattle.laws.specs.Lists.{if_then_else_}
 use Rattle.laws.proofs.Totals.{never}
-use Rattle.sets.specs.declared.Place.{Place}
 use Rattle.sets.specs.declared.Place.the-variants.{At, Nowhere}
 use Rattle.sets.specs.Offsets.{lengthAt, endAt, placeAt, offsetOf, recordPlace}
 

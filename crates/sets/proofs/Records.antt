@@ -11,11 +11,11 @@ use lib.Dec.{leb}
 use lib.ListN.{length, getD, take, drop}
 use Rattle.laws.proofs.Totals.{never}
 use Rattle.answer.specs.declared.Refusal.the-variants.{Length}
-use Rattle.answer.specs.Outcomes.{Outcome, done}
+use Rattle.answer.specs.Outcomes.{done}
 use Rattle.table.specs.Rows.{Code}
 use Rattle.checker.specs.Parse.{parse}
 use Rattle.sets.specs.declared.Place.the-variants.{At}
-use Rattle.sets.specs.Sets.{Walk, codes, stopped, next, walked, readSet}
+use Rattle.sets.specs.Sets.{codes, stopped, walked, readSet}
 use Rattle.sets.specs.Offsets.{lengthAt, endAt, placeAt, offsetOf, recordPlace}
 use Rattle.sets.proofs.Sets.{next→}
 use Rattle.sets.proofs.Offsets.{place-whole, record-at}

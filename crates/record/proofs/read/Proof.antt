@@ -1,21 +1,19 @@
 -- `read` meets its contract: each return follows the checks before it, in document 01's order.
 -- Assumes nothing.
 use mathlib.Core.Bool.{true}
-use mathlib.Core.Path.{_≡_, sym, ap, subst, _∙_}
+use mathlib.Core.Path.{_≡_, sym, ap, _∙_}
 use borrow.Author.Tests.{not-true, not-false, lt-leb, le-leb, eq-eqb, ne-eqb}
 use borrow.Author.Needs.{needs}
 use denote.Ref.{now}
-use lib.Dec.{T}
 use lib.ListN.{length}
 use Rattle.answer.specs.Outcomes.{done}
-use Rattle.bits.specs.Fields.{bitsOf}
 use Rattle.table.specs.Formed.{Ranges}
 use Rattle.record.specs.Parse.{goodHead}
 use Rattle.record.specs.Layout.{size}
 use Rattle.record.specs.Places.{Small}
 use Rattle.record.proofs.Sizes.{small-of}
 use Rattle.record.proofs.RecordRead.{read-ready}
-use Rattle.record.proofs.RecordReading.{below-bytes, ranges-in, checked-short, checked-front, checked-length}
+use Rattle.record.proofs.RecordReading.{ranges-in, checked-short, checked-front, checked-length}
 use Rattle.record.proofs.RecordReading.{checked-rest, checked-good, good-not}
 use Rattle.record.proofs.read.Statement.{statement}
 use Rattle.record.proofs.read.Tie as tie

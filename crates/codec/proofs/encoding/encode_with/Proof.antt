@@ -124,7 +124,8 @@ returns-4 c =
     (w .ways .ensures .0) (b .first-bad .ensures) (i .if3 .left))
     (sym (length-recording (codeIn (a .t)) ds))
     (recorded-in (a .t) (w .ways .result) ds out _ _ (s .write-blocks .result) (w .ways .ensures .0)
-    (s .write-blocks .ensures .0 .0) (s .write-blocks .ensures .1) (c .before .before .write-closing .ensures (codeIn (a .t)) (omega arith)))
+    (s .write-blocks .ensures .0 .0) (s .write-blocks .ensures .1)
+    (c .before .before .write-closing .ensures (codeIn (a .t)) (omega arith)))
 
 pub encode-with-spec : {M : Type 1} → statement M
 encode-with-spec =

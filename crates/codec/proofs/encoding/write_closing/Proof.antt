@@ -54,7 +54,8 @@ loop-holds c =
       c .pre .3,
       c .pre .4,
       rw z (writes-start (table c) (front c) (a .state) (zeros c) (now (a .out)) (a .at)
-          (length-take-le (a .at) (now (a .out)) (omega arith)) (c .pre .2) (sym (take-append-drop (a .at) (now (a .out))))),
+          (length-take-le (a .at) (now (a .out)) (omega arith)) (c .pre .2)
+          (sym (take-append-drop (a .at) (now (a .out))))),
     )
 
 mul-first : tie.Need-mul-first Inv-loop μ-loop

@@ -1,6 +1,6 @@
 -- `step_at` meets its contract: 8 for a record that is cut off, otherwise the checker's answer on its bytes.
 -- Assumes nothing.
-use mathlib.Core.Path.{_≡_, sym, _∙_}
+use mathlib.Core.Path.{sym, _∙_}
 use Prim.Native.Nat.{_+_, _≤_}
 use native.Mathlib.Omega.{arith}
 use borrow.Author.Needs.{needs}
