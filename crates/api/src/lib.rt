@@ -5,12 +5,14 @@ ghost use Rattle.answer.specs.Refusals.{most};
 ghost use Rattle.answer.specs.Outcomes.{answerOf, outputOf};
 ghost use lib.ListN.{length};
 ghost use Rattle.checker.specs.Parse.{checkedOnly};
-ghost use Rattle.codec.specs.Answers.{encodeUnder, decodeUnder};
+ghost use Rattle.codec.specs.Answers.{encodeUnder, decodeUnder, encodeChecked, decodeChecked};
 ghost use Rattle.compiler.specs.Compile.{compileJob, compileRunLength};
+ghost use Rattle.info.specs.Info.{infoUnder, phraseInto};
 ghost use Rattle.listings.specs.Listings.{listInto};
 ghost use Rattle.sets.specs.Sets.{readSet};
 ghost use Rattle.sets.specs.Results.{setAnswer};
 ghost use Rattle.api.specs.Words.{held, joined, wordOf, setWordOf};
+ghost use Rattle.api.specs.Version.{version};
 use answer::Answer;
 use sets::SetAnswer;
 
@@ -88,6 +90,39 @@ pub extern "C" fn sbc_decode(bytes: &[u8], words: &[u8], out: &mut [u8]) -> u64
     word(codec::decoding::decode(bytes, words, out))
 }
 
+// Blocks recorded under a record that was accepted before: as `sbc_encode`, but 9 and 10 are not looked at.
+#[no_mangle]
+pub extern "C" fn sbc_encode_checked(bytes: &[u8], blocks: &[u8], out: &mut [u8]) -> u64
+    ensures answer { λ r. ⌜ r ≡ wordOf (answerOf
+        (encodeChecked (now (bytes .entry)) (length (now (out .entry))) (now (blocks .entry)))) ⌝ }
+    ensures written { λ r. ⌜ now (out .exit) ≡ outputOf
+        (encodeChecked (now (bytes .entry)) (length (now (out .entry))) (now (blocks .entry))) (now (out .entry)) ⌝ }
+{
+    word(codec::encoding::encode_checked(bytes, blocks, out))
+}
+
+// Words decoded under a record that was accepted before: as `sbc_decode`, but 9 and 10 are not looked at.
+#[no_mangle]
+pub extern "C" fn sbc_decode_checked(bytes: &[u8], words: &[u8], out: &mut [u8]) -> u64
+    ensures answer { λ r. ⌜ r ≡ wordOf (answerOf
+        (decodeChecked (now (bytes .entry)) (length (now (out .entry))) (now (words .entry)))) ⌝ }
+    ensures written { λ r. ⌜ now (out .exit) ≡ outputOf
+        (decodeChecked (now (bytes .entry)) (length (now (out .entry))) (now (words .entry))) (now (out .entry)) ⌝ }
+{
+    word(codec::decoding::decode_checked(bytes, words, out))
+}
+
+// The numbers of a record, one byte each: p, q, states less one, m, a, K, constraint start. The record's refusals, 13;
+// otherwise 7.
+#[no_mangle]
+pub extern "C" fn sbc_info(bytes: &[u8], out: &mut [u8]) -> u64
+    ensures answer { λ r. ⌜ r ≡ wordOf (answerOf (infoUnder (now (bytes .entry)) (length (now (out .entry))))) ⌝ }
+    ensures written { λ r. ⌜ now (out .exit)
+        ≡ outputOf (infoUnder (now (bytes .entry)) (length (now (out .entry)))) (now (out .entry)) ⌝ }
+{
+    word(info::info(bytes, out))
+}
+
 // A job compiled to a record: 8 below four bytes, 1, K by 2, 8, next states by 2, 3, 4, 5, 6, 13; otherwise how many
 // bytes were written.
 #[no_mangle]
@@ -117,4 +152,23 @@ pub extern "C" fn sbc_listing(job: &[u8], out: &mut [u8]) -> u64
         ≡ outputOf (listInto (now (job .entry)) (length (now (out .entry)))) (now (out .entry)) ⌝ }
 {
     word(listings::list_run_length(job, out))
+}
+
+// The words of a refusal by its number, and no byte for a number that is no refusal: 13; otherwise how many bytes were
+// written.
+#[no_mangle]
+pub extern "C" fn sbc_phrase(number: u64, out: &mut [u8]) -> u64
+    ensures answer { λ r. ⌜ r ≡ wordOf (answerOf (phraseInto number (length (now (out .entry))))) ⌝ }
+    ensures written { λ r. ⌜ now (out .exit)
+        ≡ outputOf (phraseInto number (length (now (out .entry)))) (now (out .entry)) ⌝ }
+{
+    word(info::phrase(number, out))
+}
+
+// The version of the library: 10,000 times the major number, plus 100 times the minor number, plus the patch.
+#[no_mangle]
+pub extern "C" fn sbc_version() -> u64
+    ensures answer { λ r. ⌜ r ≡ version ⌝ }
+{
+    10000
 }

@@ -1,0 +1,8 @@
+-- The version of the library as one number.
+-- In order: version.
+-- Assumes nothing.
+use Prim.Native.Nat.{ℕ}
+
+-- version 1.0.0: 10,000 times the major number, plus 100 times the minor number, plus the patch
+abbrev pub version : ℕ
+version = 10000
