@@ -1,7 +1,7 @@
 -- The main theorems, each written out in full; its proof is one citation. A `Kind` is one of the two kinds of job.
 -- In order: allowed, no-code, greatest, component, each-split, splits-end, shortest-idle, least-window, refusals,
 -- calls, written, max-record, compiled-passes; checker-exact, record-order, records; encodes, decodes, returns,
--- recognised, one-datum, demand-3, reach, local, different-data, loaded; sets, good-places; words.
+-- recognised, one-datum, demand-3, reach, local, different-data, loaded, checked; sets, good-places; words.
 -- Assumes nothing.
 use mathlib.Core.Path.{_≡_}
 use mathlib.Core.Logic.{_⊎_, _↔_}
@@ -28,7 +28,7 @@ use Rattle.record.specs.Layout.{pack}
 use Rattle.checker.specs.Parse.{parse, judged, checkedOnly}
 use Rattle.checker.specs.Reasons.{Reason}
 use Rattle.reading.specs.Reading.{mark, block, decode}
-use Rattle.codec.specs.Answers.{encodeUnder, decodeUnder}
+use Rattle.codec.specs.Answers.{encodeUnder, decodeUnder, encodeChecked, decodeChecked}
 use Rattle.codec.specs.With.{encodedWith, decodedWith}
 use Rattle.codec.specs.Found.{found}
 use Rattle.codec.specs.Damage.{StandsClear, Recording, SameOutside}
@@ -51,9 +51,8 @@ pub allowed : (k : Kind) (xs : List ℕ) (j : Job) → readAs k xs ≡ done j �
 allowed = Rattle.compiler.proofs.Written.as-allowed
 
 -- "No code" is said exactly when no vector of numbers from 0 to cap, not all 0, meets the inequality; from bytes too.
-pub no-code : ((j : Job) → Allowed j
-    → (compile j ≡ refused NoCode) ↔ ((u : List ℕ) → Vector j u → (s : ℕ) → getD u s 0 ≡ 0))
-    × ((k : Kind) (xs : List ℕ) (room : ℕ) → (compileAs k xs room ≡ refused NoCode)
+pub no-code : ((j : Job) → Allowed j → (compile j ≡ refused NoCode) ↔ ((u : List ℕ) → Vector j u → (s : ℕ)
+    → getD u s 0 ≡ 0)) × ((k : Kind) (xs : List ℕ) (room : ℕ) → (compileAs k xs room ≡ refused NoCode)
     ↔ ((j : Job) × (readAs k xs ≡ done j) × ((u : List ℕ) → Vector j u → (s : ℕ) → getD u s 0 ≡ 0)))
 no-code = (Rattle.compiler.proofs.Compile.no-code-exact, Rattle.compiler.proofs.Written.none)
 
@@ -64,17 +63,15 @@ greatest j = (Rattle.compiler.proofs.Compile.weights-vector j, Rattle.compiler
 -- The component is what its first state reaches: the lowest, of weight above 0, that all states it reaches reach back.
 pub component : (j : Job) → Allowed j → 0 < sum (componentOf j .weights)
     → let v = weightsOf j in let g = within (live v) (graphOf j) in let C = componentStates v (graphOf j) in
-    let s = getD C 0 0 in
-    (0 < getD v s 0) × ReachedBack g s × ((u : ℕ) → u < s → 0 < getD v u 0 → ReachedBack g u → ⊥)
-    × ((t : ℕ) → T (elem t C) ↔ Reachable g s t)
+    let s = getD C 0 0 in (0 < getD v s 0) × ReachedBack g s
+    × ((u : ℕ) → u < s → 0 < getD v u 0 → ReachedBack g u → ⊥) × ((t : ℕ) → T (elem t C) ↔ Reachable g s t)
 component j a h = let c = Rattle.compiler.proofs.ByRule.component j a h in (c .live, c .back, c .lowest, c .states)
 
 -- Each graph that splitting passes through is split by the rule's state, list and run; the last is the finished one.
-pub each-split : (j : Job) → Allowed j → 0 < sum (componentOf j .weights) → (k : ℕ)
-    → let n = ways j in let x = splits k n (componentOf j) in let s = chosen (x .weights) (x .arcs) in
-    (T (goesOn n x) → (splits (suc k) n (componentOf j) ≡ split n x)
-    × Rule n x s (candidates n (x .weights) (getD (x .weights) s 0) (sort (out (x .arcs) s)))
-    (kept n (x .weights) (x .arcs) s)) × ((T (goesOn n x) → ⊥) → finishedOf j ≡ x)
+pub each-split : (j : Job) → Allowed j → 0 < sum (componentOf j .weights) → (k : ℕ) → let n = ways j in
+    let x = splits k n (componentOf j) in let s = chosen (x .weights) (x .arcs) in (T (goesOn n x)
+    → (splits (suc k) n (componentOf j) ≡ split n x) × Rule n x s (candidates n (x .weights) (getD (x .weights) s 0)
+    (sort (out (x .arcs) s))) (kept n (x .weights) (x .arcs) s)) × ((T (goesOn n x) → ⊥) → finishedOf j ≡ x)
 each-split = Rattle.compiler.proofs.ByRule.splits-by-rule
 
 -- Splitting ends, with no more states than the component's weights sum to, and n edges a state or refusal 5.
@@ -132,9 +129,8 @@ pub checker-exact : (xs : List ℕ) → Below 256 xs
 checker-exact = Rattle.checker.proofs.Accepted.check-exact
 
 -- A record is refused in order: 8, 7, 8, 7; 9 exactly if a recording breaks the constraint, 10 if the window fails.
-pub record-order : (xs : List ℕ) → Below 256 xs → Reason xs (parse xs)
-    × ((parse xs ≡ refused Disobeys) ↔ ((c : Code) × T (formed c) × (pack c ≡ xs) × Breaks c))
-    × ((parse xs ≡ refused WindowFails)
+pub record-order : (xs : List ℕ) → Below 256 xs → Reason xs (parse xs) × ((parse xs ≡ refused Disobeys)
+    ↔ ((c : Code) × T (formed c) × (pack c ≡ xs) × Breaks c)) × ((parse xs ≡ refused WindowFails)
     ↔ ((c : Code) × T (formed c) × (pack c ≡ xs) × Obeys c × (Window (c .table) (c .window) → ⊥)))
 record-order = Rattle.checker.proofs.Meanings.order
 
@@ -202,10 +198,14 @@ pub loaded : (rec : List ℕ) (t : Table) → parse rec ≡ done (codeIn t) → 
     → (encodedWith t room ys ≡ encodeUnder rec room ys) × (decodedWith t room ys ≡ decodeUnder rec room ys)
 loaded = Rattle.codec.proofs.Done.loaded
 
+-- For a record that the checker accepts, the calls that do not look at 9 and 10 answer as those that do.
+pub checked : (rec : List ℕ) → checkedOnly rec ≡ done [] → (room : ℕ) (ys : List ℕ)
+    → (encodeChecked rec room ys ≡ encodeUnder rec room ys) × (decodeChecked rec room ys ≡ decodeUnder rec room ys)
+checked = Rattle.codec.proofs.Done.checked
+
 -- Up to 255 readable codes are written as bytes and read back; a set that is walked to its end is such a set.
-pub sets : ((cs : List Code) → length cs ≤ 255 → Readable cs
-    → Below 256 (writeSet cs) × (readSet (writeSet cs) ≡ codes cs))
-    × ((xs : List ℕ) (cs : List Code) → Below 256 xs → readSet xs ≡ codes cs
+pub sets : ((cs : List Code) → length cs ≤ 255 → Readable cs → Below 256 (writeSet cs)
+    × (readSet (writeSet cs) ≡ codes cs)) × ((xs : List ℕ) (cs : List Code) → Below 256 xs → readSet xs ≡ codes cs
     → (length cs ≤ 255) × (writeSet cs ≡ xs) × Readable cs)
 sets = (Rattle.sets.proofs.Counts.set-written, Rattle.sets.proofs.Counts.set-walked)
 
