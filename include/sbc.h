@@ -1,14 +1,15 @@
 /* Proved sliding-block codes: the calls of target/staticlib/libapi.a, which `rt staticlib api` writes.
  *
- * Bytes go as a pointer to the first and their number. No pointer is null, even where the number is 0, and `out` lies
- * apart from the bytes that are read. Nothing is kept after a call and nothing is allocated, so calls may run at the
- * same time on different outputs. A call takes less than 200 KB of stack (measured on x86-64 by `bench/run stack`;
+ * Needs C99 or later, or C++. Bytes go as a pointer to the first and their number, a uint64_t on every machine. Where
+ * the number is 0 the pointer may be NULL: no byte is read or written there. The bytes of `out` lie apart from those
+ * that the call reads: no byte is in both. Nothing is kept after a call and nothing is allocated, so calls may run at
+ * the same time on different outputs. A call takes less than 200 KB of stack (measured on x86-64 by `bench/run stack`;
  * compiling takes most).
  *
- * Every call answers one number, the refusal times 2^56 plus a value; take it apart by `sbc_refusal` and `sbc_value`.
- * Refusal 0 is a result. The value of a result is written at each call. The value of a refusal is 0, but with 11 it is
- * the place of the first bad byte, and with every refusal of `sbc_set` the number of the first bad record, both
- * counted from 0. A value above 2^56 - 1 would be answered as 2^56 - 1.
+ * Every call but sbc_version answers one number, the refusal times 2^56 plus a value; take it apart by `sbc_refusal`
+ * and `sbc_value`. Refusal 0 is a result. The value of a result is written at each call. The value of a refusal is 0,
+ * but with 11 it is the place of the first bad byte, and with every refusal of `sbc_set` the number of the first bad
+ * record, both counted from 0. A value above 2^56 - 1 would be answered as 2^56 - 1.
  *
  * A result fills `out` from its first byte, and bytes past its end stay as they were. A refusal changes no byte.
  * Where several refusals hold, the first in the order written at the call is answered.
@@ -16,7 +17,6 @@
 #ifndef SBC_H
 #define SBC_H
 
-#include <stddef.h>
 #include <stdint.h>
 
 #ifdef __cplusplus
@@ -43,6 +43,10 @@ enum {
 
 /* Sizes, in bytes. */
 enum {
+    /* What sbc_info writes. */
+    SBC_INFO = 7,
+    /* Room for the words of every refusal. */
+    SBC_PHRASE_MAX = 60,
     /* The block that stands where no edge reads the words; no datum has this value. */
     SBC_MARK = 255,
     /* The longest job: p, q, cap, K, and two bytes for each of 16 states. */
@@ -76,57 +80,94 @@ static inline uint64_t sbc_value(uint64_t answer)
 /* Compiles a job to a record.
  * job: p (1 to 4), q (1 to 8), cap (1 to 16), K (1 to 16), then for each of K states the next states for channel bits
  * 0 and 1, with 255 for none.
- * out: the packed record; SBC_RECORD_MAX bytes are always enough.
+ * out: the packed record; SBC_RECORD_MAX bytes are always enough. It lies apart from job.
  * Answers how many bytes were written.
  * Refusals in order: 8 below four bytes; 1; 2 for K; 8 for any length but 4 + 2 K; 2 for a next state; 3; 4; 5; 6;
  * 13. */
-uint64_t sbc_compile(const uint8_t *job, size_t job_length, uint8_t *out, size_t out_length);
+uint64_t sbc_compile(const uint8_t *job, uint64_t job_length, uint8_t *out, uint64_t out_length);
 
 /* Compiles a run-length job to a record.
  * job: the five bytes d, k, p, q, cap, with d <= k <= 15.
- * out: the packed record; SBC_RECORD_MAX bytes are always enough.
+ * out: the packed record; SBC_RECORD_MAX bytes are always enough. It lies apart from job.
  * Answers how many bytes were written.
  * Refusals in order: 8 for any length but five; 1; 2; 3; 4; 5; 6; 13. */
-uint64_t sbc_compile_run_length(const uint8_t *job, size_t job_length, uint8_t *out, size_t out_length);
+uint64_t sbc_compile_run_length(const uint8_t *job, uint64_t job_length, uint8_t *out, uint64_t out_length);
 
 /* Checks a record: it is accepted when every recording under its table obeys its constraint, and its window does what
  * a window must.
  * Answers 0.
  * Refusals in order: 8 below four bytes; 7 for the header; 8; 7 for the rest; 9; 10. */
-uint64_t sbc_check(const uint8_t *record, size_t record_length);
+uint64_t sbc_check(const uint8_t *record, uint64_t record_length);
 
 /* Records blocks under a record.
  * blocks: one byte each, below 2^p.
- * out: one word a byte, a more than there are blocks.
+ * out: one word a byte, a more than there are blocks. It lies apart from record and blocks.
  * Answers how many words were written.
  * Refusals in order: those of sbc_check; 13; 11 with the place of the first bad block. */
-uint64_t sbc_encode(const uint8_t *record, size_t record_length, const uint8_t *blocks, size_t blocks_length,
-                    uint8_t *out, size_t out_length);
+uint64_t sbc_encode(const uint8_t *record, uint64_t record_length, const uint8_t *blocks, uint64_t blocks_length,
+                    uint8_t *out, uint64_t out_length);
 
 /* Reads words under a record by its window.
  * words: one byte each, below 2^q. Words that no recording has are read too.
- * out: one block a byte, a fewer than there are words; SBC_MARK where no edge reads the words.
+ * out: one block a byte, a fewer than there are words; SBC_MARK where no edge reads the words. It lies apart from
+ * record and words.
  * A bad word at i can spoil blocks i - a to i + m and no others: that is what is promised. A spoiled block may be wrong
  * without SBC_MARK: marks are a hint, and no mark is no promise. Put a checksum over the data.
  * Answers how many blocks were written.
  * Refusals in order: those of sbc_check; 12; 13; 11 with the place of the first bad word. */
-uint64_t sbc_decode(const uint8_t *record, size_t record_length, const uint8_t *words, size_t words_length,
-                    uint8_t *out, size_t out_length);
+uint64_t sbc_decode(const uint8_t *record, uint64_t record_length, const uint8_t *words, uint64_t words_length,
+                    uint8_t *out, uint64_t out_length);
+
+/* Records blocks under a record that sbc_check accepted once: refusals 9 and 10 are not looked at, and for such a
+ * record it answers and writes as sbc_encode does. For any other bytes it is as safe, but what it writes need not obey
+ * the constraint.
+ * blocks, out: as for sbc_encode. out lies apart from record and blocks.
+ * Answers how many words were written.
+ * Refusals in order: those of sbc_check but 9 and 10; 13; 11 with the place of the first bad block. */
+uint64_t sbc_encode_checked(const uint8_t *record, uint64_t record_length, const uint8_t *blocks,
+                            uint64_t blocks_length, uint8_t *out, uint64_t out_length);
+
+/* Reads words under a record that sbc_check accepted once: refusals 9 and 10 are not looked at, and for such a record
+ * it answers and writes as sbc_decode does. For any other bytes it is as safe, but nothing is promised of the blocks.
+ * words, out: as for sbc_decode. out lies apart from record and words.
+ * Answers how many blocks were written.
+ * Refusals in order: those of sbc_check but 9 and 10; 12; 13; 11 with the place of the first bad word. */
+uint64_t sbc_decode_checked(const uint8_t *record, uint64_t record_length, const uint8_t *words, uint64_t words_length,
+                            uint8_t *out, uint64_t out_length);
+
+/* Tells the numbers of a record.
+ * out: SBC_INFO bytes, one number each: p, q, states less one, m, a, K, constraint start. It lies apart from record.
+ * Answers SBC_INFO.
+ * Refusals in order: those of sbc_check; 13. */
+uint64_t sbc_info(const uint8_t *record, uint64_t record_length, uint8_t *out, uint64_t out_length);
 
 /* Checks a set of records.
  * set: one count byte, then each record behind a two-byte length, most significant byte first.
  * Answers how many records the set has.
  * Refusals in order, the value being the record's number: 8 with 0 for no bytes at all; then, record by record, 8 if
  * its length or bytes are cut off, else those of sbc_check; last 8, with the count, for bytes left over. */
-uint64_t sbc_set(const uint8_t *set, size_t set_length);
+uint64_t sbc_set(const uint8_t *set, uint64_t set_length);
 
 /* Lists the table of a run-length job as text.
  * job: the five bytes d, k, p, q, cap.
  * out: a line with p, q, states, m and a, then a line for each state and datum with state, datum, word in binary and
- * next state; SBC_LISTING_MAX bytes are always enough. No zero byte ends it.
+ * next state; SBC_LISTING_MAX bytes are always enough. No zero byte ends it. It lies apart from job.
  * Answers how many bytes were written.
  * Refusals in order: 8 for any length but five; 1; 2; 3; 4; 5; 6; 13. */
-uint64_t sbc_listing(const uint8_t *job, size_t job_length, uint8_t *out, size_t out_length);
+uint64_t sbc_listing(const uint8_t *job, uint64_t job_length, uint8_t *out, uint64_t out_length);
+
+/* Tells a refusal in words, one wording a refusal.
+ * refusal: its number, as sbc_refusal gives it.
+ * out: the words; SBC_PHRASE_MAX bytes are always enough. No zero byte ends them. The words of 11 end with "at place "
+ * and the place, which is the answer's value, belongs behind them. There are none for 0 and for a number that is no
+ * refusal.
+ * Answers how many bytes were written.
+ * Refusal: 13. */
+uint64_t sbc_phrase(uint64_t refusal, uint8_t *out, uint64_t out_length);
+
+/* The version of the library, and no answer: 10,000 times the major number, plus 100 times the minor number, plus the
+ * patch. 10000 is 1.0.0. */
+uint64_t sbc_version(void);
 
 #ifdef __cplusplus
 }

@@ -58,7 +58,23 @@ fn agree(what: &str, input: &[u8], ours: (u64, u64), out: &[u8], theirs: &Answer
 fn check(record: &[u8]) -> u64 {
     let ours = library::check(record);
     agree("check", record, ours, &[], &Answer { output: Vec::new(), ..reference::calls::check(record) });
+    let mut numbers = [0xa5; 8];
+    let answer = library::info(record, &mut numbers);
+    if let Ok(theirs) = reference::accept::load(record) {
+        let h = theirs.header();
+        let expected = [h.p, h.q, h.states - 1, h.m, h.a, h.k, h.start, 0xa5].map(|n| n as u8);
+        assert_eq!((answer, numbers), ((0, 7), expected), "info of {record:02x?}");
+    } else {
+        assert_eq!((answer, numbers), (ours, [0xa5; 8]), "info of {record:02x?}");
+    }
     ours.0
+}
+
+/// A call on a record that was accepted before does what the call that checks it does, but for refusals 9 and 10.
+fn same_if_accepted(what: &str, checking: ((u64, u64), &[u8]), checked: ((u64, u64), &[u8])) {
+    if checking.0 .0 != 9 && checking.0 .0 != 10 {
+        assert_eq!(checking, checked, "{what}");
+    }
 }
 
 /// A set of some records, some of them damaged, and the set sometimes damaged as a whole.
@@ -82,7 +98,10 @@ fn encode(numbers: &mut Numbers, record: &[u8], p: usize) -> u64 {
     }
     let mut out = vec![0xa5; numbers.below(56)];
     let theirs = reference::calls::encode(record, &blocks, out.len());
+    let mut again = out.clone();
+    let checked = library::encode_checked(record, &blocks, &mut again);
     let ours = library::encode(record, &blocks, &mut out);
+    same_if_accepted("encode", (ours, &out), (checked, &again));
     agree("encode", &blocks, ours, &out, &theirs);
     ours.0
 }
@@ -96,7 +115,10 @@ fn decode(numbers: &mut Numbers, record: &[u8], p: usize, q: usize) -> u64 {
     }
     let mut out = vec![0xa5; numbers.below(48)];
     let theirs = reference::calls::decode(record, &words, out.len());
+    let mut again = out.clone();
+    let checked = library::decode_checked(record, &words, &mut again);
     let ours = library::decode(record, &words, &mut out);
+    same_if_accepted("decode", (ours, &out), (checked, &again));
     agree("decode", &words, ours, &out, &theirs);
     ours.0
 }

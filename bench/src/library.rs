@@ -1,12 +1,16 @@
 //! The proved library's exported functions, behind safe ones.
 extern "C" {
-    fn sbc_check(record: *const u8, length: usize) -> u64;
-    fn sbc_set(set: *const u8, length: usize) -> u64;
-    fn sbc_encode(r: *const u8, rl: usize, blocks: *const u8, bl: usize, out: *mut u8, ol: usize) -> u64;
-    fn sbc_decode(r: *const u8, rl: usize, words: *const u8, wl: usize, out: *mut u8, ol: usize) -> u64;
-    fn sbc_compile(job: *const u8, jl: usize, out: *mut u8, ol: usize) -> u64;
-    fn sbc_compile_run_length(job: *const u8, jl: usize, out: *mut u8, ol: usize) -> u64;
-    fn sbc_listing(job: *const u8, jl: usize, out: *mut u8, ol: usize) -> u64;
+    fn sbc_check(record: *const u8, length: u64) -> u64;
+    fn sbc_set(set: *const u8, length: u64) -> u64;
+    fn sbc_encode(r: *const u8, rl: u64, blocks: *const u8, bl: u64, out: *mut u8, ol: u64) -> u64;
+    fn sbc_decode(r: *const u8, rl: u64, words: *const u8, wl: u64, out: *mut u8, ol: u64) -> u64;
+    fn sbc_encode_checked(r: *const u8, rl: u64, blocks: *const u8, bl: u64, out: *mut u8, ol: u64) -> u64;
+    fn sbc_decode_checked(r: *const u8, rl: u64, words: *const u8, wl: u64, out: *mut u8, ol: u64) -> u64;
+    fn sbc_info(r: *const u8, rl: u64, out: *mut u8, ol: u64) -> u64;
+    fn sbc_phrase(refusal: u64, out: *mut u8, ol: u64) -> u64;
+    fn sbc_compile(job: *const u8, jl: u64, out: *mut u8, ol: u64) -> u64;
+    fn sbc_compile_run_length(job: *const u8, jl: u64, out: *mut u8, ol: u64) -> u64;
+    fn sbc_listing(job: *const u8, jl: u64, out: *mut u8, ol: u64) -> u64;
 }
 
 /// An answer taken apart: the refusal's number (0 for a result) and the value.
@@ -18,37 +22,59 @@ pub fn parts(word: u64) -> (u64, u64) {
 
 /// Whether a record is accepted.
 pub fn check(record: &[u8]) -> (u64, u64) {
-    parts(unsafe { sbc_check(record.as_ptr(), record.len()) })
+    parts(unsafe { sbc_check(record.as_ptr(), record.len() as u64) })
 }
 
 /// Whether a set of records is good.
 pub fn set(set: &[u8]) -> (u64, u64) {
-    parts(unsafe { sbc_set(set.as_ptr(), set.len()) })
+    parts(unsafe { sbc_set(set.as_ptr(), set.len() as u64) })
 }
 
 /// Blocks recorded under a record.
 pub fn encode(record: &[u8], blocks: &[u8], out: &mut [u8]) -> (u64, u64) {
     let (r, b, o) = (record.as_ptr(), blocks.as_ptr(), out.as_mut_ptr());
-    parts(unsafe { sbc_encode(r, record.len(), b, blocks.len(), o, out.len()) })
+    parts(unsafe { sbc_encode(r, record.len() as u64, b, blocks.len() as u64, o, out.len() as u64) })
 }
 
 /// Words decoded under a record.
 pub fn decode(record: &[u8], words: &[u8], out: &mut [u8]) -> (u64, u64) {
     let (r, w, o) = (record.as_ptr(), words.as_ptr(), out.as_mut_ptr());
-    parts(unsafe { sbc_decode(r, record.len(), w, words.len(), o, out.len()) })
+    parts(unsafe { sbc_decode(r, record.len() as u64, w, words.len() as u64, o, out.len() as u64) })
+}
+
+/// Blocks recorded under a record that was accepted before.
+pub fn encode_checked(record: &[u8], blocks: &[u8], out: &mut [u8]) -> (u64, u64) {
+    let (r, b, o) = (record.as_ptr(), blocks.as_ptr(), out.as_mut_ptr());
+    parts(unsafe { sbc_encode_checked(r, record.len() as u64, b, blocks.len() as u64, o, out.len() as u64) })
+}
+
+/// Words decoded under a record that was accepted before.
+pub fn decode_checked(record: &[u8], words: &[u8], out: &mut [u8]) -> (u64, u64) {
+    let (r, w, o) = (record.as_ptr(), words.as_ptr(), out.as_mut_ptr());
+    parts(unsafe { sbc_decode_checked(r, record.len() as u64, w, words.len() as u64, o, out.len() as u64) })
+}
+
+/// The numbers of a record.
+pub fn info(record: &[u8], out: &mut [u8]) -> (u64, u64) {
+    parts(unsafe { sbc_info(record.as_ptr(), record.len() as u64, out.as_mut_ptr(), out.len() as u64) })
+}
+
+/// The words of a refusal.
+pub fn phrase(refusal: u64, out: &mut [u8]) -> (u64, u64) {
+    parts(unsafe { sbc_phrase(refusal, out.as_mut_ptr(), out.len() as u64) })
 }
 
 /// A job compiled to a record.
 pub fn compile(job: &[u8], out: &mut [u8]) -> (u64, u64) {
-    parts(unsafe { sbc_compile(job.as_ptr(), job.len(), out.as_mut_ptr(), out.len()) })
+    parts(unsafe { sbc_compile(job.as_ptr(), job.len() as u64, out.as_mut_ptr(), out.len() as u64) })
 }
 
 /// A run-length job compiled to a record.
 pub fn compile_run_length(job: &[u8], out: &mut [u8]) -> (u64, u64) {
-    parts(unsafe { sbc_compile_run_length(job.as_ptr(), job.len(), out.as_mut_ptr(), out.len()) })
+    parts(unsafe { sbc_compile_run_length(job.as_ptr(), job.len() as u64, out.as_mut_ptr(), out.len() as u64) })
 }
 
 /// The listing of a run-length job.
 pub fn listing(job: &[u8], out: &mut [u8]) -> (u64, u64) {
-    parts(unsafe { sbc_listing(job.as_ptr(), job.len(), out.as_mut_ptr(), out.len()) })
+    parts(unsafe { sbc_listing(job.as_ptr(), job.len() as u64, out.as_mut_ptr(), out.len() as u64) })
 }

@@ -94,6 +94,33 @@ fn decode(name: &str, job: [u8; 5]) {
     println!("  proved {ours:.1}; chains in Rust {rust:.1}, ratio {:.2}; plain loops in C {c:.1}, ratio {:.2}", rust / ours, c / ours);
 }
 
+/// Short calls under a record that was accepted before, by the calls that check it again and by those that do not.
+fn checked(name: &str, job: [u8; 5]) {
+    let record = record(job);
+    assert_eq!(library::check(&record), (0, 0), "the record of {name} is accepted");
+    let mut numbers = Numbers::new();
+    let blocks: Vec<u8> = (0..512).map(|_| numbers.below(1 << job[2]) as u8).collect();
+    let mut words = vec![0; 512 + 15];
+    let (done, written) = library::encode(&record, &blocks, &mut words);
+    assert_eq!(done, 0);
+    words.truncate(written as usize);
+    let (mut again, mut back) = (vec![0; words.len()], vec![0; 512]);
+    assert_eq!(library::encode_checked(&record, &blocks, &mut again), (0, written));
+    assert_eq!(library::decode_checked(&record, &words, &mut back), (0, 512));
+    assert!(again == words && back == blocks);
+    let (mut first, mut data) = (again.clone(), back.clone());
+    let calls = 20;
+    let t = medians(&mut [
+        &mut || (0..calls).for_each(|_| assert_eq!(library::encode(&record, &blocks, &mut first).0, 0)),
+        &mut || (0..calls).for_each(|_| assert_eq!(library::encode_checked(&record, &blocks, &mut again).0, 0)),
+        &mut || (0..calls).for_each(|_| assert_eq!(library::decode(&record, &words, &mut data).0, 0)),
+        &mut || (0..calls).for_each(|_| assert_eq!(library::decode_checked(&record, &words, &mut back).0, 0)),
+    ]);
+    let us = |i: usize| t[i] * 1e6 / f64::from(calls);
+    println!("512 blocks, {name}, us a call");
+    println!("  encode {:.1}, encode_checked {:.1}; decode {:.1}, decode_checked {:.1}", us(0), us(1), us(2), us(3));
+}
+
 fn compile() {
     println!("compile, ms a job");
     for job in [[2, 7, 4, 8, 16], [1, 13, 4, 6, 9]] {
@@ -117,4 +144,6 @@ pub fn all() {
     encode();
     decode("listed code", [0, 1, 2, 3, 2]);
     decode("2 7 4 8 16", [2, 7, 4, 8, 16]);
+    checked("listed code", [0, 1, 2, 3, 2]);
+    checked("1 13 4 6 9", [1, 13, 4, 6, 9]);
 }

@@ -2,7 +2,19 @@
 use crate::library;
 use std::process::{Command, Stdio};
 
-const CALLS: [&str; 7] = ["check", "encode", "decode", "compile", "compile_run_length", "listing", "set"];
+const CALLS: [&str; 11] = [
+    "check",
+    "encode",
+    "decode",
+    "encode_checked",
+    "decode_checked",
+    "info",
+    "phrase",
+    "compile",
+    "compile_run_length",
+    "listing",
+    "set",
+];
 
 /// The record, and the job that gives it, of the largest run-length code.
 const JOB: [u8; 5] = [2, 7, 4, 8, 16];
@@ -15,6 +27,10 @@ fn call(name: &str) -> (u64, u64) {
         "check" => library::check(&record),
         "encode" => library::encode(&record, &[1; 100], &mut out),
         "decode" => library::decode(&record, &[0; 100], &mut out),
+        "encode_checked" => library::encode_checked(&record, &[1; 100], &mut out),
+        "decode_checked" => library::decode_checked(&record, &[0; 100], &mut out),
+        "info" => library::info(&record, &mut out),
+        "phrase" => library::phrase(7, &mut out),
         "compile" => library::compile(&general(JOB), &mut out),
         "compile_run_length" => library::compile_run_length(&JOB, &mut out),
         "listing" => library::listing(&JOB, &mut out),

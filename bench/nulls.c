@@ -1,0 +1,45 @@
+/* Every call with NULL where it is lent no byte, and with no room: what each answers. It ends with status 0 and prints
+ * nothing if all is as written here.
+ * Build: gcc -std=c99 -O2 bench/nulls.c target/staticlib/libapi.a -o target/nulls
+ */
+#include "../include/sbc.h"
+#include <stdio.h>
+
+static int bad = 0;
+
+static void expect(const char *what, uint64_t answer, unsigned refusal, uint64_t value)
+{
+    if (sbc_refusal(answer) != refusal || sbc_value(answer) != value) {
+        printf("%s: refusal %u and not %u\n", what, sbc_refusal(answer), refusal);
+        bad = 1;
+    }
+}
+
+int main(void)
+{
+    const uint8_t job[] = {0, 1, 2, 3, 2};
+    const uint8_t word[] = {3};
+    uint8_t record[SBC_RECORD_MAX], out[SBC_PHRASE_MAX];
+    uint64_t r = sbc_value(sbc_compile_run_length(job, sizeof job, record, sizeof record));
+    expect("compile, no job", sbc_compile(NULL, 0, out, sizeof out), SBC_LENGTH, 0);
+    expect("run-length, no job", sbc_compile_run_length(NULL, 0, out, sizeof out), SBC_LENGTH, 0);
+    expect("run-length, no room", sbc_compile_run_length(job, sizeof job, NULL, 0), SBC_SHORT_OUTPUT, 0);
+    expect("listing, no job", sbc_listing(NULL, 0, out, sizeof out), SBC_LENGTH, 0);
+    expect("listing, no room", sbc_listing(job, sizeof job, NULL, 0), SBC_SHORT_OUTPUT, 0);
+    expect("check", sbc_check(NULL, 0), SBC_LENGTH, 0);
+    expect("set", sbc_set(NULL, 0), SBC_LENGTH, 0);
+    expect("encode, no record", sbc_encode(NULL, 0, NULL, 0, NULL, 0), SBC_LENGTH, 0);
+    expect("encode, no block", sbc_encode(record, r, NULL, 0, out, sizeof out), SBC_DONE, 1);
+    expect("encode, no room", sbc_encode(record, r, NULL, 0, NULL, 0), SBC_SHORT_OUTPUT, 0);
+    expect("decode, no word", sbc_decode(record, r, NULL, 0, NULL, 0), SBC_TOO_FEW_WORDS, 0);
+    expect("decode to no block", sbc_decode(record, r, word, sizeof word, NULL, 0), SBC_DONE, 0);
+    expect("encode_checked, no record", sbc_encode_checked(NULL, 0, NULL, 0, NULL, 0), SBC_LENGTH, 0);
+    expect("encode_checked, no block", sbc_encode_checked(record, r, NULL, 0, out, sizeof out), SBC_DONE, 1);
+    expect("decode_checked to no block", sbc_decode_checked(record, r, word, sizeof word, NULL, 0), SBC_DONE, 0);
+    expect("info, no record", sbc_info(NULL, 0, out, sizeof out), SBC_LENGTH, 0);
+    expect("info, no room", sbc_info(record, r, NULL, 0), SBC_SHORT_OUTPUT, 0);
+    expect("phrase, no room", sbc_phrase(SBC_NO_CODE, NULL, 0), SBC_SHORT_OUTPUT, 0);
+    expect("phrase of no refusal", sbc_phrase(SBC_DONE, NULL, 0), SBC_DONE, 0);
+    expect("phrase of a large number", sbc_phrase(~(uint64_t)0, NULL, 0), SBC_DONE, 0);
+    return bad;
+}
