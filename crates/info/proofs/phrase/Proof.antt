@@ -15,7 +15,7 @@ returns c =
     let fill = c .before .before in
     let put = fill .before .before .before .before in
     let a = put .before .before .before .args in
-    fill-same (now (a .out)) (added-whole (put .put-words .ensures) (words-short (a .number)) .0) (fill .fill .ensures)
+    fill-same (now (a .out)) (added-whole (put .put-words .ensures) (words-short _) .0) (fill .fill .ensures)
 
 pub phrase-spec : {M : Type 1} → statement M
 phrase-spec =

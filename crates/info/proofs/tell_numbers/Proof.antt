@@ -20,7 +20,7 @@ cast-t5 : tie.Need-cast-t5
 cast-t5 c = let r = range (c .before .before .before) .q₂ in omega arith
 
 sub-t6 : tie.Need-sub-t6
-sub-t6 c = range (c .before .before .before .before) .s₁
+sub-t6 c = let r = range (c .before .before .before .before) .s₁ in omega arith
 
 cast-t7 : tie.Need-cast-t7
 cast-t7 c = let r = range (c .before .before .before .before) .s₂ in omega arith
