@@ -6,10 +6,10 @@ ghost use Rattle.compiler.specs.Compile.{compileInto, compileJob, compil
 ghost use Rattle.job.specs.JobValues.{jobIn, JobReady};
 use crate::compiling::compile;
 use answer::Answer;
+use answer::Verdict;
 use job::JobValue;
 use job::reading::read_job;
 use job::reading::read_run_length;
-use answer::Verdict;
 use record::write;
 
 // The record of a job in the output.

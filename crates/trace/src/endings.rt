@@ -2,9 +2,9 @@
 ghost use Rattle.text.specs.Texts.{Added};
 ghost use Rattle.record.specs.Checks.{outcomeIn};
 ghost use Rattle.trace.specs.Lines.{windowLine, ending};
-use refusals::put_refusal_line;
 use answer::Verdict;
 use record::TableAnswer;
+use refusals::put_refusal_line;
 use text::put;
 use text::put_number;
 

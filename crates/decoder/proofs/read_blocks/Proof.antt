@@ -1,0 +1,79 @@
+-- Each turn writes one block.
+use mathlib.Core.Path.{_≡_, refl, ap, _∙_}
+use mathlib.Core.List.{_++_, map}
+use Prim.Native.Nat.{ℕ, _+_, _-_, _≤_}
+use native.Mathlib.Omega.{arith}
+use denote.Ref.{now}
+use lib.ListN.{length, drop, length-set}
+use Rattle.laws.specs.Lists.{range}
+use Rattle.table.specs.Edges.{arrays, rowsOf}
+use Rattle.reading.specs.Reading.{block}
+use Rattle.reading.specs.BlockParts.{under}
+use Rattle.laws.proofs.Arrays.{map-more}
+use borrow.Author.Needs.{needs}
+use Rattle.decoder.proofs.read_blocks.Statement.{statement}
+use Rattle.decoder.proofs.read_blocks.Tie as tie
+
+abbrev Inv-loop : tie.InvT-loop
+Inv-loop states n word next start order words m a count out₀ i₀ out i =
+    (i ≤ count) × (count ≤ length out₀) × (length out ≡ length out₀)
+    × (out ≡ map (block (under (rowsOf (arrays states n word next)) m a) words) (range i) ++ drop i out₀)
+
+abbrev μ-loop : tie.MeasureT-loop
+μ-loop states n word next start order words m a count out₀ i₀ out i = count - i
+
+abbrev blockAt : tie.Start Inv-loop μ-loop → ℕ → ℕ
+blockAt s =
+    let a = s .args in
+    block (under (rowsOf (arrays (a .states) (a .n) (now (a .word)) (now (a .next)))) (a .m) (a .a)) (now (a .words))
+
+loop-holds : tie.Need-loop-holds Inv-loop μ-loop
+loop-holds c = (omega arith, c .before .before .pre .2, refl, refl)
+
+read-block-requires : tie.Need-read-block-requires Inv-loop μ-loop
+read-block-requires c κs = search needs
+
+slice-write-out : tie.Need-slice-write-out Inv-loop μ-loop
+slice-write-out c = search needs
+
+add-i : tie.Need-add-i Inv-loop μ-loop
+add-i c = search needs
+
+loop-less : tie.Need-loop-less Inv-loop μ-loop
+loop-less c = search needs
+
+loop-again : tie.Need-loop-again Inv-loop μ-loop
+loop-again c =
+    let s = c .before .before .before .before .before in
+    let l = c .before .before .loop in (
+      omega arith,
+      l .inv .1,
+      length-set (l .out) (l .i) (c .read-block .result) ∙ l .inv .2,
+      map-more (blockAt s) (now (s .args .out)) (l .out) (l .i) (c .read-block .result) (l .inv .3)
+          (c .read-block .ensures) (omega arith),
+    )
+
+same-length : tie.Need-same-length Inv-loop μ-loop
+same-length c = c .before .loop .inv .2
+
+returns : tie.Need-returns Inv-loop μ-loop
+returns c =
+    let s = c .before .before .before .before in
+    let l = c .before .loop in
+    let e : l .i ≡ s .args .count = omega arith in
+    l .inv .3 ∙ ap (λ k. map (blockAt s) (range k) ++ drop k (now (s .args .out))) e
+
+pub read-blocks-spec : {M : Type 1} → statement M
+read-blocks-spec =
+    tie.close
+    (tie.spec
+    Inv-loop
+    μ-loop
+    loop-holds
+    read-block-requires
+    slice-write-out
+    add-i
+    loop-less
+    loop-again
+    same-length
+    returns)

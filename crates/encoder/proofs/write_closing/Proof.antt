@@ -1,0 +1,129 @@
+-- Each turn writes the word of datum 0 and steps to its next state.
+use mathlib.Core.Path.{_≡_, sym}
+use mathlib.Core.List.{List}
+use Prim.Native.Nat.{ℕ, _+_, _-_, _*_, _≤_, _<_}
+use native.Mathlib.Omega.{arith}
+use denote.Ref.{now}
+use lib.ListN.{length, getD, take, replicate, length-replicate, getD-replicate, take-append-drop}
+use lib.Seq.{length-take-le}
+use Rattle.table.specs.Edges.{Arrays, arrays, nextOf}
+use Rattle.table.proofs.RowsOf.{place-next}
+use Rattle.codec.proofs.Writing.{Writes, writes-start, writes-more, writes-end}
+use borrow.Author.Needs.{needs}
+use Rattle.encoder.proofs.write_closing.Statement.{statement}
+use Rattle.encoder.proofs.write_closing.Tie as tie
+
+abbrev Inv-loop : tie.InvT-loop
+Inv-loop states n word next state at end out₀ s₀ i₀ out s i =
+    (at ≤ i) × (i ≤ end) × (end ≤ length out₀)
+    × Writes (arrays states n word next) (take at out₀) state (replicate (end - at) 0) out₀ (i - at) i s out
+
+abbrev μ-loop : tie.MeasureT-loop
+μ-loop states n word next state at end out₀ s₀ i₀ out s i = end - i
+
+abbrev table : tie.Start Inv-loop μ-loop → Arrays
+table s = arrays (s .args .states) (s .args .n) (now (s .args .word)) (now (s .args .next))
+
+-- the bytes in front, and the data
+abbrev front : tie.Start Inv-loop μ-loop → List ℕ
+front s = take (s .args .at) (now (s .args .out))
+
+abbrev zeros : tie.Start Inv-loop μ-loop → List ℕ
+zeros s = replicate (s .args .end - s .args .at) 0
+
+-- the datum in hand is 0, and where its edge leads
+datum-0 : (c : tie.In-loop Inv-loop μ-loop) → getD (zeros (c .before .before))
+    (c .before .loop .i - c .before .before .args .at) 0 ≡ 0
+datum-0 c =
+    let a = c .before .before .args in
+    getD-replicate {A = ℕ} (a .end - a .at) (c .before .loop .i - a .at) 0 0 (omega arith)
+
+next-small : (c : tie.In-loop Inv-loop μ-loop) → nextOf (table (c .before .before))
+    (c .before .loop .s * 16) < c .before .before .args .states
+next-small c =
+    let s = c .before .before in
+    let l = c .before .loop in
+    let e : l .s * 16 + 0 ≡ l .s * 16 = omega arith in
+    rw e at (place-next (table s) (l .s) 0 (s .pre .0) (l .inv .3 .inside) (s .pre .1))
+
+loop-holds : tie.Need-loop-holds Inv-loop μ-loop
+loop-holds c =
+    let a = c .args in
+    let z : a .at - a .at ≡ 0 = omega arith in (
+      omega arith,
+      c .pre .3,
+      c .pre .4,
+      rw z (writes-start (table c) (front c) (a .state) (zeros c) (now (a .out)) (a .at)
+          (length-take-le (a .at) (now (a .out)) (omega arith)) (c .pre .2)
+          (sym (take-append-drop (a .at) (now (a .out))))),
+    )
+
+mul-first : tie.Need-mul-first Inv-loop μ-loop
+mul-first c = omega (arith, c .before .loop .inv .3 .inside, c .before .before .pre .0 .few)
+
+element-copy-out-out : tie.Need-element-copy-out-out Inv-loop μ-loop
+element-copy-out-out c = omega (arith, c .before .loop .inv .3 .inside, c .before .before .pre .0 .few)
+
+slice-write-out : tie.Need-slice-write-out Inv-loop μ-loop
+slice-write-out c = omega (arith, c .before .before .loop .inv .3 .long)
+
+element-copy-out-s : tie.Need-element-copy-out-s Inv-loop μ-loop
+element-copy-out-s c =
+    omega (arith, c .before .before .loop .inv .3 .inside, c .before .before .before .pre .0 .few)
+
+cast-s : tie.Need-cast-s Inv-loop μ-loop
+cast-s c =
+    omega (arith, c .before .before .before .before .pre .0 .few, next-small (c .before .before))
+
+add-i : tie.Need-add-i Inv-loop μ-loop
+add-i c = search needs
+
+loop-less : tie.Need-loop-less Inv-loop μ-loop
+loop-less c = search needs
+
+loop-again : tie.Need-loop-again Inv-loop μ-loop
+loop-again c =
+    let s = c .before .before .before .before in
+    let a = s .args in
+    let l = c .before .before .before .loop in
+    let z = datum-0 (c .before .before) in
+    let d : getD (zeros s) (l .i - a .at) 0 < a .n = omega (arith, s .pre .1) in
+    let e : l .s * 16 ≡ l .s * 16 + getD (zeros s) (l .i - a .at) 0 = omega arith in
+    let k : l .i - a .at < length (zeros s) = rw (length-replicate {A = ℕ} (a .end - a .at) 0) (omega arith) in
+    let q : l .i + 1 - a .at ≡ l .i - a .at + 1 = omega arith in (
+      omega arith,
+      omega arith,
+      l .inv .2,
+      writes-more (table s) (front s) (a .state) (zeros s) (now (a .out)) (l .i - a .at) (l .i) (l .s) (l .out)
+          (l .inv .3)
+          (s .pre .0) (l .i + 1 - a .at) (l .s * 16) q e k d (omega arith),
+    )
+
+same-length : tie.Need-same-length Inv-loop μ-loop
+same-length c = c .before .loop .inv .3 .long
+
+returns : tie.Need-returns Inv-loop μ-loop
+returns c =
+    let s = c .before .before in
+    let a = s .args in
+    let l = c .before .loop in
+    λ d e. rw e (writes-end (table s) (front s) (a .state) (zeros s) (now (a .out)) (l .i - a .at) (l .i) (l .s)
+    (l .out) (l .inv .3) (a .end) (omega arith) (rw (length-replicate {A = ℕ} (a .end - a .at) 0) (omega arith)) .1)
+
+pub write-closing-spec : {M : Type 1} → statement M
+write-closing-spec =
+    tie.close
+    (tie.spec
+    Inv-loop
+    μ-loop
+    loop-holds
+    mul-first
+    element-copy-out-out
+    slice-write-out
+    element-copy-out-s
+    cast-s
+    add-i
+    loop-less
+    loop-again
+    same-length
+    returns)
