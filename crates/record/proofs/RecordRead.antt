@@ -4,10 +4,10 @@
 use mathlib.Core.Path.{_≡_, refl, sym, ap, ap₂, subst, _∙_}
 use mathlib.Core.Bool.{_&&_}
 use mathlib.Core.List.{List, [], _∷_}
-use Prim.Native.Nat.{ℕ, _+_, _*_, _-_, _^_, _≤_, _<_}
+use Prim.Native.Nat.{ℕ, _+_, _*_, _-_, _^_, _≤_}
 use native.Mathlib.Nat.{le-refl}
 use native.Mathlib.Omega.{arith}
-use lib.Dec.{T, ltb, leb, eqb, eqb→eq, le→leb, lt→ltb}
+use lib.Dec.{T, leb, eqb, eqb→eq}
 use lib.ListN.{length, drop, replicate}
 use Rattle.answer.specs.declared.Refusal.the-variants.{Field, Length}
 use Rattle.answer.specs.Outcomes.{done, unless}
@@ -29,6 +29,7 @@ use Rattle.record.proofs.RecordAgain.{tail-again, head-again}
 use Rattle.laws.proofs.Lists.{sum-replicate}
 use Rattle.bits.proofs.Puts.{length-bitsOf}
 use Rattle.record.proofs.RecordFits.{sum-widths}
+use Rattle.record.proofs.RecordReading.{head-range}
 use Rattle.answer.proofs.Outcomes.{done-inj, unless→}
 
 -- seven fields in front and the others behind
@@ -61,21 +62,7 @@ module _ (p q s m a k z : ℕ) (t : List ℕ)
       ∙ ap₂ (λ x y. p ∷ q ∷ x ∷ m ∷ a ∷ y ∷ z ∷ t) es ek
 
   in-range : T (goodHead h) → T (inRange h)
-  in-range w =
-      let (wp, w₁) = and→ (leb 1 p && leb p 4) _ w in
-      let (wq, wz) = and→ (leb 1 q && leb q 8) (ltb z (k + 1)) w₁ in
-      let hs : s < 128 = f .1 .1 .0 in
-      let hm : m < 16 = f .1 .1 .1 .0 in
-      let ha : a < 16 = f .1 .1 .1 .1 .0 in
-      let hk : k < 16 = f .1 .1 .1 .1 .1 .0 in
-      →and (leb 1 p && leb p 4) _ wp (→and (leb 1 q && leb q 8) _ wq
-      (→and (leb 1 (s + 1) && leb (s + 1) 128) _
-      (→and (leb 1 (s + 1)) (leb (s + 1) 128) (le→leb 1 (s + 1) (omega arith))
-      (le→leb (s + 1) 128 (omega arith)))
-      (→and (ltb m 16) _ (lt→ltb m 16 hm) (→and (ltb a 16) _ (lt→ltb a 16 ha)
-      (→and (leb 1 (k + 1) && leb (k + 1) 16) (ltb z (k + 1))
-      (→and (leb 1 (k + 1)) (leb (k + 1) 16) (le→leb 1 (k + 1) (omega arith))
-      (le→leb (k + 1) 16 (omega arith))) wz)))))
+  in-range = head-range vs (f .1 .1 .0) (f .1 .1 .1 .0) (f .1 .1 .1 .1 .0) (f .1 .1 .1 .1 .1 .0)
 
   formed-again : T (goodHead h) → T (formed (codeOf h vs))
   unfolding formed

@@ -1,18 +1,18 @@
 -- A record read check by check: the header's numbers are in range, and what each check comes to.
--- In order: below-bytes, ranges-of, ranges-in; good-not; checked-short, checked-front, checked-length, checked-rest,
+-- In order: below-bytes, head-range, ranges-in; good-not; checked-short, checked-front, checked-length, checked-rest,
 -- checked-good.
 -- Assumes nothing.
 use mathlib.Core.Path.{_≡_, sym, ap, subst, _∙_}
 use mathlib.Core.Bool.{Bool, true, false, _&&_}
 use mathlib.Core.List.{List}
-use Prim.Native.Nat.{ℕ, _^_, _<_}
+use Prim.Native.Nat.{ℕ, _^_, _≤_, _<_}
 use native.Mathlib.Omega.{arith}
-use lib.Dec.{T, leb, ltb, eqb, leb→le, ltb→lt, lit<}
+use lib.Dec.{T, leb, ltb, eqb, le→leb, lt→ltb, lit<}
 use lib.ListN.{length, getD, take, drop, replicate}
 use Rattle.laws.specs.Lists.{sum}
 use Rattle.laws.specs.Sums.{Below}
 use Rattle.laws.proofs.Lists.{below-drop}
-use Rattle.laws.proofs.Tests.{and→}
+use Rattle.laws.proofs.Tests.{and→, →and}
 use Rattle.laws.proofs.Totals.{never}
 use Rattle.answer.specs.declared.Refusal.{Refusal}
 use Rattle.answer.specs.declared.Refusal.the-variants.{Field, Length}
@@ -22,7 +22,8 @@ use Rattle.answer.proofs.Outcomes.{unless-false}
 use Rattle.bits.specs.Fields.{read, bitsOf}
 use Rattle.bits.proofs.Fields.{read-at, below-write}
 use Rattle.table.specs.declared.Head.{Head}
-use Rattle.table.specs.Formed.{Ranges}
+use Rattle.table.specs.Formed.{inRange, Ranges}
+use Rattle.table.proofs.Formed.{ranges}
 use Rattle.record.specs.Layout.{header, headOf, size}
 use Rattle.record.specs.Parse.{goodHead}
 use Rattle.record.specs.Checks.{codeAt, restGood, fieldsGood, fieldsChecked}
@@ -38,31 +39,26 @@ read-lt bs b ws i h =
 pub below-bytes : (xs : List ℕ) → Below 2 (bitsOf xs)
 below-bytes xs = below-write (replicate (length xs) 8) xs
 
--- what the header's widths and its check leave
-pub ranges-of : (bs : List ℕ) → Below 2 bs → T (goodHead (headOf (read header bs))) → Ranges (headOf (read header bs))
-ranges-of bs b g =
-    let h = headOf (read header bs) in
+-- the header's numbers are in range by its widths and its check
+pub head-range : (vs : List ℕ) → getD vs 2 0 < 128 → getD vs 3 0 < 16 → getD vs 4 0 < 16 → getD vs 5 0 < 16
+    → T (goodHead (headOf vs)) → T (inRange (headOf vs))
+head-range vs hs hm ha hk g =
+    let h = headOf vs in
     let (gp, g₁) = and→ (leb 1 (h .p) && leb (h .p) 4) _ g in
     let (gq, gz) = and→ (leb 1 (h .q) && leb (h .q) 8) (ltb (h .start) (h .count)) g₁ in
-    let (p₁, p₂) = and→ (leb 1 (h .p)) (leb (h .p) 4) gp in
-    let (q₁, q₂) = and→ (leb 1 (h .q)) (leb (h .q) 8) gq in
-    let s : getD (read header bs) 2 0 < 128 = read-lt bs b header 2 (lit< tt) in
-    let m : getD (read header bs) 3 0 < 16 = read-lt bs b header 3 (lit< tt) in
-    let a : getD (read header bs) 4 0 < 16 = read-lt bs b header 4 (lit< tt) in
-    let k : getD (read header bs) 5 0 < 16 = read-lt bs b header 5 (lit< tt) in
-    record {
-      p₁ = leb→le _ _ p₁;
-      p₂ = leb→le _ _ p₂;
-      q₁ = leb→le _ _ q₁;
-      q₂ = leb→le _ _ q₂;
-      s₁ = omega arith;
-      s₂ = omega arith;
-      m = m;
-      a = a;
-      k₁ = omega arith;
-      k₂ = omega arith;
-      start = ltb→lt _ _ gz;
-    }
+    →and (leb 1 (h .p) && leb (h .p) 4) _ gp (→and (leb 1 (h .q) && leb (h .q) 8) _ gq
+    (→and (leb 1 (h .states) && leb (h .states) 128) _ (within (h .states) 128 (omega arith) (omega arith))
+    (→and (ltb (h .memory) 16) _ (lt→ltb (h .memory) 16 hm) (→and (ltb (h .lookahead) 16) _
+    (lt→ltb (h .lookahead) 16 ha) (→and (leb 1 (h .count) && leb (h .count) 16) (ltb (h .start) (h .count))
+    (within (h .count) 16 (omega arith) (omega arith)) gz)))))
+  where
+    within : (x n : ℕ) → 1 ≤ x → x ≤ n → T (leb 1 x && leb x n)
+    within x n a b = →and (leb 1 x) (leb x n) (le→leb 1 x a) (le→leb x n b)
+
+ranges-of : (bs : List ℕ) → Below 2 bs → T (goodHead (headOf (read header bs))) → Ranges (headOf (read header bs))
+ranges-of bs b g =
+    ranges (headOf (read header bs)) (head-range (read header bs) (read-lt bs b header 2 (lit< tt))
+    (read-lt bs b header 3 (lit< tt)) (read-lt bs b header 4 (lit< tt)) (read-lt bs b header 5 (lit< tt)) g)
 
 -- the same of the header of bytes
 pub ranges-in : (xs : List ℕ) (h : Head) → h ≡ headOf (read header (bitsOf xs)) → goodHead h ≡ true → Ranges h
