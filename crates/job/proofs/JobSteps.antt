@@ -20,6 +20,7 @@ use Rattle.constraint.specs.declared.Constraint.{Constraint}
 use Rattle.constraint.specs.Value.{constraintOf}
 use Rattle.constraint.proofs.Values.{length-constraintOf}
 use Rattle.table.specs.Formed.{goodNext}
+use Rattle.table.proofs.ReadyTables.{all-map}
 use Rattle.job.specs.declared.JobValue.{JobValue}
 use Rattle.job.specs.Jobs.{Job, goodParameters, statesOf, readJob, readRunLength, Allowed}
 use Rattle.job.specs.JobValues.{jobIn, JobReady, stateAt, goodStateAt}
@@ -41,10 +42,6 @@ states-from (suc K) i xs =
 
 pub statesOf-is : (K : ℕ) (xs : List ℕ) → statesOf K (drop 4 xs) ≡ map (stateAt xs) (range K)
 statesOf-is K xs = states-from K 0 xs
-
-all-map : {A B : Type 0} (p : B → Bool) (f : A → B) (l : List A) → all p (map f l) ≡ all (λ x. p (f x)) l
-all-map p f [] = refl
-all-map p f (x ∷ l) = ap (_&&_ (p (f x))) (all-map p f l)
 
 states-test : (K : ℕ) (xs : List ℕ) → all (goodNext K) (statesOf K (drop 4 xs)) ≡ all (goodStateAt xs K) (range K)
 states-test K xs = ap (all (goodNext K)) (statesOf-is K xs) ∙ all-map (goodNext K) (stateAt xs) (range K)

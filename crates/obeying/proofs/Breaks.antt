@@ -1,19 +1,17 @@
 -- Where the test of obeying fails, some recording breaks the constraint.
--- In order: some-fails, at-range, in-range; Bad; bad-step, bad-start; breaks; breaks-exact.
+-- In order: some-fails, below-fails; Bad, bad-back, bad-start; breaks-exact.
 -- Assumes nothing.
-use mathlib.Core.Path.{_≡_, refl, sym, ap, subst, subst₂, _∙_}
-use mathlib.Core.Logic.{_⊎_, inl, inr, _↔_}
+use mathlib.Core.Path.{_≡_, refl, sym, ap, subst, _∙_}
+use mathlib.Core.Logic.{_↔_}
 use mathlib.Core.Bool.{Bool, true, false, not, _&&_, _||_}
 use mathlib.Core.List.{List, [], _∷_}
-use Prim.Native.Nat.{ℕ, suc, _*_, _^_, _≤_, _<_, zero-le, suc-le-suc}
+use Prim.Native.Nat.{ℕ, suc, _^_, _≤_, _<_, zero-le, suc-le-suc}
 use native.Mathlib.Omega.{arith}
 use lib.Dec.{T, eqb, eqb→eq}
 use lib.ListN.{length, getD, replicate}
-use Rattle.laws.specs.Lists.{range, all, any}
-use Rattle.laws.specs.Sets.{Pairs, has, grid}
-use Rattle.laws.proofs.Tests.{and→, or→, any→, any-below→, length-from, range-at}
-use Rattle.laws.proofs.Settle.{iterate-keeps}
-use Rattle.laws.proofs.Grids.{grid→}
+use Rattle.laws.specs.Lists.{range, all}
+use Rattle.laws.specs.Sets.{has}
+use Rattle.laws.proofs.Tests.{length-from, range-at}
 use Rattle.constraint.specs.Walking.{none, walk}
 use Rattle.constraint.specs.Follow.{Finds, channel}
 use Rattle.constraint.proofs.Follow.{finds-split, channel-append}
@@ -22,8 +20,9 @@ use Rattle.table.specs.Paths.{Path, spells, ends}
 use Rattle.table.specs.Formed.{Formed}
 use Rattle.table.proofs.Shape.{full, targets}
 use Rattle.table.proofs.Paths.{spells-append, path→blocks}
-use Rattle.obeying.specs.Obeys.{Breaks, carries, arrive, reachMore, reachedPairs, reachedFrom, finds, obeys}
+use Rattle.obeying.specs.Obeys.{Breaks, reachedPairs, finds, obeys}
 use Rattle.obeying.proofs.Reached.{Obey}
+use Rattle.obeying.proofs.AnyClosure.{reached-in}
 use Rattle.obeying.proofs.Exact.{finds→obey, obeys-exact}
 
 -- a test over a list that fails fails somewhere
@@ -57,50 +56,13 @@ abbrev Bad : Code → ℕ → ℕ → Type 0
 Bad c s k = (xs : List ℕ) × Path (c .table) s xs × (Obey c s k xs → ⊥)
 
 module _ (c : Code) where
-  -- from a pair of P such a path goes back to one from the start
-  Back : Pairs → Type 0
-  Back P = (s k : ℕ) → T (has P s k) → Bad c s k → Bad c 0 (c .start)
-
-  bad-edge : (P : Pairs) → Back P → (t k s j x : ℕ) → T (has P s j) → x < length (edges (c .table) s)
-      → at (c .table) s x .next ≡ t → walk (c .constraint) (c .q) (at (c .table) s x .word) j ≡ k
-      → Bad c t k → Bad c 0 (c .start)
-  unfolding Back
-  bad-edge P f t k s j x a i et ek b = f s j a (front (subst₂ (λ t k. Bad c t k) (sym et) (sym ek) b))
-    where
-      front : Bad c (at (c .table) s x .next) (walk (c .constraint) (c .q) (at (c .table) s x .word) j) → Bad c s j
-      front (xs, p, n) = (x ∷ xs, (i, p), λ (_, o). n o)
-
-  back-step : (P : Pairs) → Back P → Back (reachMore c P)
-  unfolding Back
-  back-step P f t k u =
-      go (or→ (has P t k) (arrive c P t k)
-      (grid→ (length (c .table)) (length (c .constraint)) (reachedFrom c P) t k u .2))
-    where
-      go : T (has P t k) ⊎ T (arrive c P t k) → Bad c t k → Bad c 0 (c .start)
-      go (inl v) = f t k v
-      go (inr v) =
-          let (s, hs, v₁) = any-below→ _ (length (c .table)) v in
-          let (j, hj, v₂) = any-below→ _ (length (c .constraint)) v₁ in
-          let (a, b) = and→ (has P s j) (any (carries c t k j) (edges (c .table) s)) v₂ in
-          let (x, i, w) = any→ (carries c t k j) (edge 0 0) (edges (c .table) s) b in
-          let (y, z) = and→ (eqb (at (c .table) s x .next) t)
-          (eqb (walk (c .constraint) (c .q) (at (c .table) s x .word) j) k) w in
-          bad-edge P f t k s j x a i (eqb→eq (at (c .table) s x .next) t y)
-          (eqb→eq (walk (c .constraint) (c .q) (at (c .table) s x .word) j) k z)
-
-  back-all : Back (reachedPairs c)
-  unfolding Back
-  back-all = iterate-keeps (reachMore c) Back back-step (length (c .table) * length (c .constraint))
-      (grid (length (c .table)) (length (c .constraint)) (λ t k. eqb t 0 && eqb k (c .start))) start
-    where
-      start : Back (grid (length (c .table)) (length (c .constraint)) (λ t k. eqb t 0 && eqb k (c .start)))
-      start s k u b =
-          let (x, y) = and→ (eqb s 0) (eqb k (c .start))
-          (grid→ (length (c .table)) (length (c .constraint)) (λ t k. eqb t 0 && eqb k (c .start)) s k u .2) in
-          subst₂ (λ s k. Bad c s k) (eqb→eq s 0 x) (eqb→eq k (c .start) y) b
+  -- from a reached pair such a path goes back to one from the start
+  bad-back : (s k : ℕ) → T (has (reachedPairs c) s k) → Bad c s k → Bad c 0 (c .start)
+  bad-back = reached-in c (λ s k. Bad c s k → Bad c 0 (c .start)) (λ b. b)
+      (λ s k x f a h (xs, p, n). f (x ∷ xs, (a, p), λ (_, o). n o))
 
   bad-start : obeys c ≡ false → Bad c 0 (c .start)
-  unfolding obeys Back
+  unfolding obeys
   bad-start e =
       let P = reachedPairs c in
       let (s, _, e₁) = below-fails _ (length (c .table)) e in
@@ -109,7 +71,7 @@ module _ (c : Code) where
       let (x, h, e₄) = some-fails (finds c k) (edge 0 0) (edges (c .table) s) e₃ in
       let z = eqb→eq (walk (c .constraint) (c .q) (at (c .table) s x .word) k) none
       (not-fails (eqb (walk (c .constraint) (c .q) (at (c .table) s x .word) k) none) e₄) in
-      back-all s k u (x ∷ [], (h, tt), λ (n, _). n z)
+      bad-back s k u (x ∷ [], (h, tt), λ (n, _). n z)
 
 -- the test fails exactly where some recording breaks the constraint
 pub breaks-exact : (c : Code) → Formed c → (obeys c ≡ false) ↔ Breaks c

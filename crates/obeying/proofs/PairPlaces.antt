@@ -15,6 +15,7 @@ use lib.Pow.{pow-mono}
 use Rattle.laws.specs.Lists.{if_then_else_}
 use Rattle.laws.specs.Sets.{has}
 use Rattle.laws.proofs.Tests.{bool-eq, all-below→, →all-below}
+use Rattle.laws.proofs.Places.{quotient-of, remainder-of}
 use Rattle.constraint.specs.Walking.{none, walk}
 use Rattle.constraint.specs.Value.{constraintOf}
 use Rattle.constraint.specs.PowerTable.{powerCodes}
@@ -56,17 +57,11 @@ pair-some : (t : Table) (s k d : ℕ) → (stateOf t s k d ≡ none → ⊥)
 pair-some t s k d e = rw (ne-eqb (stateOf t s k d) none e)
 
 -- the place of s and k
-div-at : (s k : ℕ) → k < 16 → (s * 16 + k) / 16 ≡ s
-div-at s k h = omega arith
-
-mod-at : (s k : ℕ) → k < 16 → (s * 16 + k) % 16 ≡ k
-mod-at s k h = omega arith
-
 state-at : (t : Table) (s k d : ℕ) → k < 16 → stateAfter (t .word) (powerIn t) (s * 16 + k) d ≡ stateOf t s k d
-state-at t s k d h = ap₂ (λ s k. stateOf t s k d) (div-at s k h) (mod-at s k h)
+state-at t s k d h = ap₂ (λ s k. stateOf t s k d) (quotient-of 16 s k h) (remainder-of 16 s k h)
 
 pair-at : (t : Table) (s k d : ℕ) → k < 16 → placeAfter t (s * 16 + k) d ≡ pairOf t s k d
-pair-at t s k d h = ap₂ (λ s k. pairOf t s k d) (div-at s k h) (mod-at s k h)
+pair-at t s k d h = ap₂ (λ s k. pairOf t s k d) (quotient-of 16 s k h) (remainder-of 16 s k h)
 
 module _ (t : Table) (h : Followable t) where
   count : length (constraintOf (t .constraint)) ≡ t .constraint .states

@@ -1,6 +1,6 @@
 -- Laws of a set of places and the list of its members, to which the places that edges lead to are added until all
 -- members have been followed.
--- In order: member-lt, member-put; absent-put, absent-blank; queue-blank, queue-room, queue-put, queue-same;
+-- In order: member-put; absent-put, absent-blank; queue-blank, queue-room, queue-put, queue-same;
 -- grown-none, grown-more; Reaching, reach-start, reach-more, reach-done, reach-fail, reach-test.
 -- Assumes nothing.
 use mathlib.Core.Path.{_≡_, refl, sym, ap, subst, _∙_}
@@ -10,24 +10,18 @@ use mathlib.Core.List.{List, [], _∷_}
 use Prim.Native.Nat.{ℕ, zero, suc, _+_, _≤_, _<_}
 use native.Mathlib.Nat.{not-suc-le-zero, le-of-suc-le-suc}
 use native.Mathlib.Omega.{arith}
-use native.Mathlib.Decide.{decLt, ℕ-discrete}
+use native.Mathlib.Decide.{ℕ-discrete}
 use borrow.Author.Count.{below-more}
 use lib.Dec.{T}
-use lib.ListN.{length, getD, set, length-set, replicate, length-replicate, List·getD-eq-default}
+use lib.ListN.{length, getD, set, length-set, replicate, length-replicate}
 use lib.Seq.{getD-set-same, getD-set-other}
 use Rattle.laws.specs.Lists.{range, all}
 use Rattle.laws.specs.Sets.{member}
+use Rattle.laws.proofs.Members.{member-lt, member-blank}
 use Rattle.obeying.specs.Obeying.{Reached, absent, Queue, Grown, Followed}
 use Rattle.obeying.specs.Obeying.Reached.{origin, carried}
 
 -- ---- members
-pub member-lt : (S : List Bool) (x : ℕ) → T (member S x) → x < length S
-member-lt S x u = go (decLt x (length S))
-  where
-    go : Dec (x < length S) → x < length S
-    go (yes h) = h
-    go (no h) = absurd (subst T (List·getD-eq-default S false {n = x} (omega arith)) u)
-
 pub member-put : (S : List Bool) (y : ℕ) → y < length S → T (member (set S y true) y)
 member-put S y h = rw (getD-set-same S y true false h) tt
 
@@ -55,10 +49,8 @@ pub absent-blank : (k : ℕ) → absent (replicate k false) ≡ k
 absent-blank zero = refl
 absent-blank (suc k) = omega (arith, absent-blank k)
 
-member-blank : (k x : ℕ) → T (member (replicate k false) x) → ⊥
-member-blank zero x u = u
-member-blank (suc k) zero u = u
-member-blank (suc k) (suc x) u = member-blank k x u
+blank-none : (k x : ℕ) → T (member (replicate k false) x) → ⊥
+blank-none k x u = absurd (subst T (member-blank k x) u)
 
 -- ---- a place put into the set and at the end of the list
 pub queue-blank : Queue (replicate 2048 false) (replicate 2048 0) 0
@@ -67,7 +59,7 @@ queue-blank = record {
   room = length-replicate {A = ℕ} 2048 0;
   count = absent-blank 2048;
   listed = λ j h. absurd (not-suc-le-zero h);
-  every = λ x u. absurd (member-blank 2048 x u);
+  every = λ x u. absurd (blank-none 2048 x u);
 }
 
 module _ (S : List Bool) (L : List ℕ) (m : ℕ) (w : Queue S L m) (y : ℕ) where
@@ -166,18 +158,13 @@ module _ (f : ℕ → ℕ → ℕ) (n start : ℕ) where
     begins = first .added 0 (omega arith) h;
     closed = λ j a. absurd (not-suc-le-zero a);
     only = λ x u. elim (first .only x u) [
-      | inl v ↦ absurd (member-blank 2048 x v)
+      | inl v ↦ absurd (blank-none 2048 x v)
       | inr (d, a, e) ↦ subst (Reached f n start) e origin
     ];
   }
     where
       blank : member (replicate 2048 false) start ≡ false
-      blank = none 2048 start
-        where
-          none : (k x : ℕ) → member (replicate k false) x ≡ false
-          none zero x = refl
-          none (suc k) zero = refl
-          none (suc k) (suc x) = none k x
+      blank = member-blank 2048 start
 
       first : Grown (λ d. start) 1 (replicate 2048 false) (replicate 2048 0) 0
           (set (replicate 2048 false) start true) (set (replicate 2048 0) 0 start) 1

@@ -22,7 +22,7 @@ use Rattle.table.specs.Edges.{Arrays, edgeOf, rowsOf, places, isEdge, wordOf, n
 use Rattle.table.proofs.Marks.{found, some-at, Left, left-start}
 use Rattle.table.proofs.Edges.{bears-edge, bears-word}
 use Rattle.table.proofs.RowsOf.{length-rows, row-long, edge-at, place, place-state, place-lt, place-edge, place-next}
-use Rattle.table.proofs.EqualGrids.{map-same}
+use Rattle.laws.proofs.Ranges.{map-range-same}
 use Rattle.stepping.specs.StateSets.{everyState, oneState, leadsBy, leads, reachable, along, enters, back}
 use Rattle.stepping.specs.StateSets.{statesIn}
 
@@ -34,7 +34,7 @@ member-states n A x h = map-range-at (member A) n x false h
 pub states-same : (n : ℕ) (A : List Bool) (f : ℕ → Bool) → ((x : ℕ) → x < n → member A x ≡ f x)
     → statesIn n A ≡ map f (range n)
 unfolding statesIn
-states-same n A f h = map-same (member A) f n h
+states-same n A f h = map-range-same (member A) f n h
 
 module _ (n k : ℕ) (t : Rows) (e : length t ≡ n) (h : n ≤ k) where
   pub states-every : statesIn n (replicate k true) ≡ everyState t

@@ -12,7 +12,8 @@ use Rattle.laws.proofs.Tests.{map-range-at}
 use Rattle.table.specs.Rows.{Rows}
 use Rattle.windows.specs.Works.{meet, into, entering, reversed}
 use Rattle.windows.proofs.Same.{has-into}
-use Rattle.table.proofs.EqualGrids.{map-same, grid-same, has-grid}
+use Rattle.laws.proofs.Ranges.{map-range-same}
+use Rattle.table.proofs.EqualGrids.{grid-same, has-grid}
 use Rattle.windows.specs.PairSets.{pairsIn}
 
 -- ---- an array
@@ -30,10 +31,10 @@ module _ (g : Rows) (Q : Pairs) where
   pub into-grid : into (reversed g) Q ≡ grid (length g) (length g) (has (into (reversed g) Q))
   into-grid =
       map-map (λ es. map (meet Q es) (reversed g)) (entering g) (range (length g))
-      ∙ map-same (λ s. map (meet Q (entering g s)) (reversed g))
+      ∙ map-range-same (λ s. map (meet Q (entering g s)) (reversed g))
       (λ s. map (has (into (reversed g) Q) s) (range (length g))) (length g)
       (λ s hs. map-map (meet Q (entering g s)) (entering g) (range (length g))
-      ∙ map-same (λ u. meet Q (entering g s) (entering g u)) (has (into (reversed g) Q) s) (length g)
+      ∙ map-range-same (λ u. meet Q (entering g s) (entering g u)) (has (into (reversed g) Q) s) (length g)
       (λ u hu. sym (has-into (reversed g) Q s u
       ∙ ap₂ (meet Q) (map-range-at (entering g) (length g) s [] hs)
       (map-range-at (entering g) (length g) u [] hu))))

@@ -18,7 +18,8 @@ use Rattle.table.specs.Rows.{Rows}
 use Rattle.windows.specs.Works.{into, reversed, allPairs, startPair}
 use Rattle.windows.specs.Search.{empty}
 use Rattle.table.specs.Marks.{some}
-use Rattle.table.proofs.Marks.{found, some-at, none-at, put-member}
+use Rattle.table.proofs.Marks.{found, some-at, none-at}
+use Rattle.laws.proofs.Members.{put-member}
 use Rattle.table.proofs.EqualGrids.{has-grid}
 use Rattle.windows.specs.PairSets.{pairsIn, Long, holdsAt, differsAt}
 use Rattle.windows.specs.Steps.{withWord}

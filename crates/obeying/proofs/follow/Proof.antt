@@ -10,9 +10,9 @@ use denote.Ref.{now}
 use lib.Dec.{T}
 use lib.ListN.{getD}
 use Rattle.laws.specs.Lists.{range, all}
+use Rattle.laws.proofs.Members.{member-lt}
 use Rattle.obeying.specs.Obeying.{pairAfter, findsAt}
 use Rattle.obeying.proofs.PairQueue.{
-  member-lt,
   Reaching,
   reach-start,
   reach-more,
