@@ -16,7 +16,7 @@ use lib.Dec.{eqb}
 use lib.ListN.{length, getD, set, replicate, getD-replicate}
 use lib.Seq.{getD-set-same, getD-set-other}
 use Rattle.laws.specs.Lists.{if_then_else_}
-use Rattle.table.specs.Edges.{Arrays, places, wordOf, bears, lastBelow}
+use Rattle.table.specs.Edges.{Arrays, places, wordOf, Fits, bears, lastBelow}
 use Rattle.table.proofs.Edges.{bears-word}
 use Rattle.runs.specs.EdgeRuns.{count, before, above, Run, Laying, Laid}
 
@@ -201,6 +201,7 @@ module _ (t : Arrays) (v : ℕ) (start order : List ℕ) (a : Laying t v start o
 
 -- ---- the run of one word, as the code finds it
 pub record RunOf (t : Arrays) (w : ℕ) (order : List ℕ) (first to : ℕ) : Type 0 where
+  pub fits : Fits t
   pub run : Run t w order first to 0
   pub rising : first ≤ to
   pub inside : to ≤ 2048
@@ -211,6 +212,7 @@ run-of t start order a w h =
     let x = a .laid .starts w (omega arith) in
     let y = a .laid .starts (w + 1) (omega arith) in
     record {
+      fits = a .fits;
       run = rw (x, y) (a .laid .runs w h);
       rising = omega (arith, x, y, before-more t w (places t));
       inside = omega (arith, y, before-le t (w + 1) (places t), a .fits .few);

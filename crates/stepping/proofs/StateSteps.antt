@@ -1,7 +1,6 @@
 -- Sets of states in an array, stepped along the run of a word.
 -- In order: member-states, states-same, states-every, states-one; test-place, place-test, a test over the edges of a
--- state; leadsAt with lead-in to lead-only, along-places; entersAt with enter-in to enter-only, back-places;
--- left-blank, edge-small.
+-- state; leadsAt with lead-in to lead-only, along-places; entersAt with enter-in to enter-only, back-places.
 -- Assumes nothing.
 use mathlib.Core.Path.{_≡_, sym, ap, ap₂, subst, _∙_}
 use mathlib.Core.Bool.{Bool, true, false, _&&_, and-false}
@@ -17,9 +16,9 @@ use Rattle.laws.specs.Lists.{range, any}
 use Rattle.laws.specs.Sets.{member}
 use Rattle.laws.proofs.Tests.{and→, →and, T→true, bool-eq, any→, →any, any-below→, →any-below, map-range-at}
 use Rattle.table.specs.Rows.{Edge, edge, Rows, edges}
-use Rattle.table.specs.Marks.{some, blank}
+use Rattle.table.specs.Marks.{some}
 use Rattle.table.specs.Edges.{Arrays, edgeOf, rowsOf, places, isEdge, wordOf, nextOf, Fits, bears}
-use Rattle.table.proofs.Marks.{found, some-at, Left, left-start}
+use Rattle.table.proofs.Marks.{found, some-at}
 use Rattle.table.proofs.Edges.{bears-edge, bears-word}
 use Rattle.table.proofs.RowsOf.{length-rows, row-long, edge-at, place, place-state, place-lt, place-edge, place-next}
 use Rattle.laws.proofs.Ranges.{map-range-same}
@@ -181,11 +180,3 @@ back-places t g S R w h =
     (any (enters (statesIn (t .states) S) w) (edges (rowsOf t) x))
     (enter→ t g S w x l) (→enter t g S w x l))
     ∙ ap (λ k. map (λ s. any (enters (statesIn (t .states) S) w) (edges (rowsOf t) s)) (range k)) (sym (length-rows t))
-
--- ---- the array as the code makes it, and the target of an edge
-pub left-blank : (k : ℕ) (hit : ℕ → ℕ → Bool) (n : ℕ) → Left (blank k) hit n n (replicate k false)
-unfolding blank
-left-blank k hit n = left-start (blank k) hit n
-
-pub edge-small : (t : Arrays) → Fits t → (w e : ℕ) → e < places t → bears t w e ≡ true → nextOf t e < 128
-edge-small t g w e l b = omega (arith, g .few, g .inside e l (bears-edge t w e b))
