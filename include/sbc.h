@@ -60,9 +60,9 @@ enum {
     SBC_LOOKAHEAD_MAX = 15,
     /* The longest set: the count, and 255 of the longest records behind their lengths. */
     SBC_SET_MAX = 1 + 255 * (2 + SBC_RECORD_MAX),
-    /* Room for every listing: a line such as "4 8 128 15 15" and 128 * 16 lines such as "127 15 11111111 127", each
-     * with its newline. */
-    SBC_LISTING_MAX = 14 + 128 * 16 * 20
+    /* Room for every listing, by the theorem `max-record`: 20 bytes for the first line and 21 for each of 128 * 16
+     * others. */
+    SBC_LISTING_MAX = 20 + 128 * 16 * 21
 };
 
 /* The refusal of an answer: 0 for a result, otherwise its number. */

@@ -1,5 +1,5 @@
 -- How long the texts are: 43,028 bytes hold what the listing program prints.
--- In order: refusal-is, refusal-short; compiled-short, never-short.
+-- In order: refusal-is, refusal-short; compiled-short, never-short, room-enough.
 -- Assumes nothing.
 use mathlib.Core.Path.{_≡_, ap, _∙_}
 use mathlib.Core.Logic.{_⊎_, inl, inr}
@@ -16,11 +16,13 @@ use Rattle.table.specs.Rows.{Code}
 use Rattle.table.proofs.Formed.{formed→}
 use Rattle.job.specs.Jobs.{Job, readRunLength}
 use Rattle.compiler.specs.Compile.{compile}
+use Rattle.compiler.specs.Kinds.{Kind, compileAs}
 use Rattle.job.proofs.Jobs.{readRunLength-allowed}
 use Rattle.compiler.proofs.Accepted.{compiled-passes}
 use Rattle.compiler.proofs.Refused.{onward-refused, fitting-refused}
 use Rattle.compiler.proofs.Early.{run-length-early}
 use Rattle.compiler.proofs.Exact.{not-short}
+use Rattle.compiler.proofs.Written as written
 use Rattle.text.specs.Texts.{bytes, decimal}
 use Rattle.text.proofs.Numbers.{decimal-long}
 use Rattle.views.specs.Listing.{listing}
@@ -67,3 +69,8 @@ never-short xs room h e =
     first (inl q) = second (onward-refused (readRunLength xs) compile ShortOutput q)
     first (inr (c, q, k)) =
         omega (arith, compiled-short xs c q, fitting-refused room (listing c) ShortOutput k .1)
+
+-- with room for the longest record and the longest listing neither call says 13
+pub room-enough : (k : Kind) (xs : List ℕ) (room : ℕ) → (3864 ≤ room → compileAs k xs room ≡ refused ShortOutput → ⊥)
+    × (43028 ≤ room → listInto xs room ≡ refused ShortOutput → ⊥)
+room-enough k xs room = (written.never-short k xs room, never-short xs room)

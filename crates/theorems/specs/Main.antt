@@ -26,7 +26,6 @@ use Rattle.obeying.specs.Obeys.{Obeys, Breaks}
 use Rattle.checker.specs.Accepted.{Accepted}
 use Rattle.record.specs.Layout.{pack}
 use Rattle.checker.specs.Parse.{parse, judged, checkedOnly}
-use Rattle.checker.specs.Reasons.{Reason}
 use Rattle.reading.specs.Reading.{mark, block, decode}
 use Rattle.codec.specs.Answers.{encodeUnder, decodeUnder, encodeChecked, decodeChecked}
 use Rattle.codec.specs.With.{encodedWith, decodedWith}
@@ -37,13 +36,11 @@ use Rattle.graph.specs.Weights.{AtMost}
 use Rattle.graph.specs.Component.{within, live, componentStates}
 use Rattle.graph.specs.Reachable.{Reachable, ReachedBack}
 use Rattle.graph.specs.Splitting.{sort, chosen, candidates, stretch, divisible, kept, split, goesOn, splits}
-use Rattle.graph.specs.Rule.{Rule}
 use Rattle.job.specs.Jobs.{Job, Allowed}
 use Rattle.compiler.specs.Compile.{ways, graphOf, Vector, weightsOf, componentOf, finishedOf, tableFor, code, compile}
 use Rattle.compiler.specs.Kinds.{Kind, readAs, compileAs}
-use Rattle.sets.specs.declared.Place.the-variants.{At}
+use Rattle.listings.specs.Listings.{listInto}
 use Rattle.sets.specs.Sets.{codes, readSet, writeSet, Readable}
-use Rattle.sets.specs.Offsets.{recordPlace}
 use Rattle.api.specs.Words.{held, joined}
 
 -- A job that is read from bytes is allowed: what is said below of allowed jobs holds of every call.
@@ -70,8 +67,9 @@ component j a h = let c = Rattle.compiler.proofs.ByRule.component j a h in (c .
 -- Each graph that splitting passes through is split by the rule's state, list and run; the last is the finished one.
 pub each-split : (j : Job) → Allowed j → 0 < sum (componentOf j .weights) → (k : ℕ) → let n = ways j in
     let x = splits k n (componentOf j) in let s = chosen (x .weights) (x .arcs) in (T (goesOn n x)
-    → (splits (suc k) n (componentOf j) ≡ split n x) × Rule n x s (candidates n (x .weights) (getD (x .weights) s 0)
-    (sort (out (x .arcs) s))) (kept n (x .weights) (x .arcs) s)) × ((T (goesOn n x) → ⊥) → finishedOf j ≡ x)
+    → (splits (suc k) n (componentOf j) ≡ split n x) × Rattle.graph.specs.Rule.Rule n x s
+    (candidates n (x .weights) (getD (x .weights) s 0) (sort (out (x .arcs) s))) (kept n (x .weights) (x .arcs) s))
+    × ((T (goesOn n x) → ⊥) → finishedOf j ≡ x)
 each-split = Rattle.compiler.proofs.ByRule.splits-by-rule
 
 -- Splitting ends, with no more states than the component's weights sum to, and n edges a state or refusal 5.
@@ -113,10 +111,11 @@ pub written : (k : Kind) (xs : List ℕ) (room : ℕ) (j : Job) → readAs k xs 
     → length (pack (code j (tableFor j))) ≤ room → compileAs k xs room ≡ done (pack (code j (tableFor j)))
 written = Rattle.compiler.proofs.Written.written
 
--- A record has at most 3,864 bytes, so with that room the compiler never says 13.
-pub max-record : ((c : Code) → Formed c → length (pack c) ≤ 3864)
-    × ((k : Kind) (xs : List ℕ) (room : ℕ) → 3864 ≤ room → compileAs k xs room ≡ refused ShortOutput → ⊥)
-max-record = (Rattle.record.proofs.RecordBytes.pack-short, Rattle.compiler.proofs.Written.never-short)
+-- A record has at most 3,864 bytes and a listing at most 43,028, so with that room 13 never comes.
+pub max-record : ((c : Code) → Formed c → length (pack c) ≤ 3864) × ((k : Kind) (xs : List ℕ) (room : ℕ)
+    → (3864 ≤ room → compileAs k xs room ≡ refused ShortOutput → ⊥)
+    × (43028 ≤ room → listInto xs room ≡ refused ShortOutput → ⊥))
+max-record = (Rattle.record.proofs.RecordBytes.pack-short, Rattle.listings.proofs.Lengths.room-enough)
 
 -- The compiler's record always passes the checker, and is read as the code that was compiled: from bytes to bytes.
 pub compiled-passes : (k : Kind) (xs : List ℕ) (room : ℕ) (r : List ℕ) → compileAs k xs room ≡ done r
@@ -129,7 +128,7 @@ pub checker-exact : (xs : List ℕ) → Below 256 xs
 checker-exact = Rattle.checker.proofs.Accepted.check-exact
 
 -- A record is refused in order: 8, 7, 8, 7; 9 exactly if a recording breaks the constraint, 10 if the window fails.
-pub record-order : (xs : List ℕ) → Below 256 xs → Reason xs (parse xs) × ((parse xs ≡ refused Disobeys)
+pub record-order : (xs : List ℕ) → Below 256 xs → Rattle.checker.specs.Reasons.Reason xs (parse xs) × ((parse xs ≡ refused Disobeys)
     ↔ ((c : Code) × T (formed c) × (pack c ≡ xs) × Breaks c)) × ((parse xs ≡ refused WindowFails)
     ↔ ((c : Code) × T (formed c) × (pack c ≡ xs) × Obeys c × (Window (c .table) (c .window) → ⊥)))
 record-order = Rattle.checker.proofs.Meanings.order
@@ -212,7 +211,8 @@ sets = (Rattle.sets.proofs.Counts.set-written, Rattle.sets.proofs.Counts.set-w
 -- In a good set record i stands at the place of number i, and its bytes hold code i.
 pub good-places : (s : List ℕ) (cs : List Code) → readSet s ≡ codes cs → (length cs ≡ getD s 0 0)
     × ((i : ℕ) (d : Code) → i < length cs → (start : ℕ) × (len : ℕ)
-    × (recordPlace s i ≡ At start len) × (parse (take len (drop start s)) ≡ done (getD cs i d)))
+    × (Rattle.sets.specs.Offsets.recordPlace s i ≡ Rattle.sets.specs.declared.Place.the-variants.At start len)
+    × (parse (take len (drop start s)) ≡ done (getD cs i d)))
 good-places = Rattle.sets.proofs.Records.good-places
 
 -- The word that a call for C answers gives back its number by / 2^56 and its value, held to 2^56 − 1, by % 2^56.
