@@ -23,7 +23,6 @@ use Rattle.table.specs.Value.{codeIn}
 use Rattle.table.specs.Formed.{formed, Formed}
 use Rattle.windows.specs.Window.{Window, NoLater}
 use Rattle.obeying.specs.Obeys.{Obeys, Breaks}
-use Rattle.checker.specs.Accepted.{Accepted}
 use Rattle.record.specs.Layout.{pack}
 use Rattle.checker.specs.Parse.{parse, judged, checkedOnly}
 use Rattle.reading.specs.Reading.{mark, block, decode}
@@ -123,13 +122,14 @@ pub compiled-passes : (k : Kind) (xs : List ℕ) (room : ℕ) (r : List ℕ) →
 compiled-passes = Rattle.compiler.proofs.Written.passes
 
 -- The checker accepts exactly the tables whose every recording obeys and whose every window settles its block.
-pub checker-exact : (xs : List ℕ) → Below 256 xs
-    → (checkedOnly xs ≡ done []) ↔ ((c : Code) × T (formed c) × (pack c ≡ xs) × Accepted c)
+pub checker-exact : (xs : List ℕ) → Below 256 xs → (checkedOnly xs ≡ done [])
+    ↔ ((c : Code) × T (formed c) × (pack c ≡ xs) × Rattle.checker.specs.Accepted.Accepted c)
 checker-exact = Rattle.checker.proofs.Accepted.check-exact
 
 -- A record is refused in order: 8, 7, 8, 7; 9 exactly if a recording breaks the constraint, 10 if the window fails.
-pub record-order : (xs : List ℕ) → Below 256 xs → Rattle.checker.specs.Reasons.Reason xs (parse xs) × ((parse xs ≡ refused Disobeys)
-    ↔ ((c : Code) × T (formed c) × (pack c ≡ xs) × Breaks c)) × ((parse xs ≡ refused WindowFails)
+pub record-order : (xs : List ℕ) → Below 256 xs → Rattle.checker.specs.Reasons.Reason xs (parse xs)
+    × ((parse xs ≡ refused Disobeys) ↔ ((c : Code) × T (formed c) × (pack c ≡ xs) × Breaks c))
+    × ((parse xs ≡ refused WindowFails)
     ↔ ((c : Code) × T (formed c) × (pack c ≡ xs) × Obeys c × (Window (c .table) (c .window) → ⊥)))
 record-order = Rattle.checker.proofs.Meanings.order
 
