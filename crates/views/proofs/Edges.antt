@@ -1,5 +1,5 @@
 -- The lines of all edges in a row are those of the code that a table stands for.
--- In order: edges-few; EdgeAt, edge-good; lines-none, lines-more, lineOf; rows-flat; lines-are.
+-- In order: edges-few; EdgeAt, edge-good; rows-flat; edges-are; lines-none, lines-more, lineOf, lines-are.
 -- Assumes nothing.
 use mathlib.Core.Path.{_≡_, refl, sym, ap, ap₂, subst, _∙_}
 use mathlib.Core.List.{List, [], _++_, map, append-assoc, append-nil}
@@ -15,7 +15,7 @@ use Rattle.table.specs.declared.Table.{Table}
 use Rattle.table.specs.Edges.{lent}
 use Rattle.table.specs.Value.{wordAt, nextAt, codeIn, Ready}
 use Rattle.table.proofs.RowsOf.{length-rows, row-long, edge-at, ways-small}
-use Rattle.views.specs.Edges.{Line, edgeLine, rowLines, edgeLines, lineAt, linesTo}
+use Rattle.views.specs.Edges.{rowEdges, allEdges, Line, edgeLine, edgeLines, lineAt, linesTo}
 
 -- ---- the edges of a table, counted over all states
 pub edges-few : (t : Table) → Ready t → (n : ℕ) → n ≡ 2 ^ t .p → t .states * n ≤ 2048
@@ -26,6 +26,8 @@ edges-few t ready n p =
 -- where edge e of a table with n edges a state stands
 pub record EdgeAt (t : Table) (n e : ℕ) : Type 0 where
   pub some : 1 ≤ n
+  pub narrow : n ≤ 16
+  pub datum : e % n < 16
   pub few : t .states * n ≤ 2048
   pub state : e / n < 128
   pub place : e / n * 16 + e % n < 2048
@@ -42,6 +44,8 @@ edge-good t n e good p h =
     let k = good .few in
     record {
       some = one;
+      narrow = few;
+      datum = omega arith;
       few = edges-few t good n p;
       state = omega arith;
       place = omega arith;
@@ -83,6 +87,23 @@ rows-flat f n (suc k) h =
         let r : (k * n + d) % n ≡ d = mul-add-mod-self-right k n d ∙ mod-eq-of-lt l in
         ap₂ f (sym q) (sym r)))
 
+-- ---- a text for each edge
+module _ (t : Table) (F G : ℕ → ℕ → List ℕ)
+    (same : (s d : ℕ) → s < t .states → d < 2 ^ t .p → F s d ≡ G s d) where
+  row-is : (s : ℕ) → s < t .states → rowEdges F (codeIn t) s ≡ concat (map (G s) (range (2 ^ t .p)))
+  row-is s h =
+      ap (λ n. concat (map (F s) (range n))) (row-long (lent t) s h)
+      ∙ ap concat (map-below [] (F s) (G s) (2 ^ t .p) (λ d l. same s d h l))
+
+  -- THEOREM: the edges of all states in order
+  pub edges-are : (n : ℕ) → n ≡ 2 ^ t .p
+      → concat (map (λ e. G (e / 2 ^ t .p) (e % 2 ^ t .p)) (range (t .states * n))) ≡ allEdges F (codeIn t)
+  edges-are n p =
+      ap (λ m. concat (map (λ e. G (e / 2 ^ t .p) (e % 2 ^ t .p)) (range (t .states * m)))) p ∙ sym
+      (ap (λ n. concat (map (rowEdges F (codeIn t)) (range n))) (length-rows (lent t))
+      ∙ ap concat (map-below [] (rowEdges F (codeIn t)) (λ s. concat (map (G s) (range (2 ^ t .p)))) (t .states) row-is)
+      ∙ rows-flat G (2 ^ t .p) (t .states) (pow-pos (t .p)))
+
 -- ---- the lines of all edges
 module _ (line : Line) (t : Table) where
   pub lines-none : [] ≡ linesTo line t 0
@@ -99,24 +120,9 @@ module _ (line : Line) (t : Table) where
   lineOf n e p =
       ap (λ m. line (t .q) (e / m) (e % m) (wordAt t (e / m) (e % m)) (nextAt t (e / m) (e % m))) p
 
-  edgeOf : ℕ → ℕ → List ℕ
-  edgeOf s d = line (t .q) s d (wordAt t s d) (nextAt t s d)
-
-  edge-is : (s d : ℕ) → s < t .states → d < 2 ^ t .p → edgeLine line (codeIn t) s d ≡ edgeOf s d
-  unfolding edgeOf
-  edge-is s d h l = rw (edge-at (lent t) s d h l)
-
-  row-is : (s : ℕ) → s < t .states → rowLines line (codeIn t) s ≡ concat (map (edgeOf s) (range (2 ^ t .p)))
-  row-is s h =
-      ap (λ n. concat (map (edgeLine line (codeIn t) s) (range n))) (row-long (lent t) s h)
-      ∙ ap concat (map-below [] (edgeLine line (codeIn t) s) (edgeOf s) (2 ^ t .p) (λ d l. edge-is s d h l))
-
-  -- THEOREM: the edges of all states in order
+  -- THEOREM: the lines of the edges of all states in order
   pub lines-are : (n : ℕ) → n ≡ 2 ^ t .p → linesTo line t (t .states * n) ≡ edgeLines line (codeIn t)
-  unfolding linesTo edgeOf
+  unfolding linesTo
   lines-are n p =
-      ap (λ m. linesTo line t (t .states * m)) p ∙ sym
-      (ap (λ n. concat (map (rowLines line (codeIn t)) (range n))) (length-rows (lent t))
-      ∙ ap concat (map-below [] (rowLines line (codeIn t)) (λ s. concat (map (edgeOf s) (range (2 ^ t .p))))
-      (t .states) row-is)
-      ∙ rows-flat edgeOf (2 ^ t .p) (t .states) (pow-pos (t .p)))
+      edges-are t (edgeLine line (codeIn t)) (λ s d. line (t .q) s d (wordAt t s d) (nextAt t s d)) (λ s d h l.
+      rw (edge-at (lent t) s d h l)) n p

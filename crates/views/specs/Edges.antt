@@ -1,5 +1,5 @@
 -- Lines of the edges of a code, one an edge, state by state; and the same as the code puts them.
--- In order: Line; edgeLine, rowLines, edgeLines; lineAt, linesTo.
+-- In order: rowEdges, allEdges; Line; edgeLine, rowLines, edgeLines; lineAt, linesTo.
 -- Assumes nothing.
 use mathlib.Core.List.{List, map}
 use Prim.Native.Nat.{ℕ, _/_, _%_, _^_}
@@ -8,6 +8,14 @@ use Rattle.laws.specs.Lists.{range, concat}
 use Rattle.table.specs.declared.Table.{Table}
 use Rattle.table.specs.Rows.{edges, at, Code}
 use Rattle.table.specs.Value.{wordAt, nextAt}
+
+-- a text for each edge of state s
+abbrev pub rowEdges : (ℕ → ℕ → List ℕ) → Code → ℕ → List ℕ
+rowEdges f c s = concat (map (f s) (range (length (edges (c .table) s))))
+
+-- a text for each edge, by its state and its datum
+abbrev pub allEdges : (ℕ → ℕ → List ℕ) → Code → List ℕ
+allEdges f c = concat (map (rowEdges f c) (range (length (c .table))))
 
 -- how an edge is put as text: by q, its state, its datum, its word and its next state
 abbrev pub Line : Type 0
@@ -19,11 +27,11 @@ edgeLine l c s d = l (c .q) s d (at (c .table) s d .word) (at (c .table) s d .ne
 
 -- the edges of state s
 abbrev pub rowLines : Line → Code → ℕ → List ℕ
-rowLines l c s = concat (map (edgeLine l c s) (range (length (edges (c .table) s))))
+rowLines l c s = rowEdges (edgeLine l c) c s
 
 -- the edges of all states
 abbrev pub edgeLines : Line → Code → List ℕ
-edgeLines l c = concat (map (rowLines l c) (range (length (c .table))))
+edgeLines l c = allEdges (edgeLine l c) c
 
 -- edge e of a table by value, counted over all states
 abbrev pub lineAt : Line → Table → ℕ → List ℕ

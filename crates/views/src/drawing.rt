@@ -1,10 +1,10 @@
 // The state diagram of a code as a Graphviz digraph.
 ghost use mathlib.Core.Path.{_≡_};
-ghost use Prim.Native.Nat.{_*_, _^_, _≤_};
+ghost use Prim.Native.Nat.{_*_, _^_, _≤_, _<_};
+ghost use lib.Dec.{eqb};
 ghost use Rattle.text.specs.Texts.{Added};
-ghost use Rattle.table.specs.Value.{Ready};
-ghost use Rattle.views.specs.Drawn.{arrow, drawText};
-ghost use Rattle.views.specs.Edges.{linesTo};
+ghost use Rattle.table.specs.Value.{wordAt, nextAt, Ready};
+ghost use Rattle.views.specs.Drawn.{label, opens, other, others, arrowHead, arrow, arrowsTo, drawText};
 use table::Table;
 use table::chains::ways;
 use table::ready::is_ready;
@@ -12,40 +12,123 @@ use text::put;
 use text::put_number;
 use text::put_word;
 
-// The line of an edge.
-fn put_arrow(out: &mut [u8], at: usize, q: usize, s: usize, d: usize, w: usize, t: usize) -> usize
+// Words, then a datum and its word.
+fn put_label(out: &mut [u8], at: usize, name: &[u8], q: usize, d: usize, w: u8) -> usize
     requires { ⌜ q ≤ 8 ⌝ }
-    ensures written { λ r. ⌜ Added (arrow q s d w t) at (now (out .entry)) (now (out .exit)) r ⌝ }
+    ensures written { λ r. ⌜ Added (label (now (name .entry)) q d w) at (now (out .entry)) (now (out .exit)) r ⌝ }
+{
+    let slash = put_number(out, at, name, d as u64);
+    let word = put(out, slash, b"/");
+    put_word(out, word, q, w as usize)
+}
+
+// An arrow up to its first datum.
+fn put_head(out: &mut [u8], at: usize, q: usize, s: usize, d: usize, w: u8, t: u8) -> usize
+    requires { ⌜ q ≤ 8 ⌝ }
+    ensures written { λ r. ⌜ Added (arrowHead q s d w t) at (now (out .entry)) (now (out .exit)) r ⌝ }
 {
     let target = put_number(out, at, b"  ", s as u64);
-    let datum = put_number(out, target, b" -> ", t as u64);
-    let slash = put_number(out, datum, b" [label=\"", d as u64);
-    let word = put(out, slash, b"/");
-    let end = put_word(out, word, q, w);
+    let label = put_number(out, target, b" -> ", t as u64);
+    put_label(out, label, b" [label=\"", q, d, w)
+}
+
+// Whether two next states are one.
+fn is_one(a: u8, b: u8) -> bool
+    ensures answer { λ r. ⌜ r ≡ eqb a b ⌝ }
+{
+    a == b
+}
+
+// Whether no datum below d leads where d leads.
+fn is_opening(code: Table, s: usize, d: usize) -> bool
+    requires { ⌜ (s < 128) × (d < 16) ⌝ }
+    ensures answer { λ r. ⌜ r ≡ opens (nextAt code s) d ⌝ }
+{
+    let mut j = 0;
+    while j < d {
+        if is_one(code.next[s * 16 + j], code.next[s * 16 + d]) {
+            return false;
+        }
+        j += 1;
+    }
+    true
+}
+
+// What j, with its word and next state, adds to the label that d opens.
+fn put_other(
+    out: &mut [u8],
+    at: usize,
+    q: usize,
+    d: usize,
+    j: usize,
+    w: u8,
+    t: u8,
+    own: u8,
+) -> usize
+    requires { ⌜ q ≤ 8 ⌝ }
+    ensures written { λ r. ⌜ Added (other q d j w t own) at (now (out .entry)) (now (out .exit)) r ⌝ }
+{
+    if j <= d {
+        return put(out, at, b"");
+    }
+    if !is_one(t, own) {
+        return put(out, at, b"");
+    }
+    put_label(out, at, b", ", q, j, w)
+}
+
+// What the data below n add to it.
+fn put_others(out: &mut [u8], first: usize, code: Table, n: usize, s: usize, d: usize) -> usize
+    requires { ⌜ (code .q ≤ 8) × (n ≤ 16) × (s < 128) × (d < 16) ⌝ }
+    ensures written { λ r. ⌜
+        Added (others (code .q) (wordAt code s) (nextAt code s) d n) first (now (out .entry)) (now (out .exit)) r ⌝ }
+{
+    let q = code.q;
+    let mut at = put(out, first, b"");
+    let mut j = 0;
+    while j < n {
+        let i = s * 16 + j;
+        at = put_other(
+            out,
+            at,
+            q,
+            d,
+            j,
+            code.word[i],
+            code.next[i],
+            code.next[s * 16 + d],
+        );
+        j += 1;
+    }
+    at
+}
+
+// The arrow of state s at datum d, if no datum below leads there.
+fn put_arrow(out: &mut [u8], at: usize, code: Table, n: usize, s: usize, d: usize) -> usize
+    requires { ⌜ (code .q ≤ 8) × (n ≤ 16) × (s < 128) × (d < 16) ⌝ }
+    ensures written { λ r. ⌜
+        Added (arrow (code .q) n (wordAt code s) (nextAt code s) s d) at (now (out .entry)) (now (out .exit)) r ⌝ }
+{
+    if !is_opening(code, s, d) {
+        return put(out, at, b"");
+    }
+    let i = s * 16 + d;
+    let rest = put_head(out, at, code.q, s, d, code.word[i], code.next[i]);
+    let end = put_others(out, rest, code, n, s, d);
     put(out, end, b"\"];\n")
 }
 
-// The lines of all edges, n a state.
+// The arrows of all states, with n edges a state.
 fn put_arrows(out: &mut [u8], first: usize, code: Table, n: usize) -> usize
     requires { ⌜ Ready code × (n ≡ 2 ^ code .p) ⌝ }
     ensures written { λ r. ⌜
-        Added (linesTo arrow code (code .states * n)) first (now (out .entry)) (now (out .exit)) r ⌝ }
+        Added (arrowsTo code (code .states * n)) first (now (out .entry)) (now (out .exit)) r ⌝ }
 {
-    let q = code.q;
     let edges = code.states * n;
     let mut at = put(out, first, b"");
     let mut e = 0;
     while e < edges {
-        let i = e / n * 16 + e % n;
-        at = put_arrow(
-            out,
-            at,
-            q,
-            e / n,
-            e % n,
-            code.word[i] as usize,
-            code.next[i] as usize,
-        );
+        at = put_arrow(out, at, code, n, e / n, e % n);
         e += 1;
     }
     at

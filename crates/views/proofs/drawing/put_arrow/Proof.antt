@@ -1,29 +1,17 @@
--- `put_arrow` meets its contract: its parts are put in a row.
+-- `put_arrow` meets its contract: nothing where a datum below leads there, otherwise its parts in a row.
 -- Assumes nothing.
-use Rattle.text.proofs.Adding.{_then_}
-use Rattle.text.specs.Texts.{bytes}
-use Rattle.views.specs.Drawn.{arrow}
+use mathlib.Core.Path.{sym, _∙_}
+use native.Mathlib.Omega.{arith}
+use borrow.Author.Tests.{not-true, not-false}
 use borrow.Author.Needs.{needs}
+use Rattle.text.specs.Texts.{bytes}
+use Rattle.text.proofs.Adding.{added-same, _then_}
+use Rattle.views.proofs.Diagrams.{arrow-open, arrow-none}
 use Rattle.views.proofs.drawing.put_arrow.Statement.{statement}
 use Rattle.views.proofs.drawing.put_arrow.Tie as tie
 
-slice-aggregate-put-number : tie.Need-slice-aggregate-put-number
-slice-aggregate-put-number c = search needs
-
-put-number-requires : tie.Need-put-number-requires
-put-number-requires c κs = search needs
-
-slice-aggregate-put-number-2 : tie.Need-slice-aggregate-put-number-2
-slice-aggregate-put-number-2 c = search needs
-
-put-number-requires-2 : tie.Need-put-number-requires-2
-put-number-requires-2 c κs = search needs
-
-slice-aggregate-put-number-3 : tie.Need-slice-aggregate-put-number-3
-slice-aggregate-put-number-3 c = search needs
-
-put-number-requires-3 : tie.Need-put-number-requires-3
-put-number-requires-3 c κs = search needs
+is-opening-requires : tie.Need-is-opening-requires
+is-opening-requires c κs = (c .before .pre .2, c .before .pre .3)
 
 slice-aggregate-put : tie.Need-slice-aggregate-put
 slice-aggregate-put c = search needs
@@ -31,8 +19,33 @@ slice-aggregate-put c = search needs
 put-requires : tie.Need-put-requires
 put-requires c κs = search needs
 
-put-word-requires : tie.Need-put-word-requires
-put-word-requires c κs = search needs
+same-length : tie.Need-same-length
+same-length c = search needs
+
+returns : tie.Need-returns
+returns c =
+    let x = c .before .before in
+    let test = x .before .before .before in
+    added-same (arrow-none _ _ _ _ _ _ (sym (test .before .is-opening .ensures) ∙ not-true _ (test .if1 .taken)))
+    (x .put .ensures)
+
+mul-i : tie.Need-mul-i
+mul-i c = omega (arith, c .before .before .before .pre .2)
+
+add-i : tie.Need-add-i
+add-i c = let p = c .before .before .before .pre in omega (arith, p .2, p .3)
+
+element-copy-out-put-head : tie.Need-element-copy-out-put-head
+element-copy-out-put-head c = let p = c .before .before .before .before .pre in omega (arith, p .2, p .3)
+
+element-copy-out-put-head-2 : tie.Need-element-copy-out-put-head-2
+element-copy-out-put-head-2 c = let p = c .before .before .before .before .before .pre in omega (arith, p .2, p .3)
+
+put-head-requires : tie.Need-put-head-requires
+put-head-requires c κs = c .before .before .before .before .before .before .pre .0
+
+put-others-requires : tie.Need-put-others-requires
+put-others-requires c κs = c .before .before .before .before .before .before .before .before .before .before .pre
 
 slice-aggregate-put-2 : tie.Need-slice-aggregate-put-2
 slice-aggregate-put-2 c = search needs
@@ -40,35 +53,34 @@ slice-aggregate-put-2 c = search needs
 put-requires-2 : tie.Need-put-requires-2
 put-requires-2 c κs = search needs
 
-same-length : tie.Need-same-length
-same-length c = search needs
+same-length-2 : tie.Need-same-length-2
+same-length-2 c = search needs
 
-returns : tie.Need-returns
-unfolding arrow
-returns c =
-    let x6 = c .before .before in
-    let x5 = x6 .before .before .before .before .before in
-    let x4 = x5 .before .before .before .before in
-    let x3 = x4 .before .before .before .before .before in
+returns-2 : tie.Need-returns-2
+returns-2 c =
+    let x3 = c .before .before in
     let x2 = x3 .before .before .before .before .before in
-    let x1 = x2 .before .before .before .before .before in
-    x1 .put-number .ensures then x2 .put-number2 .ensures then x3 .put-number3 .ensures then x4 .put .ensures then
-    x5 .put-word .ensures then x6 .put2 .ensures
+    let x1 = x2 .before .before .before .before in
+    let test = x1 .before .before .before .before in
+    added-same (arrow-open _ _ _ _ _ _ (sym (test .before .is-opening .ensures) ∙ not-false _ (test .if1 .left)))
+    (x1 .put-head .ensures then x2 .put-others .ensures then x3 .put2 .ensures)
 
 pub put-arrow-spec : {M : Type 1} → statement M
 put-arrow-spec =
     tie.close
     (tie.spec
-    slice-aggregate-put-number
-    put-number-requires
-    slice-aggregate-put-number-2
-    put-number-requires-2
-    slice-aggregate-put-number-3
-    put-number-requires-3
+    is-opening-requires
     slice-aggregate-put
     put-requires
-    put-word-requires
+    same-length
+    returns
+    mul-i
+    add-i
+    element-copy-out-put-head
+    element-copy-out-put-head-2
+    put-head-requires
+    put-others-requires
     slice-aggregate-put-2
     put-requires-2
-    same-length
-    returns)
+    same-length-2
+    returns-2)

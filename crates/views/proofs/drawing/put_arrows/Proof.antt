@@ -1,35 +1,34 @@
--- `put_arrows` meets its contract. The loop's invariant: the text put since the loop began has the lines of the edges
+-- `put_arrows` meets its contract. The loop's invariant: the text put since the loop began has the arrows of the edges
 -- passed. The measure is what is left of the edges.
 -- Assumes nothing.
 use mathlib.Core.Path.{_≡_, ap, _∙_}
 use Prim.Native.Nat.{_*_, _-_, _≤_}
 use native.Mathlib.Omega.{arith}
+use borrow.Author.Needs.{needs}
 use Rattle.text.specs.Texts.{Added}
 use Rattle.text.proofs.Adding.{added-same, _then_, begun}
-use Rattle.views.specs.Drawn.{arrow}
-use Rattle.views.specs.Edges.{linesTo}
-use Rattle.views.proofs.Edges.{edges-few, EdgeAt, edge-good, lines-none, lines-more, lineOf}
-use borrow.Author.Needs.{needs}
+use Rattle.views.specs.Drawn.{arrowsTo}
+use Rattle.views.proofs.Edges.{edges-few, EdgeAt, edge-good}
+use Rattle.views.proofs.Diagrams.{arrows-none, arrows-more}
 use Rattle.views.proofs.drawing.put_arrows.Statement.{statement}
 use Rattle.views.proofs.drawing.put_arrows.Tie as tie
 
 abbrev Inv-loop : tie.InvT-loop
-Inv-loop out₀ first n code q edges at₀ e₀ out at e = (e ≤ edges) × Added (linesTo arrow code e) at₀ out₀ out at
+Inv-loop out₀ first code n edges at₀ e₀ out at e = (e ≤ edges) × Added (arrowsTo code e) at₀ out₀ out at
 
 abbrev μ-loop : tie.MeasureT-loop
-μ-loop out₀ first n code q edges at₀ e₀ out at e = edges - e
+μ-loop out₀ first code n edges at₀ e₀ out at e = edges - e
 
 -- where the edge of a turn stands
-edge : (c : tie.In-loop Inv-loop μ-loop) → EdgeAt (c .before .before .before .before .before .before .before .before
-    .args .t3) (c .before .before .before .before .before .before .before .before .args .n) (c .before .loop .e)
+edge : (c : tie.In-loop Inv-loop μ-loop) → EdgeAt (c .before .before .before .before .before .before .before .before .before .args .code) (c .before .before .before .before .before .before .before .before .before .args .n) (c .before .loop .e)
 edge c =
-    let b = c .before .before .before .before .before .before .before .before in
-    edge-good (b .args .t3) (b .args .n) (c .before .loop .e) (b .pre .0) (b .pre .1) (c .loop-test .taken)
+    let b = c .before .before .before .before .before .before .before .before .before in
+    edge-good (b .args .code) (b .args .n) (c .before .loop .e) (b .pre .0) (b .pre .1) (c .loop-test .taken)
 
 mul-edges : tie.Need-mul-edges Inv-loop μ-loop
 mul-edges c =
-    let b = c .before in
-    omega (arith, edges-few (b .args .t3) (b .pre .0) (b .args .n) (b .pre .1))
+    let b = c .before .before in
+    omega (arith, edges-few (b .args .code) (b .pre .0) (b .args .n) (b .pre .1))
 
 slice-aggregate-put : tie.Need-slice-aggregate-put Inv-loop μ-loop
 slice-aggregate-put c = search needs
@@ -38,23 +37,9 @@ put-requires : tie.Need-put-requires Inv-loop μ-loop
 put-requires c κs = search needs
 
 loop-holds : tie.Need-loop-holds Inv-loop μ-loop
-loop-holds c = (
-  omega arith,
-  added-same (lines-none arrow (c .before .before .before .before .before .before .args .t3))
-      (begun (c .before .before .put .ensures)),
-)
-
-div-i : tie.Need-div-i Inv-loop μ-loop
-div-i c = omega (arith, edge c .some)
-
-mul-i : tie.Need-mul-i Inv-loop μ-loop
-mul-i c = omega (arith, edge c .state)
-
-rem-i : tie.Need-rem-i Inv-loop μ-loop
-rem-i c = omega (arith, edge c .some)
-
-add-i : tie.Need-add-i Inv-loop μ-loop
-add-i c = omega (arith, edge c .place)
+loop-holds c =
+    let x = c .before .before in
+    (omega arith, added-same (arrows-none (x .before .before .before .before .before .args .code)) (begun (x .put .ensures)))
 
 div-put-arrow : tie.Need-div-put-arrow Inv-loop μ-loop
 div-put-arrow c = omega (arith, edge (c .before) .some)
@@ -62,38 +47,28 @@ div-put-arrow c = omega (arith, edge (c .before) .some)
 rem-put-arrow : tie.Need-rem-put-arrow Inv-loop μ-loop
 rem-put-arrow c = omega (arith, edge (c .before) .some)
 
-element-copy-out-put-arrow : tie.Need-element-copy-out-put-arrow Inv-loop μ-loop
-element-copy-out-put-arrow c = edge (c .before) .place
-
-cast-put-arrow : tie.Need-cast-put-arrow Inv-loop μ-loop
-cast-put-arrow c = omega (arith, edge (c .before .before) .word)
-
-element-copy-out-put-arrow-2 : tie.Need-element-copy-out-put-arrow-2 Inv-loop μ-loop
-element-copy-out-put-arrow-2 c = edge (c .before .before) .place
-
-cast-put-arrow-2 : tie.Need-cast-put-arrow-2 Inv-loop μ-loop
-cast-put-arrow-2 c = omega (arith, edge (c .before .before .before) .next)
-
 put-arrow-requires : tie.Need-put-arrow-requires Inv-loop μ-loop
 put-arrow-requires c κs =
-    c .before .before .before .before .before .before .before .before .before .before .before .pre .0 .short
+    let e = edge (c .before) in
+    (c .before .before .before .before .before .before .before .before .before .before .pre .0 .short, e .narrow, e .state, e .datum)
 
 add-e : tie.Need-add-e Inv-loop μ-loop
-add-e c = omega (arith, edge (c .before .before .before .before .before .before) .few)
+add-e c =
+    let turn = c .before .before .before .before in
+    omega (arith, edge turn .few, turn .loop-test .taken)
 
 loop-less : tie.Need-loop-less Inv-loop μ-loop
-loop-less c = search needs
+loop-less c = let turn = c .before .before .before .before in omega (arith, turn .loop-test .taken)
 
 loop-again : tie.Need-loop-again Inv-loop μ-loop
 loop-again c =
     let call = c .before .before in
-    let test = call .before .before .before .before in
-    let l = test .before .loop in
-    let b = test .before .before .before .before .before .before .before .before in (
-      omega (arith, test .loop-test .taken),
-      added-same (lines-more arrow (b .args .t3) (l .e))
-          (l .inv .1 then added-same (lineOf arrow (b .args .t3) (b .args .n) (l .e) (b .pre .1))
-          (call .put-arrow .ensures)),
+    let turn = call .before .before in
+    let l = turn .before .loop in
+    let b = turn .before .before .before .before .before .before .before .before .before in (
+      omega (arith, turn .loop-test .taken),
+      added-same (arrows-more (b .args .code) (b .args .n) (l .e) (b .pre .1))
+          (l .inv .1 then call .put-arrow .ensures),
     )
 
 same-length : tie.Need-same-length Inv-loop μ-loop
@@ -102,9 +77,10 @@ same-length c = c .before .loop .inv .1 .kept ∙ c .before .before .before .bef
 returns : tie.Need-returns Inv-loop μ-loop
 returns c =
     let l = c .before .loop in
-    let a = c .before .before .before .before .before .before .before .before .args in
-    let e : l .e ≡ a .t3 .states * a .n = omega (arith, l .inv .0, c .loop-test .left) in
-    added-same (ap (linesTo arrow (a .t3)) e) (c .before .before .before .before .put .ensures then l .inv .1)
+    let x = c .before .before .before .before in
+    let a = x .before .before .before .before .before .args in
+    let e : l .e ≡ a .code .states * a .n = omega (arith, l .inv .0, c .loop-test .left) in
+    added-same (ap (arrowsTo (a .code)) e) (x .put .ensures then l .inv .1)
 
 pub put-arrows-spec : {M : Type 1} → statement M
 put-arrows-spec =
@@ -116,16 +92,8 @@ put-arrows-spec =
     slice-aggregate-put
     put-requires
     loop-holds
-    div-i
-    mul-i
-    rem-i
-    add-i
     div-put-arrow
     rem-put-arrow
-    element-copy-out-put-arrow
-    cast-put-arrow
-    element-copy-out-put-arrow-2
-    cast-put-arrow-2
     put-arrow-requires
     add-e
     loop-less
