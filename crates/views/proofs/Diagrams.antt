@@ -1,13 +1,13 @@
 -- The diagram of the code that a table stands for.
 -- In order: opens-so, opens-not; other-before, other-apart, other-joined, others-none, others-more; arrow-open,
--- arrow-none; arrows-none, arrows-more; drawn-is, nothing-drawn.
+-- arrow-none; arrows-none, arrows-more; diagram-is, diagram-drawn, matrix-drawn, nothing-drawn.
 -- Assumes nothing.
 use mathlib.Core.Path.{_≡_, refl, sym, ap, ap₂, _∙_}
 use mathlib.Core.Bool.{Bool, true, false, not, and-false}
 use mathlib.Core.List.{List, [], _++_}
 use Prim.Native.Nat.{ℕ, _+_, _*_, _/_, _%_, _^_, _≤_, _<_}
 use native.Mathlib.Omega.{arith}
-use borrow.Author.Tests.{lt-ltb, le-ltb}
+use borrow.Author.Tests.{lt-ltb, le-ltb, lt-leb, le-leb}
 use lib.Dec.{eqb, ltb}
 use lib.ListN.{length}
 use Rattle.laws.specs.Lists.{if_then_else_, range, concat}
@@ -19,11 +19,12 @@ use Rattle.table.specs.Marks.{some}
 use Rattle.table.specs.Rows.{edges, at}
 use Rattle.table.specs.Value.{wordAt, nextAt, codeIn, ready}
 use Rattle.table.proofs.Marks.{some-stop}
-use Rattle.table.proofs.RowsOf.{row-long, edge-at}
+use Rattle.table.proofs.RowsOf.{length-rows, row-long, edge-at}
 use Rattle.text.specs.Texts.{bytes}
 use Rattle.text.proofs.Rows.{concat-more}
-use Rattle.views.specs.Drawn.{label, joined, opens, other, others, arrowHead, arrow, arrowOf, tableArrow, arrowsTo}
-use Rattle.views.specs.Drawn.{opening, drawn, drawText}
+use Rattle.views.specs.Drawn.{label, joined, opens, other, others, arrowHead, arrow, arrowOf}
+use Rattle.views.specs.Drawn.{tableArrow, arrowsTo, opening, diagram, drawn, drawText}
+use Rattle.views.specs.Matrix.{matrix}
 use Rattle.views.proofs.Edges.{edges-are}
 
 -- ---- the first datum of an arrow
@@ -102,11 +103,19 @@ module _ (t : Table) where
       (λ j k. ap (λ x. x .word) (edge-at (lent t) s j h k)) (λ j k. ap (λ x. x .next) (edge-at (lent t) s j h k)) l
 
   -- THEOREM: the diagram has its opening, all arrows in order and the closing brace
-  pub drawn-is : (n : ℕ) → n ≡ 2 ^ t .p → ready t ≡ true
-      → opening ++ arrowsTo t (t .states * n) ++ bytes "}\n" ≡ drawText t
-  unfolding drawText drawn arrowsTo
-  drawn-is n p e =
-      rw e (ap (λ l. opening ++ l ++ bytes "}\n") (edges-are t (arrowOf (codeIn t)) (tableArrow t) same n p))
+  pub diagram-is : (n : ℕ) → n ≡ 2 ^ t .p
+      → opening ++ arrowsTo t (t .states * n) ++ bytes "}\n" ≡ diagram (codeIn t)
+  unfolding diagram arrowsTo
+  diagram-is n p =
+      ap (λ l. opening ++ l ++ bytes "}\n") (edges-are t (arrowOf (codeIn t)) (tableArrow t) same n p)
+
+  pub diagram-drawn : ready t ≡ true → t .states ≤ 24 → diagram (codeIn t) ≡ drawText t
+  unfolding drawText drawn
+  diagram-drawn e h = rw (e, length-rows (lent t), le-leb (t .states) 24 h)
+
+  pub matrix-drawn : ready t ≡ true → 24 < t .states → matrix (codeIn t) ≡ drawText t
+  unfolding drawText drawn
+  matrix-drawn e h = rw (e, length-rows (lent t), lt-leb (t .states) 24 h)
 
   pub nothing-drawn : ready t ≡ false → [] ≡ drawText t
   unfolding drawText

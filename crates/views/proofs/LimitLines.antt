@@ -58,13 +58,14 @@ module _ (c : Constraint) where
       (λ t. →all-below (alikeAt (constraintOf c) (runLength d (c .states - 1))) (c .states) (λ i h.
       subst T (here i h) (all-below→ (λ i. alike (nextStatesAt c i) (nextStatesAt b i)) (c .states) t i h)))
       (λ t. →all-below (λ i. alike (nextStatesAt c i) (nextStatesAt b i)) (c .states) (λ i h.
-      subst T (sym (here i h)) (all-below→ (alikeAt (constraintOf c) (runLength d (c .states - 1))) (c .states) t i h))))
+      subst T (sym (here i h))
+      (all-below→ (alikeAt (constraintOf c) (runLength d (c .states - 1))) (c .states) t i h))))
     where
       long : b .states ≡ c .states
       long =
           let k : c .states - 1 + 1 ≡ c .states = omega arith in
-          sym (length-constraintOf b) ∙ ap length e ∙ length-map-range (runLengthState d (c .states - 1)) (c .states - 1 + 1)
-          ∙ k
+          sym (length-constraintOf b) ∙ ap length e
+          ∙ length-map-range (runLengthState d (c .states - 1)) (c .states - 1 + 1) ∙ k
 
       here : (i : ℕ) → i < c .states → alike (nextStatesAt c i) (nextStatesAt b i)
           ≡ alikeAt (constraintOf c) (runLength d (c .states - 1)) i
@@ -144,4 +145,5 @@ runs-found d k h =
         (ap (λ n. alikeAt (runLength d k) (runLength j n) j) less
         ∙ ap₂ alike (map-range-at (runLengthState d k) (k + 1) j nowhere (omega arith))
         (map-range-at (runLengthState j k) (k + 1) j nowhere (omega arith))
-        ∙ rw (lt-leb d j l, le-leb j j (omega arith)) (and-false (eqb (runLengthState d k j .zero) (runLengthState j k j .zero))))
+        ∙ rw (lt-leb d j l, le-leb j j (omega arith))
+        (and-false (eqb (runLengthState d k j .zero) (runLengthState j k j .zero))))

@@ -1,11 +1,12 @@
--- A code as `draw` prints it: the state diagram as a Graphviz digraph, one arrow for all edges between two states.
--- In order: label; joined, opens; other, others; arrowHead, arrow, arrowOf; opening, drawn; tableArrow, arrowsTo, of a
--- table by value; drawText.
+-- A code as `draw` prints it: the state diagram as a Graphviz digraph, one arrow for all edges between two states,
+-- or a matrix.
+-- In order: label; joined, opens; other, others; arrowHead, arrow, arrowOf; opening, diagram; tableArrow, arrowsTo, of
+-- a table by value; drawn; drawText.
 -- Assumes nothing.
 use mathlib.Core.Bool.{Bool, not, _&&_}
 use mathlib.Core.List.{List, [], _++_, map}
 use Prim.Native.Nat.{ℕ, _/_, _%_, _^_}
-use lib.Dec.{eqb, ltb}
+use lib.Dec.{eqb, ltb, leb}
 use lib.ListN.{length}
 use Rattle.laws.specs.Lists.{if_then_else_, range, concat}
 use Rattle.table.specs.Marks.{some}
@@ -15,6 +16,7 @@ use Rattle.table.specs.Value.{wordAt, nextAt, codeIn, ready}
 use Rattle.text.specs.Texts.{bytes, decimal}
 use Rattle.text.specs.Words.{told, binary}
 use Rattle.views.specs.Edges.{allEdges}
+use Rattle.views.specs.Matrix.{matrix}
 
 -- words, then a datum and its word of q bits: `1/011`
 unfoldable pub label : List ℕ → ℕ → ℕ → ℕ → List ℕ
@@ -54,9 +56,9 @@ arrowOf c s d =
 unfoldable pub opening : List ℕ
 opening = bytes "digraph code {\n  rankdir=LR;\n  node [shape=circle];\n  start [shape=point];\n  start -> 0;\n"
 
--- what `draw` prints of a code
-unfoldable pub drawn : Code → List ℕ
-drawn c = opening ++ allEdges (arrowOf c) c ++ bytes "}\n"
+-- the diagram of a code
+unfoldable pub diagram : Code → List ℕ
+diagram c = opening ++ allEdges (arrowOf c) c ++ bytes "}\n"
 
 -- the arrow of state s at datum d of a table by value
 abbrev pub tableArrow : Table → ℕ → ℕ → List ℕ
@@ -65,6 +67,10 @@ tableArrow t s d = arrow (t .q) (2 ^ t .p) (wordAt t s) (nextAt t s) s d
 -- the arrows of its first e edges, counted over all states
 unfoldable pub arrowsTo : Table → ℕ → List ℕ
 arrowsTo t e = concat (map (λ i. tableArrow t (i / 2 ^ t .p) (i % 2 ^ t .p)) (range e))
+
+-- what `draw` prints of a code: its diagram, or its matrix where it has more than 24 states
+unfoldable pub drawn : Code → List ℕ
+drawn c = if leb (length (c .table)) 24 then diagram c else matrix c
 
 -- what `draw` prints of a table by value; nothing where no record gives it
 unfoldable pub drawText : Table → List ℕ

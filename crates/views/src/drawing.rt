@@ -1,10 +1,12 @@
-// The state diagram of a code as a Graphviz digraph.
+// The state diagram of a code as a Graphviz digraph, or its matrix.
 ghost use mathlib.Core.Path.{_≡_};
 ghost use Prim.Native.Nat.{_*_, _^_, _≤_, _<_};
 ghost use lib.Dec.{eqb};
 ghost use Rattle.text.specs.Texts.{Added};
-ghost use Rattle.table.specs.Value.{wordAt, nextAt, Ready};
-ghost use Rattle.views.specs.Drawn.{label, opens, other, others, arrowHead, arrow, arrowsTo, drawText};
+ghost use Rattle.table.specs.Value.{wordAt, nextAt, codeIn, Ready};
+ghost use Rattle.views.specs.Drawn.{label, opens, other, others, arrowHead, arrow, arrowsTo};
+ghost use Rattle.views.specs.Drawn.{diagram, drawText};
+use crate::matrix::put_matrix;
 use table::Table;
 use table::chains::ways;
 use table::ready::is_ready;
@@ -134,18 +136,30 @@ fn put_arrows(out: &mut [u8], first: usize, code: Table, n: usize) -> usize
     at
 }
 
-// The diagram behind the first `at` bytes; the answer is the place behind it.
+// The diagram, with n edges a state.
+fn put_diagram(out: &mut [u8], at: usize, t: Table, n: usize) -> usize
+    requires { ⌜ Ready t × (n ≡ 2 ^ t .p) ⌝ }
+    ensures written { λ r. ⌜ Added (diagram (codeIn t)) at (now (out .entry)) (now (out .exit)) r ⌝ }
+{
+    let first = put(
+        out,
+        at,
+        b"digraph code {\n  rankdir=LR;\n  node [shape=circle];\n  start [shape=point];\n  start -> 0;\n",
+    );
+    let end = put_arrows(out, first, t, n);
+    put(out, end, b"}\n")
+}
+
+// The diagram, or the matrix for more than 24 states, behind the first `at` bytes; the answer is the place behind it.
 pub fn draw(t: Table, out: &mut [u8], at: usize) -> usize
     ensures written { λ r. ⌜ Added (drawText t) at (now (out .entry)) (now (out .exit)) r ⌝ }
 {
     if !is_ready(t) {
         return put(out, at, b"");
     }
-    let first = put(
-        out,
-        at,
-        b"digraph code {\n  rankdir=LR;\n  node [shape=circle];\n  start [shape=point];\n  start -> 0;\n",
-    );
-    let end = put_arrows(out, first, t, ways(t.p));
-    put(out, end, b"}\n")
+    let n = ways(t.p);
+    if t.states <= 24 {
+        return put_diagram(out, at, t, n);
+    }
+    put_matrix(out, at, t, n)
 }

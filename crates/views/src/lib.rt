@@ -3,5 +3,6 @@ pub mod drawing;
 pub mod filling;
 pub mod limits;
 pub mod listing;
+pub mod matrix;
 pub mod phrases;
 pub mod showing;

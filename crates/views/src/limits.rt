@@ -82,7 +82,8 @@ fn put_state(out: &mut [u8], at: usize, c: Constraint, s: usize) -> usize
 // The lines of all states.
 fn put_states(out: &mut [u8], first: usize, c: Constraint) -> usize
     requires { ⌜ c .states ≤ 16 ⌝ }
-    ensures written { λ r. ⌜ Added (statesTo (constraintOf c) (c .states)) first (now (out .entry)) (now (out .exit)) r ⌝ }
+    ensures written { λ r. ⌜
+        Added (statesTo (constraintOf c) (c .states)) first (now (out .entry)) (now (out .exit)) r ⌝ }
 {
     let count = c.states;
     let mut at = put(out, first, b"");

@@ -20,7 +20,9 @@ abbrev μ-loop : tie.MeasureT-loop
 μ-loop out₀ first code n edges at₀ e₀ out at e = edges - e
 
 -- where the edge of a turn stands
-edge : (c : tie.In-loop Inv-loop μ-loop) → EdgeAt (c .before .before .before .before .before .before .before .before .before .args .code) (c .before .before .before .before .before .before .before .before .before .args .n) (c .before .loop .e)
+edge : (c : tie.In-loop Inv-loop μ-loop)
+    → EdgeAt (c .before .before .before .before .before .before .before .before .before .args .code)
+    (c .before .before .before .before .before .before .before .before .before .args .n) (c .before .loop .e)
 edge c =
     let b = c .before .before .before .before .before .before .before .before .before in
     edge-good (b .args .code) (b .args .n) (c .before .loop .e) (b .pre .0) (b .pre .1) (c .loop-test .taken)
@@ -39,7 +41,8 @@ put-requires c κs = search needs
 loop-holds : tie.Need-loop-holds Inv-loop μ-loop
 loop-holds c =
     let x = c .before .before in
-    (omega arith, added-same (arrows-none (x .before .before .before .before .before .args .code)) (begun (x .put .ensures)))
+    let a = x .before .before .before .before .before .args in
+    (omega arith, added-same (arrows-none (a .code)) (begun (x .put .ensures)))
 
 div-put-arrow : tie.Need-div-put-arrow Inv-loop μ-loop
 div-put-arrow c = omega (arith, edge (c .before) .some)
@@ -50,7 +53,8 @@ rem-put-arrow c = omega (arith, edge (c .before) .some)
 put-arrow-requires : tie.Need-put-arrow-requires Inv-loop μ-loop
 put-arrow-requires c κs =
     let e = edge (c .before) in
-    (c .before .before .before .before .before .before .before .before .before .before .pre .0 .short, e .narrow, e .state, e .datum)
+    let good = c .before .before .before .before .before .before .before .before .before .before .pre .0 in
+    (good .short, e .narrow, e .state, e .datum)
 
 add-e : tie.Need-add-e Inv-loop μ-loop
 add-e c =

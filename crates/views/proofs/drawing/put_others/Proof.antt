@@ -1,4 +1,5 @@
--- `put_others` meets its contract. The loop's invariant: the text put since the loop began has what the data passed add.
+-- `put_others` meets its contract. The loop's invariant: the text put since the loop began has what the data passed
+-- add.
 -- Assumes nothing.
 use mathlib.Core.Path.{_≡_, ap, _∙_}
 use Prim.Native.Nat.{_+_, _*_, _-_, _≤_, _<_}
@@ -20,14 +21,19 @@ abbrev μ-loop : tie.MeasureT-loop
 μ-loop out₀ first n s d code q at₀ j₀ out at j = n - j
 
 -- the place of a turn's edge
-place : (c : tie.In-loop Inv-loop μ-loop) → c .before .before .before .before .before .before .before .before .args .s * 16 + c .before .loop .j < 2048
+place : (c : tie.In-loop Inv-loop μ-loop)
+    → c .before .before .before .before .before .before .before .before .args .s * 16 + c .before .loop .j < 2048
 place c =
     let b = c .before .before .before .before .before .before .before .before in
     omega (arith, b .pre .1, b .pre .2, c .loop-test .taken)
 
 -- the place of the edge that opens the label
-own : (c : tie.In-loop Inv-loop μ-loop) → c .before .before .before .before .before .before .before .before .args .s * 16 + c .before .before .before .before .before .before .before .before .args .d < 2048
-own c = let b = c .before .before .before .before .before .before .before .before in omega (arith, b .pre .2, b .pre .3)
+own : (c : tie.In-loop Inv-loop μ-loop)
+    → c .before .before .before .before .before .before .before .before .args .s * 16
+    + c .before .before .before .before .before .before .before .before .args .d < 2048
+own c =
+    let b = c .before .before .before .before .before .before .before .before in
+    omega (arith, b .pre .2, b .pre .3)
 
 slice-aggregate-put : tie.Need-slice-aggregate-put Inv-loop μ-loop
 slice-aggregate-put c = search needs
@@ -66,7 +72,8 @@ element-copy-out-put-other-3 : tie.Need-element-copy-out-put-other-3 Inv-loop μ
 element-copy-out-put-other-3 c = own (c .before .before .before)
 
 put-other-requires : tie.Need-put-other-requires Inv-loop μ-loop
-put-other-requires c κs = c .before .before .before .before .before .before .before .before .before .before .before .before .pre .0
+put-other-requires c κs =
+    c .before .before .before .before .before .before .before .before .before .before .before .before .pre .0
 
 add-j : tie.Need-add-j Inv-loop μ-loop
 add-j c =
@@ -74,7 +81,9 @@ add-j c =
     omega (arith, turn .loop-test .taken, turn .before .before .before .before .before .before .before .before .pre .1)
 
 loop-less : tie.Need-loop-less Inv-loop μ-loop
-loop-less c = let turn = c .before .before .before .before .before .before .before in omega (arith, turn .loop-test .taken)
+loop-less c =
+    let turn = c .before .before .before .before .before .before .before in
+    omega (arith, turn .loop-test .taken)
 
 loop-again : tie.Need-loop-again Inv-loop μ-loop
 loop-again c =

@@ -22,7 +22,8 @@ abbrev μ-loop : tie.MeasureT-loop
 
 -- the test of a turn
 test-is : (c : tie.After-is-same Inv-loop μ-loop)
-    → c .is-same .result ≡ isRuns (constraintOf (c .before .before .before .before .args .c)) (c .before .before .before .loop .d)
+    → c .is-same .result
+    ≡ isRuns (constraintOf (c .before .before .before .before .args .c)) (c .before .before .before .loop .d)
 test-is c =
     let run = c .before in
     let turn = run .before in

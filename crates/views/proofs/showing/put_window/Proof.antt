@@ -45,7 +45,8 @@ returns c =
     let x3 = x4 .before .before .before .before in
     let x2 = x3 .before .before .before .before .before in
     let x1 = x2 .before .before .before .before .before in
-    x1 .put-number .ensures then x2 .put-number2 .ensures then x3 .put .ensures then x4 .put-reach .ensures then x5 .put2 .ensures
+    x1 .put-number .ensures then x2 .put-number2 .ensures then x3 .put .ensures then x4 .put-reach .ensures then
+    x5 .put2 .ensures
 
 pub put-window-spec : {M : Type 1} → statement M
 put-window-spec =
