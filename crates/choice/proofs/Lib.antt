@@ -1,3 +1,3 @@
-pub mod CodeChoose
-pub mod CodeRun
-pub mod CodeCandidates
+pub mod Choosing
+pub mod RunSearch
+pub mod Candidates

@@ -38,7 +38,7 @@ use Rattle.graph.specs.Value.{arcsIn, workIn}
 use Rattle.weights.specs.PowerTable.{tabled, Powers}
 use Rattle.splitting.specs.SplitParts.{Splits, SplitAllInto}
 use Rattle.finish.specs.Finishing.{Finished}
-use Rattle.weights.proofs.CodeTabled.{tabled-power}
+use Rattle.weights.proofs.TabledWords.{tabled-power}
 use Rattle.graph.proofs.Loop.{splits-off, splitted-end}
 use Rattle.job.specs.declared.JobValue.{JobValue}
 use Rattle.job.specs.Jobs.{Job, Allowed}

@@ -1,4 +1,4 @@
-pub mod CodeTotals
-pub mod CodeRows
-pub mod CodeLinked
-pub mod CodeFound
+pub mod ComponentWeights
+pub mod AppendedRows
+pub mod LiveArcs
+pub mod ComponentValue

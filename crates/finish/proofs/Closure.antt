@@ -34,8 +34,8 @@ use Rattle.graph.proofs.Candidates.{each-sort}
 use Rattle.laws.proofs.Totals.{union-each}
 use Rattle.laws.proofs.Ranges.{length-map-range}
 use Rattle.laws.proofs.Maps.{filter-same, map-take}
-use Rattle.order.proofs.CodeOrder.{sort-keys, keys-small, weights-small}
-use Rattle.graph.proofs.CodeValue.{fits-arcs, Bounded}
+use Rattle.order.proofs.EdgeOrder.{sort-keys, keys-small, weights-small}
+use Rattle.graph.proofs.Values.{fits-arcs, Bounded}
 
 -- ---- the first edges of a state, by their keys
 filter-all : {A : Type 0} (l : List A) → filter (λ x. true) l ≡ l

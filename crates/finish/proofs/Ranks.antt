@@ -9,7 +9,7 @@ use native.Mathlib.Omega.{arith}
 use lib.ListN.{length, length-append}
 use Rattle.laws.specs.Sets.{member}
 use Rattle.finish.specs.Finishing.{rank}
-use Rattle.graph.proofs.CodeUpTo.{upTo, upTo-yes, upTo-no}
+use Rattle.graph.proofs.UpTo.{upTo, upTo-yes, upTo-no}
 
 module _ (S : List Bool) where
   pub rank-none : rank S 0 ≡ 0

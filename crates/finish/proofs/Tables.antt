@@ -33,8 +33,8 @@ use Rattle.finish.specs.Finishing.{Finished, rank, rowEdge, TableIn, Row
 use Rattle.graph.proofs.Arcs.{length-sort}
 use Rattle.laws.proofs.Ranges.{length-map-range, map-range-same, map-places}
 use Rattle.laws.proofs.Maps.{filter-same, map-map}
-use Rattle.order.proofs.CodeOrder.{keys-small}
-use Rattle.graph.proofs.CodeUpTo.{upTo, index-kept}
+use Rattle.order.proofs.EdgeOrder.{keys-small}
+use Rattle.graph.proofs.UpTo.{upTo, index-kept}
 use Rattle.finish.proofs.Closure.{row-keys, row-inside, row-stays}
 use Rattle.finish.proofs.Ranks.{rank-none, rank-yes, rank-no, rank-le, rank-small}
 

@@ -4,7 +4,6 @@ pub mod Weights
 pub mod Reach
 pub mod Component
 pub mod Found
-pub mod Start
 pub mod Power
 pub mod Choice
 pub mod Candidates
@@ -21,7 +20,7 @@ pub mod PartedBack
 pub mod Split
 pub mod Loop
 pub mod Roots
-pub mod CodeUpTo
-pub mod CodeValue
+pub mod UpTo
+pub mod Values
 pub mod Passed
 pub mod Reachable

@@ -1,19 +1,21 @@
 -- The component by its meaning: the lowest state that all states reachable from it reach back, and what it reaches.
--- In order: first-filter; reach→, →reach, live-reach; good→, →good; weight→, →weight, lowest; component-is.
+-- In order: reach→, →reach, live-reach; good→, →good; weight→, →weight, lowest; start-first;
+-- component-is.
 -- Assumes nothing.
-use mathlib.Core.Path.{_≡_, refl, sym, subst}
-use mathlib.Core.Bool.{Bool, true, false, _&&_}
-use mathlib.Core.List.{List, [], _∷_}
+use mathlib.Core.Path.{_≡_, sym, subst}
+use mathlib.Core.Bool.{Bool, _&&_}
+use mathlib.Core.List.{List}
 use Prim.Native.Nat.{ℕ, _<_, zero-le}
 use native.Mathlib.Omega.{arith}
 use lib.Dec.{T, lt→ltb, ltb→lt}
 use lib.ListN.{length, getD}
-use Rattle.laws.specs.Lists.{if_then_else_, range, filter, first, elem}
+use Rattle.laws.specs.Lists.{range, any, first, elem}
 use Rattle.laws.specs.Sums.{Each}
 use Rattle.laws.proofs.Tests.{and→, →and, imp→, →imp}
-use Rattle.laws.proofs.Sums.{each-map, each-always, each-both, each-filter}
+use Rattle.laws.proofs.Maps.{first-filter}
+use Rattle.laws.proofs.Sums.{each-map, each-any, each-always, each-both, each-filter}
 use Rattle.laws.proofs.Anys.{any-filter}
-use Rattle.laws.proofs.Elems.{each-elem, elem-each, elem-filter, →elem-filter, elem-range, all-each}
+use Rattle.laws.proofs.Elems.{each-elem, elem-each, elem-filter, →elem-filter, elem-range, all-each, all-of}
 use Rattle.graph.specs.Arcs.{Arc}
 use Rattle.graph.specs.Component.{reachings, reaches, returns, returning, both, within, weighs, live}
 use Rattle.graph.specs.Component.{componentStates}
@@ -22,20 +24,8 @@ use Rattle.graph.specs.Reachable.{Reachable, ReachedBack, IsComponent}
 use Rattle.graph.proofs.Reach.{reaches-is, reach-trans, reach-edge}
 use Rattle.graph.proofs.Component.{good-some}
 use Rattle.graph.proofs.Found.{inside-l, in-K, s-is}
-use Rattle.laws.proofs.Elems.{all-of}
-use Rattle.graph.proofs.Start.{start-first}
+use Rattle.laws.proofs.Filters.{first-head}
 use Rattle.laws.proofs.Firsts.{none-lower}
-
--- the first that passes p, of those that pass q
-first-filter : (p q : ℕ → Bool) (d : ℕ) (l : List ℕ) → first p d (filter q l) ≡ first (λ x. q x && p x) d l
-first-filter p q d [] = refl
-first-filter p q d (x ∷ l) = go (q x) (first-filter p q d l)
-  where
-    go : (b : Bool) → first p d (filter q l) ≡ first (λ x. q x && p x) d l
-        → first p d (if b then x ∷ filter q l else filter q l)
-        ≡ (if b && p x then x else first (λ x. q x && p x) d l)
-    go true e = rw e refl
-    go false e = e
 
 module _ (v : List ℕ) (g : List Arc) (i : Each (Inside (length v)) g) (z : ℕ) (ez : T (elem z (live v))) where
   abbrev K : ℕ
@@ -52,6 +42,9 @@ module _ (v : List ℕ) (g : List Arc) (i : Each (Inside (length v)) g) (z : ℕ
 
   abbrev good : ℕ → Bool
   good = returning (reachings (length v) (within (live v) g)) (live v)
+
+  abbrev s : ℕ
+  s = first good 0 L
 
   lt : (x : ℕ) → T (elem x L) → x < K
   lt x t = elem-each (λ x. x < K) x L t (in-K v g i z ez)
@@ -90,9 +83,6 @@ module _ (v : List ℕ) (g : List Arc) (i : Each (Inside (length v)) g) (z : ℕ
       (each-map (λ t. T (elem t L)) (λ t. T (returns reach u t))
       (λ t k. →imp (reach u t) (reach t u) (λ a. →reach t u (lt t k) (b t (reach→ u t (lt t k) a)))) L (each-elem L))
 
-  abbrev s : ℕ
-  s = first good 0 L
-
   weight→ : (u : ℕ) → T (elem u L) → 0 < getD v u 0
   weight→ u h = ltb→lt 0 (getD v u 0) (elem-filter (weighs v) u (range K) h .0)
 
@@ -109,10 +99,39 @@ module _ (v : List ℕ) (g : List Arc) (i : Each (Inside (length v)) g) (z : ℕ
       u zero-le (subst (λ x. u < x) e h)
       (→and (weighs v u) (good u) (lt→ltb 0 (getD v u 0) w) (→good u (→weight u k w) b))
 
+  -- ---- the component's first state
+  trans : (a b c : ℕ) → T (elem b L) → T (elem c L) → T (reach a b) → T (reach b c) → T (reach a c)
+  trans a b c hb hc = reach-trans K gl reach (reaches-is K gl) (inside-l v g i z ez) a b c (lt b hb) (lt c hc)
+
+  s-in : T (elem s L)
+  s-in = s-is v g i z ez .1
+
+  -- what is reachable from s is as good as s
+  as-good : (x : ℕ) → T (elem x L) → T (reach s x) → T (good x)
+  as-good x ex a = all-of (returns reach x) L
+      (each-map (λ t. T (elem t L)) (λ t. T (returns reach x t))
+      (λ t et. →imp (reach x t) (reach t x) (λ b. go t et b)) L (each-elem L))
+    where
+      home : (t : ℕ) → T (elem t L) → T (reach s t) → T (reach t s)
+      home t et u = imp→ (reach s t) (reach t s)
+          (elem-each (λ t. T (returns reach s t)) t L et (all-each (returns reach s) L (s-is v g i z ez .0))) u
+
+      go : (t : ℕ) → T (elem t L) → T (reach x t) → T (reach t x)
+      go t et b = trans t s x s-in ex (home t et (trans s x t ex et a b)) a
+
+  start-first : getD (componentStates v g) 0 0 ≡ first
+      (returning (reachings (length v) (within (live v) g)) (live v)) 0 (live v)
+  unfolding componentStates
+  start-first =
+      first-head good (reach s) 0 L
+      (elem-each (λ x. T (good x) → T (any good L)) s L s-in (each-any good L) (s-is v g i z ez .0))
+      (each-map (λ x. T (elem x L)) (λ x. T (reach s x) → T (good x)) as-good L (each-elem L))
+      (reaches-is K gl .self s (lt s s-in))
+
   pub component-is : IsComponent v (within (live v) g) (getD (componentStates v g) 0 0) (componentStates v g)
   unfolding componentStates
   component-is =
-      subst (λ s. IsComponent v gl s (componentStates v g)) (sym (start-first v g i z ez)) (record {
+      subst (λ s. IsComponent v gl s (componentStates v g)) (sym start-first) (record {
         live = weight→ s (s-is v g i z ez .1);
         back = good→ s (s-is v g i z ez .1) (s-is v g i z ez .0);
         lowest = lowest;

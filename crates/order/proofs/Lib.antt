@@ -1,7 +1,7 @@
-pub mod CodeKeys
-pub mod CodePast
-pub mod CodeCarry
-pub mod CodeFirst
-pub mod CodeFront
-pub mod CodeOrder
-pub mod CodeKept
+pub mod SortedKeys
+pub mod LastKey
+pub mod CarriedKey
+pub mod FirstEdges
+pub mod KeyLists
+pub mod EdgeOrder
+pub mod KeptKeys

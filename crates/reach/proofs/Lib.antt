@@ -1,4 +1,4 @@
-pub mod CodeReach
-pub mod CodeNumbers
-pub mod CodeMembers
-pub mod CodeFails
+pub mod ReachRounds
+pub mod Numbering
+pub mod ComponentMembers
+pub mod ReturnTests

@@ -1,6 +1,6 @@
-pub mod CodeMove
-pub mod CodePart
-pub mod CodeState
-pub mod CodeSplit
-pub mod CodeLoop
-pub mod CodeMoved
+pub mod MovedSources
+pub mod Doubling
+pub mod SplitState
+pub mod OneSplit
+pub mod SplitLoop
+pub mod SplitLists

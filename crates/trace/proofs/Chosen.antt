@@ -19,8 +19,8 @@ use Rattle.laws.proofs.Ranges.{length-map-range}
 use Rattle.order.specs.EdgeKeys.{keysIn, arcOf, keyWeight}
 use Rattle.choice.specs.ChoiceParts.{FirstRun}
 use Rattle.splitting.specs.SplitParts.{keptArcs}
-use Rattle.splitting.proofs.CodeSplit.{chosen-heavy, chosen-light}
-use Rattle.splitting.proofs.CodeState.{weights-low, inside-run, kept-is, kept-total, share-le}
+use Rattle.splitting.proofs.OneSplit.{chosen-heavy, chosen-light}
+use Rattle.splitting.proofs.SplitState.{weights-low, inside-run, kept-is, kept-total, share-le}
 use Rattle.trace.specs.declared.choices.Choice.{Choice}
 use Rattle.trace.specs.Lines.{partLine, splitLine}
 use Rattle.trace.specs.ChoiceParts.{ChosenIn}

@@ -23,7 +23,7 @@ use Rattle.laws.proofs.Ranges.{length-map-range}
 use Rattle.graph.proofs.Split.{split-inv, split-length}
 use Rattle.graph.proofs.Loop.{states-le}
 use Rattle.splitting.specs.SplitParts.{SplitInto, Splits, SplitAllInto}
-use Rattle.splitting.proofs.CodeLoop.{Going, going-grows}
+use Rattle.splitting.proofs.SplitLoop.{Going, going-grows}
 use Rattle.finish.specs.declared.finish_table.TableRows.{TableRows}
 use Rattle.finish.specs.Finishing.{TableIn}
 use Rattle.text.specs.Texts.{bytes, Added}

@@ -1,2 +1,2 @@
-pub mod CodeTabled
-pub mod CodeWeights
+pub mod TabledWords
+pub mod WeightRounds

@@ -2,7 +2,7 @@
 use mathlib.Core.Path.{_≡_, refl, sym, subst}
 use Prim.Native.Nat.{_+_, _-_, _≤_}
 use native.Mathlib.Omega.{arith}
-use Rattle.choice.proofs.CodeChoose.{Lowest, lowest-none, lowest-more, lightens, sourceAt, choose-is}
+use Rattle.choice.proofs.Choosing.{Lowest, lowest-none, lowest-more, lightens, sourceAt, choose-is}
 use borrow.Author.Needs.{needs}
 use Rattle.choice.proofs.choose.choose.Statement.{statement}
 use Rattle.choice.proofs.choose.choose.Tie as tie

@@ -7,7 +7,7 @@ use native.Mathlib.Omega.{arith}
 use Rattle.laws.specs.Lists.{range}
 use Rattle.graph.specs.Splitting.{greatest}
 use Rattle.graph.specs.Value.{weightAt}
-use Rattle.choice.proofs.CodeChoose.{greatest-more}
+use Rattle.choice.proofs.Choosing.{greatest-more}
 use borrow.Author.Needs.{needs}
 use Rattle.choice.proofs.choose.greatest_weight.Statement.{statement}
 use Rattle.choice.proofs.choose.greatest_weight.Tie as tie

@@ -4,7 +4,7 @@ use Prim.Native.Nat.{_-_, _≤_}
 use native.Mathlib.Omega.{arith}
 use lib.ListN.{length, take}
 use lib.Seq.{length-take-le}
-use Rattle.choice.proofs.CodeRun.{Without, without-more, first-found, first-nowhere}
+use Rattle.choice.proofs.RunSearch.{Without, without-more, first-found, first-nowhere}
 use borrow.Author.Needs.{needs}
 use Rattle.choice.proofs.find_run.first_run.Statement.{statement}
 use Rattle.choice.proofs.find_run.first_run.Tie as tie

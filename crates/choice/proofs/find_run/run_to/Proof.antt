@@ -3,7 +3,7 @@ use mathlib.Core.Path.{_≡_}
 use Prim.Native.Nat.{_+_, _-_, _≤_}
 use native.Mathlib.Omega.{arith}
 use lib.ListN.{length, take}
-use Rattle.choice.proofs.CodeRun.{Summed, summed-none, summed-more, stretch-small, run-found, run-none}
+use Rattle.choice.proofs.RunSearch.{Summed, summed-none, summed-more, stretch-small, run-found, run-none}
 use borrow.Author.Needs.{needs}
 use Rattle.choice.proofs.find_run.run_to.Statement.{statement}
 use Rattle.choice.proofs.find_run.run_to.Tie as tie

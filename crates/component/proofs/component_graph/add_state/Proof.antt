@@ -7,7 +7,7 @@ use denote.Ref.{now}
 use lib.ListN.{getD}
 use Rattle.laws.specs.Lists.{if_then_else_}
 use Rattle.component.specs.ComponentParts.{rowArcs, Added}
-use Rattle.component.proofs.CodeRows.{added-none}
+use Rattle.component.proofs.AppendedRows.{added-none}
 use borrow.Author.Needs.{needs}
 use borrow.Author.Needs.{needs}
 use Rattle.component.proofs.component_graph.add_state.Statement.{statement}

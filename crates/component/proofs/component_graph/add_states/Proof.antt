@@ -4,7 +4,7 @@ use Prim.Native.Nat.{_-_, _≤_}
 use native.Mathlib.Omega.{arith}
 use denote.Ref.{now}
 use Rattle.component.specs.ComponentParts.{rowOfState}
-use Rattle.component.proofs.CodeRows.{Done, done-none, done-more, done-over, done-end}
+use Rattle.component.proofs.AppendedRows.{Done, done-none, done-more, done-over, done-end}
 use borrow.Author.Needs.{needs}
 use Rattle.component.proofs.component_graph.add_states.Statement.{statement}
 use Rattle.component.proofs.component_graph.add_states.Tie as tie

@@ -5,7 +5,8 @@ use Prim.Native.Nat.{_-_, _≤_}
 use native.Mathlib.Omega.{arith}
 use denote.Ref.{now}
 use lib.ListN.{length, getD}
-use Rattle.component.proofs.CodeRows.{Rowed, rowed-none, rowed-yes, rowed-no, rowed-over, rowed-end}
+use Rattle.component.proofs.AppendedRows.{Rowed, rowed-yes, rowed-no, rowed-over, rowed-end}
+use Rattle.graph.proofs.Values.{appended-none}
 use borrow.Author.Needs.{needs}
 use Rattle.component.proofs.component_graph.add_words.Statement.{statement}
 use Rattle.component.proofs.component_graph.add_words.Tie as tie
@@ -31,7 +32,7 @@ loop-holds c =
     let a : length (c .args .g .source) ≡ 2048 = search needs in
     let b : length (c .args .g .word) ≡ 2048 = search needs in
     let d : length (c .args .g .target) ≡ 2048 = search needs in
-    (omega arith, omega arith, refl, rowed-none _ _ _ _ a b d)
+    (omega arith, omega arith, refl, appended-none _ a b d)
 
 mul-place-of : tie.Need-mul-place-of Inv-loop μ-loop
 mul-place-of c = search needs

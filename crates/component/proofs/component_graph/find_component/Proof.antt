@@ -6,8 +6,8 @@ use lib.ListN.{length, take}
 use Rattle.graph.specs.Component.{within, live, reachings}
 use Rattle.weights.specs.PowerTable.{tabled}
 use Rattle.reach.specs.ReachSets.{rowsOf}
-use Rattle.component.proofs.CodeLinked.{linked-is}
-use Rattle.component.proofs.CodeFound.{state-low, found-in}
+use Rattle.component.proofs.LiveArcs.{linked-is}
+use Rattle.component.proofs.ComponentValue.{state-low, found-in}
 use borrow.Author.Needs.{needs}
 use borrow.Author.Needs.{needs}
 use Rattle.component.proofs.component_graph.find_component.Statement.{statement}

@@ -4,7 +4,7 @@ use Prim.Native.Nat.{_-_, _≤_}
 use native.Mathlib.Omega.{arith}
 use lib.ListN.{length, getD}
 use Rattle.laws.proofs.Arrays.{Filled, fill-none, fill-more}
-use Rattle.component.proofs.CodeTotals.{weights-filled}
+use Rattle.component.proofs.ComponentWeights.{weights-filled}
 use borrow.Author.Needs.{needs}
 use Rattle.component.proofs.component_graph.with_weights.Statement.{statement}
 use Rattle.component.proofs.component_graph.with_weights.Tie as tie

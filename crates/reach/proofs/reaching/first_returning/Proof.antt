@@ -8,7 +8,7 @@ use denote.Ref.{now}
 use lib.ListN.{length, take}
 use Rattle.graph.specs.Component.{returning, weighs, live}
 use Rattle.reach.specs.ReachSets.{rowsOf}
-use Rattle.reach.proofs.CodeMembers.{lowest-at, lowest-none}
+use Rattle.reach.proofs.ComponentMembers.{lowest-at, lowest-none}
 use borrow.Author.Needs.{needs}
 use Rattle.reach.proofs.reaching.first_returning.Statement.{statement}
 use Rattle.reach.proofs.reaching.first_returning.Tie as tie

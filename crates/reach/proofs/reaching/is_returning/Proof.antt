@@ -7,7 +7,7 @@ use denote.Ref.{now}
 use lib.ListN.{length, getD, take}
 use Rattle.graph.specs.Component.{returning, weighs, live}
 use Rattle.reach.specs.ReachSets.{rowsOf}
-use Rattle.reach.proofs.CodeMembers.{weighs-at}
+use Rattle.reach.proofs.ComponentMembers.{weighs-at}
 use borrow.Author.Needs.{needs}
 use borrow.Author.Needs.{needs}
 use Rattle.reach.proofs.reaching.is_returning.Statement.{statement}

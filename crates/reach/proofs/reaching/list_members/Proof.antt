@@ -8,8 +8,8 @@ use denote.Ref.{now}
 use lib.Dec.{ltb}
 use lib.ListN.{length, getD}
 use Rattle.reach.specs.ReachSets.{reachAt}
-use Rattle.reach.proofs.CodeMembers.{component-is}
-use Rattle.reach.proofs.CodeNumbers.{Numbered, numbered-none, numbered-yes, numbered-no, numbered-end}
+use Rattle.reach.proofs.ComponentMembers.{component-is}
+use Rattle.reach.proofs.Numbering.{Numbered, numbered-none, numbered-yes, numbered-no, numbered-end}
 use borrow.Author.Needs.{needs}
 use Rattle.reach.proofs.reaching.list_members.Statement.{statement}
 use Rattle.reach.proofs.reaching.list_members.Tie as tie

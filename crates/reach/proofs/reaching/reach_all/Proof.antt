@@ -4,7 +4,7 @@ use Prim.Native.Nat.{_-_, _≤_}
 use native.Mathlib.Omega.{arith}
 use denote.Ref.{now}
 use lib.ListN.{length}
-use Rattle.reach.proofs.CodeReach.{Rounds, rounds-start, rounds-more, rounds-still, rounds-end}
+use Rattle.reach.proofs.ReachRounds.{Rounds, rounds-start, rounds-more, rounds-still, rounds-end}
 use borrow.Author.Needs.{needs}
 use Rattle.reach.proofs.reaching.reach_all.Statement.{statement}
 use Rattle.reach.proofs.reaching.reach_all.Tie as tie

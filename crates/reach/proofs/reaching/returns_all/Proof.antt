@@ -6,7 +6,7 @@ use native.Mathlib.Omega.{arith}
 use borrow.Author.Count.{below-more}
 use denote.Ref.{now}
 use lib.ListN.{length}
-use Rattle.reach.proofs.CodeFails.{failsAt, fails-yes, fails-no}
+use Rattle.reach.proofs.ReturnTests.{failsAt, fails-yes, fails-no}
 use borrow.Author.Needs.{needs}
 use Rattle.reach.proofs.reaching.returns_all.Statement.{statement}
 use Rattle.reach.proofs.reaching.returns_all.Tie as tie

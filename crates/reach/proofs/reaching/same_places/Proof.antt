@@ -6,7 +6,7 @@ use native.Mathlib.Omega.{arith}
 use borrow.Author.Count.{below-more}
 use lib.ListN.{getD}
 use borrow.Author.Needs.{needs}
-use Rattle.reach.proofs.CodeReach.{same-bool}
+use Rattle.reach.proofs.ReachRounds.{same-bool}
 use Rattle.reach.proofs.reaching.same_places.Statement.{statement}
 use Rattle.reach.proofs.reaching.same_places.Tie as tie
 

@@ -4,7 +4,8 @@ use mathlib.Core.Logic.{⊎-elim}
 use Prim.Native.Nat.{_-_, _≤_, _<_}
 use native.Mathlib.Omega.{arith}
 use lib.ListN.{length}
-use Rattle.splitting.proofs.CodePart.{Grown, grown-none, grown-yes, grown-no, grown-room, grown-end}
+use Rattle.splitting.proofs.Doubling.{Grown, grown-yes, grown-no, grown-room, grown-end}
+use Rattle.graph.proofs.Values.{appended-none}
 use borrow.Author.Needs.{needs}
 use Rattle.splitting.proofs.part_state.double_edges.Statement.{statement}
 use Rattle.splitting.proofs.part_state.double_edges.Tie as tie
@@ -24,7 +25,7 @@ loop-holds c =
     let a : length (c .args .t1 .source) ≡ 2048 = search needs in
     let b : length (c .args .t1 .word) ≡ 2048 = search needs in
     let d : length (c .args .t1 .target) ≡ 2048 = search needs in
-    (omega arith, refl, omega arith, refl, grown-none _ _ a b d)
+    (omega arith, refl, omega arith, refl, appended-none _ a b d)
 
 element-copy-out-if1 : tie.Need-element-copy-out-if1 Inv-loop μ-loop
 element-copy-out-if1 c = search needs

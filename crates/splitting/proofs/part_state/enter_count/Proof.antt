@@ -4,7 +4,7 @@ use mathlib.Core.Logic.{⊎-elim}
 use Prim.Native.Nat.{_-_, _≤_}
 use native.Mathlib.Omega.{arith}
 use lib.ListN.{length}
-use Rattle.splitting.proofs.CodePart.{entered, entered-no, count-yes}
+use Rattle.splitting.proofs.Doubling.{entered, entered-no, count-yes}
 use borrow.Author.Needs.{needs}
 use Rattle.splitting.proofs.part_state.enter_count.Statement.{statement}
 use Rattle.splitting.proofs.part_state.enter_count.Tie as tie

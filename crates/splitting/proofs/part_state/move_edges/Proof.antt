@@ -7,7 +7,7 @@ use native.Mathlib.Omega.{arith}
 use lib.ListN.{length, take, drop}
 use Rattle.order.specs.EdgeKeys.{keysIn, arcOf}
 use Rattle.splitting.specs.SplitParts.{keptArcs}
-use Rattle.splitting.proofs.CodeMove.{
+use Rattle.splitting.proofs.MovedSources.{
   Resourced,
   resource-none,
   resource-put,
@@ -18,7 +18,7 @@ use Rattle.splitting.proofs.CodeMove.{
   new-kept,
   new-moved,
 }
-use Rattle.order.proofs.CodeKept.{among-kept}
+use Rattle.order.proofs.KeptKeys.{among-kept}
 use borrow.Author.Needs.{needs}
 use borrow.Author.Tests.{not-true, not-false}
 use Rattle.splitting.proofs.part_state.move_edges.Statement.{statement}

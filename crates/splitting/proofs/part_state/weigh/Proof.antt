@@ -2,7 +2,7 @@
 use mathlib.Core.Path.{_≡_}
 use lib.ListN.{length}
 use native.Mathlib.Omega.{arith}
-use Rattle.splitting.proofs.CodePart.{weigh-is}
+use Rattle.splitting.proofs.Doubling.{weigh-is}
 use borrow.Author.Needs.{needs}
 use borrow.Author.Needs.{needs}
 use Rattle.splitting.proofs.part_state.weigh.Statement.{statement}

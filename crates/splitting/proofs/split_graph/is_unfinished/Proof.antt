@@ -4,7 +4,7 @@ use Prim.Native.Nat.{ℕ, _-_, _≤_, _<_}
 use native.Mathlib.Omega.{arith}
 use borrow.Author.Count.{below-more}
 use lib.ListN.{getD}
-use Rattle.splitting.proofs.CodeLoop.{unfinished-yes, unfinished-no}
+use Rattle.splitting.proofs.SplitLoop.{unfinished-yes, unfinished-no}
 use borrow.Author.Needs.{needs}
 use Rattle.splitting.proofs.split_graph.is_unfinished.Statement.{statement}
 use Rattle.splitting.proofs.split_graph.is_unfinished.Tie as tie

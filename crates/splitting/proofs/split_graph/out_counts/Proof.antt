@@ -3,7 +3,7 @@ use mathlib.Core.Path.{_≡_, refl, ap, _∙_}
 use Prim.Native.Nat.{_-_, _≤_, _<_}
 use native.Mathlib.Omega.{arith}
 use lib.ListN.{length, getD}
-use Rattle.splitting.proofs.CodeLoop.{Counted, counted-none, counted-more, left}
+use Rattle.splitting.proofs.SplitLoop.{Counted, counted-none, counted-more, left}
 use borrow.Author.Needs.{needs}
 use Rattle.splitting.proofs.split_graph.out_counts.Statement.{statement}
 use Rattle.splitting.proofs.split_graph.out_counts.Tie as tie

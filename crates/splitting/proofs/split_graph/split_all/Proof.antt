@@ -6,7 +6,7 @@ use native.Mathlib.Omega.{arith}
 use mathlib.Core.Bool.{true}
 use Rattle.graph.specs.Splitting.{unfinished}
 use Rattle.graph.specs.Value.{workIn}
-use Rattle.splitting.proofs.CodeLoop.{
+use Rattle.splitting.proofs.SplitLoop.{
   Going,
   going-start,
   going-room,

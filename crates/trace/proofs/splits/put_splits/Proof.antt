@@ -7,7 +7,7 @@ use Prim.Native.Nat.{_-_}
 use native.Mathlib.Omega.{arith}
 use Rattle.graph.specs.Splitting.{unfinished}
 use Rattle.graph.specs.Value.{workIn}
-use Rattle.splitting.proofs.CodeLoop.{Going, going-start, going-room, going-splits, going-on, going-grows}
+use Rattle.splitting.proofs.SplitLoop.{Going, going-start, going-room, going-splits, going-on, going-grows}
 use Rattle.text.proofs.Adding.{_then_, begun}
 use Rattle.trace.proofs.SplitTexts.{Told, told-start, told-more, told-crowded, told-end}
 use borrow.Author.Needs.{needs}

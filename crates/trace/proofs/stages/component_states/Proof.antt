@@ -5,7 +5,7 @@ use denote.Ref.{now}
 use lib.ListN.{length, take}
 use Rattle.graph.specs.Component.{within, live}
 use Rattle.weights.specs.PowerTable.{tabled}
-use Rattle.component.proofs.CodeLinked.{linked-is}
+use Rattle.component.proofs.LiveArcs.{linked-is}
 use Rattle.trace.proofs.StageTexts.{members-are}
 use borrow.Author.Needs.{needs}
 use Rattle.trace.proofs.stages.component_states.Statement.{statement}

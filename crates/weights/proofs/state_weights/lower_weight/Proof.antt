@@ -6,7 +6,7 @@ use denote.Ref.{now}
 use Rattle.laws.specs.Lists.{range}
 use Rattle.laws.specs.Sums.{tot}
 use Rattle.weights.specs.PowerTable.{termBy, lowerBy}
-use Rattle.weights.proofs.CodeWeights.{term-small}
+use Rattle.weights.proofs.WeightRounds.{term-small}
 use Rattle.laws.proofs.Ranges.{tot-more}
 use borrow.Author.Needs.{needs}
 use Rattle.weights.proofs.state_weights.lower_weight.Statement.{statement}

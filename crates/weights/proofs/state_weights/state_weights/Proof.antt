@@ -6,7 +6,8 @@ use native.Mathlib.Omega.{arith}
 use denote.Ref.{now}
 use lib.ListN.{length, getD, take}
 use Rattle.weights.specs.PowerTable.{tabled}
-use Rattle.weights.proofs.CodeWeights.{Round, round-start, round-more, round-still, round-end, lowered-is, lower-le}
+use Rattle.weights.proofs.WeightRounds.{Round, round-start, round-more, round-still, round-end}
+use Rattle.weights.proofs.WeightRounds.{lowered-is, lower-le}
 use borrow.Author.Needs.{needs}
 use Rattle.weights.proofs.state_weights.state_weights.Statement.{statement}
 use Rattle.weights.proofs.state_weights.state_weights.Tie as tie

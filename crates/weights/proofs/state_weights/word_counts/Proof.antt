@@ -6,7 +6,7 @@ use denote.Ref.{now}
 use lib.Dec.{lit<}
 use Rattle.weights.specs.PowerTable.{wordCount}
 use Rattle.laws.proofs.Arrays.{Filled, fill-none, fill-more}
-use Rattle.weights.proofs.CodeWeights.{count-le}
+use Rattle.weights.proofs.WeightRounds.{count-le}
 use borrow.Author.Needs.{needs}
 use Rattle.weights.proofs.state_weights.word_counts.Statement.{statement}
 use Rattle.weights.proofs.state_weights.word_counts.Tie as tie

@@ -5,7 +5,7 @@ use Prim.Native.Nat.{_-_, _≤_}
 use native.Mathlib.Omega.{arith}
 use denote.Ref.{now}
 use Rattle.weights.specs.PowerTable.{wordCount}
-use Rattle.weights.proofs.CodeWeights.{count-none, count-yes, count-no}
+use Rattle.weights.proofs.WeightRounds.{count-none, count-yes, count-no}
 use borrow.Author.Needs.{needs}
 use Rattle.weights.proofs.state_weights.words_between.Statement.{statement}
 use Rattle.weights.proofs.state_weights.words_between.Tie as tie

@@ -25,7 +25,7 @@ use Rattle.laws.proofs.Maps.{filter-append}
 use Rattle.laws.proofs.Places.{quotient-of, remainder-of}
 use Rattle.laws.proofs.Ranges.{range-more, length-map-range}
 use Rattle.laws.proofs.Arrays.{take-same}
-use Rattle.weights.proofs.CodeTabled.{between-count}
+use Rattle.weights.proofs.TabledWords.{between-count}
 
 -- ---- counting words
 module _ (P : List ℕ) (s t : ℕ) where

@@ -1,11 +1,13 @@
--- A graph by value: that it fits its arrays, by its lists; one more edge.
--- In order: Bounded, Low, fits-from, fits-arcs, fits-weights; withArc, appended.
+-- A graph by value: that it fits its arrays, by its lists; more edges.
+-- In order: Bounded, Low, fits-from, fits-arcs, fits-weights; withArc; Appended, appended-none, appended-count,
+-- appended-more; climbs.
 -- Assumes nothing.
-use mathlib.Core.Path.{_≡_, ap₂, subst, _∙_}
-use mathlib.Core.List.{[], _∷_, map, _++_}
-use Prim.Native.Nat.{ℕ, _+_, _≤_, _<_}
+use mathlib.Core.Path.{_≡_, refl, sym, ap, ap₂, subst, _∙_}
+use mathlib.Core.List.{List, [], _∷_, map, _++_, append-assoc, append-nil}
+use Prim.Native.Nat.{ℕ, zero, suc, _+_, _-_, _≤_, _<_}
+use native.Mathlib.Nat.{add-zero}
 use native.Mathlib.Omega.{arith}
-use lib.ListN.{length, set}
+use lib.ListN.{length, set, length-set, length-append}
 use Rattle.laws.specs.Lists.{range}
 use Rattle.laws.specs.Sums.{Each}
 use Rattle.laws.proofs.Sums.{each-map, each-image}
@@ -65,9 +67,9 @@ withArc h m s w t = record {
 }
 
 -- the first m + 1 edges of a graph with one more at place m
-pub appended : (h : Graph) (m s w t : ℕ) → m < length (h .source) → m < length (h .word) → m < length (h .target)
+one-more : (h : Graph) (m s w t : ℕ) → m < length (h .source) → m < length (h .word) → m < length (h .target)
     → map (arcAt (withArc h m s w t)) (range (m + 1)) ≡ map (arcAt h) (range m) ++ (arc s w t ∷ [])
-appended h m s w t ls lw lt =
+one-more h m s w t ls lw lt =
     let r : Graph = withArc h m s w t in
     map-range-more (arcAt r) m
     ∙ ap₂ (λ x y. x ++ (y ∷ []))
@@ -77,3 +79,53 @@ appended h m s w t ls lw lt =
       getD-set-other (h .target) m k t 0 (λ q. omega arith),
     )))
     (cc (getD-set-same (h .source) m s 0 ls, getD-set-same (h .word) m w 0 lw, getD-set-same (h .target) m t 0 lt))
+
+-- ---- edges appended one after the other
+-- the first m edges of h are those of g and behind them L
+pub record Appended (g h : Graph) (m : ℕ) (L : List Arc) : Type 0 where
+  pub arcs : map (arcAt h) (range m) ≡ arcsIn g ++ L
+  pub source : length (h .source) ≡ 2048
+  pub word : length (h .word) ≡ 2048
+  pub target : length (h .target) ≡ 2048
+  pub states : h .states ≡ g .states
+  pub weight : h .weight ≡ g .weight
+
+pub appended-none : (g : Graph) → length (g .source) ≡ 2048 → length (g .word) ≡ 2048 → length (g .target) ≡ 2048
+    → Appended g g (g .edges) []
+appended-none g a b d = record {
+  arcs = sym (append-nil (arcsIn g));
+  source = a;
+  word = b;
+  target = d;
+  states = refl;
+  weight = refl;
+}
+
+module _ (g h : Graph) (m : ℕ) (L : List Arc) (c : Appended g h m L) where
+  pub appended-count : m ≡ g .edges + length L
+  appended-count =
+      sym (length-map-range (arcAt h) m) ∙ ap length (c .arcs) ∙ length-append (arcsIn g) L
+      ∙ ap (λ x. x + length L) (length-map-range (arcAt g) (g .edges))
+
+  pub appended-more : m < 2048 → (s w t : ℕ) → Appended g (withArc h m s w t) (m + 1) (L ++ (arc s w t ∷ []))
+  appended-more l s w t = record {
+    arcs =
+        one-more h m s w t (let a = c .source in omega arith) (let a = c .word in omega arith)
+        (let a = c .target in omega arith)
+        ∙ ap (λ x. x ++ (arc s w t ∷ [])) (c .arcs) ∙ append-assoc (arcsIn g) L (arc s w t ∷ []);
+    source = length-set (h .source) m s ∙ c .source;
+    word = length-set (h .word) m w ∙ c .word;
+    target = length-set (h .target) m t ∙ c .target;
+    states = c .states;
+    weight = c .weight;
+  }
+
+-- what never falls from one number to the next never falls
+climbs-by : (f : ℕ → ℕ) → ((i : ℕ) → f i ≤ f (i + 1)) → (i d : ℕ) → f i ≤ f (i + d)
+climbs-by f h i zero = rw (add-zero i) (omega arith)
+climbs-by f h i (suc d) =
+    let e : i + suc d ≡ i + d + 1 = omega arith in
+    rw e (omega (arith, climbs-by f h i d, h (i + d)))
+
+pub climbs : (f : ℕ → ℕ) → ((i : ℕ) → f i ≤ f (i + 1)) → (i n : ℕ) → i ≤ n → f i ≤ f n
+climbs f h i n l = let e : i + (n - i) ≡ n = omega arith in subst (λ k. f i ≤ f k) e (climbs-by f h i (n - i))

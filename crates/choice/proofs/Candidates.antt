@@ -21,8 +21,8 @@ use Rattle.graph.specs.Splitting.{sort, lighter, other, candidates}
 use Rattle.graph.specs.Value.{arcsIn, weightsIn, Fits}
 use Rattle.order.specs.EdgeKeys.{arcOf, keysFrom, admitted, firstKeys, keysIn}
 use Rattle.graph.proofs.Candidates.{any-sort}
-use Rattle.order.proofs.CodeKept.{same-arcs}
-use Rattle.order.proofs.CodeOrder.{sort-keys, keys-small, weights-small}
+use Rattle.order.proofs.KeptKeys.{same-arcs}
+use Rattle.order.proofs.EdgeOrder.{sort-keys, keys-small, weights-small}
 use Rattle.laws.proofs.Firsts.{first-yes, first-no}
 use Rattle.laws.proofs.Maps.{map-take, filter-same, filter-map}
 

@@ -1,5 +1,5 @@
 -- Splitting a state, put together of its parts.
--- In order: the module of one split: keys-inside, weights-low, map-weight, inside-run, kept-is, kept-total, share-le,
+-- In order: Keyed; keys-inside, weights-low, map-weight, inside-run, kept-is, kept-total, share-le,
 -- room-moved, parted-is.
 -- Assumes nothing.
 use mathlib.Core.Path.{_≡_, refl, sym, ap, ap₂, subst, _∙_}
@@ -30,15 +30,24 @@ use Rattle.graph.proofs.Candidates.{each-sort, any-sort}
 use Rattle.laws.proofs.Totals.{each-set}
 use Rattle.laws.proofs.Ranges.{length-map-range}
 use Rattle.laws.proofs.Maps.{map-take, map-drop, map-each}
-use Rattle.graph.proofs.CodeValue.{Bounded, Low, fits-arcs, fits-from, fits-weights}
-use Rattle.splitting.proofs.CodeMoved.{each-parted, entering-moved}
+use Rattle.graph.proofs.Values.{Bounded, Low, fits-arcs, fits-from, fits-weights}
+use Rattle.splitting.proofs.SplitLists.{each-parted, entering-moved}
 
--- ---- one state split
-module _ (n : ℕ) (g : Graph) (s M : ℕ) (fits : Fits g) (hs : s < g .states) (few : g .states < 128)
-    (eM : M ≡ getD (weightsIn g) s 0) (eG : M ≡ greatest (weightsIn g))
-    (some : T (any (lighter (weightsIn g) M) (out (arcsIn g) s))) (hn : 0 < n)
-    (list : Keys) (la : length (list .key) ≡ 16) (few-keys : list .count ≤ n) (h16 : n ≤ 16)
-    (is-list : map (arcOf s) (keysIn list) ≡ candidates n (weightsIn g) M (sort (out (arcsIn g) s))) where
+-- ---- one state split: the state s of weight M, and its candidates as keys
+pub record Keyed (n : ℕ) (g : Graph) (s M : ℕ) (list : Keys) : Type 0 where
+  pub fits : Fits g
+  pub inside : s < g .states
+  pub few : g .states < 128
+  pub weighs : M ≡ getD (weightsIn g) s 0
+  pub most : M ≡ greatest (weightsIn g)
+  pub some : T (any (lighter (weightsIn g) M) (out (arcsIn g) s))
+  pub ways : 0 < n
+  pub long : length (list .key) ≡ 16
+  pub few-keys : list .count ≤ n
+  pub narrow : n ≤ 16
+  pub keys : map (arcOf s) (keysIn list) ≡ candidates n (weightsIn g) M (sort (out (arcsIn g) s))
+
+module _ {n : ℕ} {g : Graph} {s M : ℕ} {list : Keys} (C : Keyed n g s M list) where
   abbrev v : List ℕ
   v = weightsIn g
 
@@ -46,14 +55,14 @@ module _ (n : ℕ) (g : Graph) (s M : ℕ) (fits : Fits g) (hs : s < g .states) 
   es = sort (out (arcsIn g) s)
 
   many : length (keysIn list) ≡ list .count
-  many = length-take-le (list .count) (list .key) (omega arith)
+  many = length-take-le (list .count) (list .key) (omega (arith, C .long, C .few-keys, C .narrow))
 
   keys-inside : Each (λ k. k % 128 < g .states) (keysIn list)
   keys-inside =
       image-each (λ e. e .target < g .states) (arcOf s) (keysIn list)
-      (subst (Each (λ e. e .target < g .states)) (sym is-list) (
+      (subst (Each (λ e. e .target < g .states)) (sym (C .keys)) (
         first-passes (lighter v M) (arc 0 0 0) (λ e. e .target < g .states) es
-            (any-sort (lighter v M) (out (arcsIn g) s) some) inside .1,
+            (any-sort (lighter v M) (out (arcsIn g) s) (C .some)) inside .1,
         each-take (λ e. e .target < g .states) (n - 1) (filter (other (first (lighter v M) (arc 0 0 0) es)) es)
             (each-filter (λ e. e .target < g .states) (other (first (lighter v M) (arc 0 0 0) es)) es
             (each-map (λ e. e .target < g .states) _ (λ e h t. h) es inside)),
@@ -63,7 +72,7 @@ module _ (n : ℕ) (g : Graph) (s M : ℕ) (fits : Fits g) (hs : s < g .states) 
       inside =
           each-sort (λ e. e .target < g .states) (out (arcsIn g) s)
           (each-filter (λ e. e .target < g .states) (leaves s) (arcsIn g)
-          (each-map (Bounded (g .states)) _ (λ e b t. b .1) (arcsIn g) (fits-arcs g fits)))
+          (each-map (Bounded (g .states)) _ (λ e b t. b .1) (arcsIn g) (fits-arcs g (C .fits))))
 
   module _ (w : List ℕ) (w-is : take (list .count) w ≡ map (keyWeight g) (keysIn list)) where
     pub weights-low : (i : ℕ) → i < list .count → getD w i 0 ≤ 128
@@ -72,12 +81,12 @@ module _ (n : ℕ) (g : Graph) (s M : ℕ) (fits : Fits g) (hs : s < g .states) 
         ap (λ l. getD l i 0) (sym w-is) ∙ getD-take (list .count) w i 0 h in
         subst Low e (each-at Low 0 (map (keyWeight g) (keysIn list))
         (each-image Low (keyWeight g) (keysIn list)
-        (each-map (λ k. k % 128 < g .states) _ (λ k l. fits .light (k % 128) l) (keysIn list) keys-inside)) i
+        (each-map (λ k. k % 128 < g .states) _ (λ k l. C .fits .light (k % 128) l) (keysIn list) keys-inside)) i
         (rw (length-map (keysIn list) (keyWeight g), many) h))
 
     map-weight : map (weight v) (candidates n v M es) ≡ take (list .count) w
     map-weight =
-        ap (map (weight v)) (sym is-list) ∙ both (keysIn list)
+        ap (map (weight v)) (sym (C .keys)) ∙ both (keysIn list)
         ∙ map-each (λ k. weight v (arcOf s k)) (keyWeight g) (keysIn list)
         (each-map (λ k. k % 128 < g .states) _ (λ k l. map-range-at (weightAt g) (g .states) (k % 128) 0 l)
         (keysIn list)
@@ -96,18 +105,18 @@ module _ (n : ℕ) (g : Graph) (s M : ℕ) (fits : Fits g) (hs : s < g .states) 
       inside-run =
           let l : length (take (list .count) w) ≡ list .count =
           ap length w-is ∙ length-map (keysIn list) (keyWeight g) ∙ many in
-          omega (arith, run-is .inside)
+          omega (arith, run-is .inside, C .few-keys)
 
       pub kept-is : keptArcs s list run ≡ keep
       kept-is =
           map-take (arcOf s) (run .count) (drop (run .from) (keysIn list))
-          ∙ ap (take (run .count)) (map-drop (arcOf s) (run .from) (keysIn list) ∙ ap (drop (run .from)) is-list)
+          ∙ ap (take (run .count)) (map-drop (arcOf s) (run .from) (keysIn list) ∙ ap (drop (run .from)) (C .keys))
           ∙ sym (run-is .run v (candidates n v M es) map-weight .0)
-          ∙ ap (λ m. firstRun n v (candidates n v m es)) eM
+          ∙ ap (λ m. firstRun n v (candidates n v m es)) (C .weighs)
 
       pub kept-total : total v keep ≡ run .total
       kept-total =
-          ap (total v) (sym (ap (λ m. firstRun n v (candidates n v m es)) eM)
+          ap (total v) (sym (ap (λ m. firstRun n v (candidates n v m es)) (C .weighs))
           ∙ run-is .run v (candidates n v M es) map-weight .0)
           ∙ run-is .run v (candidates n v M es) map-weight .1
 
@@ -116,12 +125,12 @@ module _ (n : ℕ) (g : Graph) (s M : ℕ) (fits : Fits g) (hs : s < g .states) 
           let a : length (keptArcs s list run) ≡ length (take (run .count) (drop (run .from) (keysIn list))) =
           length-map (take (run .count) (drop (run .from) (keysIn list))) (arcOf s) in
           let b = length-take (run .count) (drop (run .from) (keysIn list)) in
-          omega (arith, ap length kept-is, inside-run)
+          omega (arith, ap length kept-is, inside-run, C .few-keys)
 
       pub share-le : run .total / n ≤ M
       share-le =
           div-le-of-le-mul n (subst (λ x. x ≤ n * M) kept-total
-          (le-trans (total-le v keep) (rw (← eG) (mul-le-mul-right M kept-few))))
+          (le-trans (total-le v keep) (rw (← C .most) (mul-le-mul-right M kept-few))))
 
       pub room-moved : g .edges + entering (arcsIn g) s ≤ 2048 → (h : Graph) → Moved g s (keptArcs s list run) h
           → h .edges + entering (arcsIn h) s ≤ 2048
@@ -157,13 +166,14 @@ module _ (n : ℕ) (g : Graph) (s M : ℕ) (fits : Fits g) (hs : s < g .states) 
               λ i. record { weights = b i; arcs = a i };
           fits =
               let low : M ≤ 128 =
-              subst (λ x. x ≤ 128) (sym (eM ∙ map-range-at (weightAt g) (g .states) s 0 hs)) (fits .light s hs) in
-              fits-from r (let e = states-r in omega arith) (let e = W .edges in omega (arith, D .room))
+              subst (λ x. x ≤ 128) (sym (C .weighs ∙ map-range-at (weightAt g) (g .states) s 0 (C .inside)))
+              (C .fits .light s (C .inside)) in
+              fits-from r (let e = states-r in omega (arith, C .few)) (let e = W .edges in omega (arith, D .room))
               (subst (Each Low) (sym weights-r)
               (each-append Low (set v s (run .total / n)) ((getD v s 0 - run .total / n) ∷ [])
-              (each-set Low v s (run .total / n) (fits-weights g fits) (omega (arith, share-le)))
-              ((omega arith), tt)))
+              (each-set Low v s (run .total / n) (fits-weights g (C .fits)) (omega (arith, share-le)))
+              (omega arith, tt)))
               (subst (λ k. Each (Bounded k) (arcsIn r)) (sym states-r)
               (subst (Each (Bounded (g .states + 1))) (sym arcs-r)
-              (each-parted s (g .states) keep (arcsIn g) (fits-arcs g fits))));
+              (each-parted s (g .states) keep (arcsIn g) (fits-arcs g (C .fits)))));
         }

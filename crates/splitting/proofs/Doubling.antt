@@ -1,11 +1,10 @@
 -- Doubling the edges into a state, and the new weights.
--- In order: entered, entered-yes, entered-no, count-yes, entered-le, entered-all; Grown,
--- grown-none, grown-count, grown-room, grown-yes, grown-no, grown-end; withWeights, weigh-is.
+-- In order: entered, entered-yes, entered-no, count-yes, entered-all; Grown, grown-room, grown-yes, grown-no,
+-- grown-end; withWeights, weigh-is.
 -- Assumes nothing.
 use mathlib.Core.Path.{_≡_, refl, sym, ap, ap₂, subst, _∙_}
-use mathlib.Core.List.{List, [], _∷_, _++_, map, append-assoc, append-nil}
-use Prim.Native.Nat.{ℕ, zero, suc, _+_, _-_, _≤_, _<_}
-use native.Mathlib.Nat.{add-zero}
+use mathlib.Core.List.{List, [], _∷_, _++_, map, append-nil}
+use Prim.Native.Nat.{ℕ, _+_, _-_, _≤_, _<_}
 use native.Mathlib.Omega.{arith}
 use native.Mathlib.Decide.{ℕ-discrete}
 use borrow.Author.Tests.{eq-eqb, ne-eqb}
@@ -20,7 +19,7 @@ use Rattle.graph.specs.Value.{arcAt, arcsIn, weightAt, weightsIn}
 use Rattle.splitting.specs.SplitParts.{entering, Doubled, Weighed}
 use Rattle.laws.proofs.Maps.{map-append, filter-append}
 use Rattle.laws.proofs.Ranges.{map-range-more, length-map-range}
-use Rattle.graph.proofs.CodeValue.{withArc, appended}
+use Rattle.graph.proofs.Values.{withArc, Appended, appended-count, appended-more, climbs}
 
 -- ---- counting and doubling
 module _ (g : Graph) (s : ℕ) where
@@ -45,77 +44,41 @@ module _ (g : Graph) (s : ℕ) where
   pub count-yes : (i : ℕ) → getD (g .target) i 0 ≡ s → length (entered (i + 1)) ≡ length (entered i) + 1
   count-yes i q = ap length (entered-yes i q) ∙ length-append (entered i) (arcAt g i ∷ [])
 
-  pub entered-le : (i d : ℕ) → length (entered i) ≤ length (entered (i + d))
-  entered-le i zero = rw (add-zero i) (omega arith)
-  entered-le i (suc d) =
-      let e : i + suc d ≡ i + d + 1 = omega arith in
-      let l : length (entered (i + d + 1))
-      ≡ length (entered (i + d)) + length (filter (enters s) (arcAt g (i + d) ∷ [])) =
-      ap length (entered-snoc (i + d)) ∙ length-append (entered (i + d)) (filter (enters s) (arcAt g (i + d) ∷ [])) in
-      rw e (omega (arith, entered-le i d))
-
-  pub entered-all : (i n : ℕ) → i ≤ n → length (entered i) ≤ length (entered n)
-  entered-all i n h =
-      let e : i + (n - i) ≡ n = omega arith in
-      subst (λ k. length (entered i) ≤ length (entered k)) e (entered-le i (n - i))
+  entered-all : (i n : ℕ) → i ≤ n → length (entered i) ≤ length (entered n)
+  entered-all = climbs (λ i. length (entered i)) (λ i. omega (
+    arith,
+    ap length (entered-snoc i),
+    length-append (entered i) (filter (enters s) (arcAt g i ∷ [])),
+  ))
 
 -- the first m edges of h are those of g, and behind them those that the edges below i into s become
-pub record Grown (g : Graph) (s : ℕ) (h : Graph) (m i : ℕ) : Type 0 where
-  pub arcs : map (arcAt h) (range m) ≡ arcsIn g ++ map (redirected (g .states)) (entered g s i)
-  pub source : length (h .source) ≡ 2048
-  pub word : length (h .word) ≡ 2048
-  pub target : length (h .target) ≡ 2048
-  pub states : h .states ≡ g .states
-  pub weight : h .weight ≡ g .weight
-
-pub grown-none : (g : Graph) (s : ℕ) → length (g .source) ≡ 2048 → length (g .word) ≡ 2048 → length (g .target) ≡ 2048
-    → Grown g s g (g .edges) 0
-grown-none g s a b d = record {
-  arcs = sym (append-nil (arcsIn g));
-  source = a;
-  word = b;
-  target = d;
-  states = refl;
-  weight = refl;
-}
+abbrev pub Grown : Graph → ℕ → Graph → ℕ → ℕ → Type 0
+Grown g s h m i = Appended g h m (map (redirected (g .states)) (entered g s i))
 
 module _ (g : Graph) (s : ℕ) (h : Graph) (m i : ℕ) (c : Grown g s h m i) where
-  pub grown-count : m ≡ g .edges + length (entered g s i)
-  grown-count =
-      sym (length-map-range (arcAt h) m) ∙ ap length (c .arcs)
-      ∙ length-append (arcsIn g) (map (redirected (g .states)) (entered g s i))
-      ∙ ap₂ (λ x y. x + y) (length-map-range (arcAt g) (g .edges)) (length-map (entered g s i) (redirected (g .states)))
+  abbrev here : List Arc
+  here = map (redirected (g .states)) (entered g s i)
 
   pub grown-room : i < g .edges → getD (g .target) i 0 ≡ s → m < g .edges + entering (arcsIn g) s
-  grown-room l q = omega (arith, grown-count, count-yes g s i q, entered-all g s (i + 1) (g .edges) (omega arith))
+  grown-room l q =
+      omega (
+        arith,
+        appended-count g h m here c,
+        length-map (entered g s i) (redirected (g .states)),
+        count-yes g s i q,
+        entered-all g s (i + 1) (g .edges) (omega arith),
+      )
 
   pub grown-yes : m < 2048 → getD (g .target) i 0 ≡ s
       → Grown g s (withArc h m (getD (g .source) i 0) (getD (g .word) i 0) (g .states)) (m + 1) (i + 1)
-  grown-yes l q = record {
-    arcs =
-        appended h m (getD (g .source) i 0) (getD (g .word) i 0) (g .states) (let a = c .source in omega arith)
-        (let a = c .word in omega arith) (let a = c .target in omega arith)
-        ∙ ap (λ x. x ++ (redirected (g .states) (arcAt g i) ∷ [])) (c .arcs)
-        ∙ append-assoc (arcsIn g) (map (redirected (g .states)) (entered g s i))
-        (redirected (g .states) (arcAt g i) ∷ [])
-        ∙ ap (λ x. arcsIn g ++ x) (sym (ap (map (redirected (g .states))) (entered-yes g s i q)
-        ∙ map-append (redirected (g .states)) (entered g s i) (arcAt g i ∷ [])));
-    source = length-set (h .source) m (getD (g .source) i 0) ∙ c .source;
-    word = length-set (h .word) m (getD (g .word) i 0) ∙ c .word;
-    target = length-set (h .target) m (g .states) ∙ c .target;
-    states = c .states;
-    weight = c .weight;
-  }
+  grown-yes l q =
+      subst (Appended g (withArc h m (getD (g .source) i 0) (getD (g .word) i 0) (g .states)) (m + 1))
+      (sym (ap (map (redirected (g .states))) (entered-yes g s i q)
+      ∙ map-append (redirected (g .states)) (entered g s i) (arcAt g i ∷ [])))
+      (appended-more g h m here c l (getD (g .source) i 0) (getD (g .word) i 0) (g .states))
 
   pub grown-no : (getD (g .target) i 0 ≡ s → ⊥) → Grown g s h m (i + 1)
-  grown-no q = record {
-    arcs = c .arcs ∙ ap (λ x. arcsIn g ++ map (redirected (g .states)) x) (sym (entered-no g s i q));
-    source = c .source;
-    word = c .word;
-    target = c .target;
-    states = c .states;
-    weight = c .weight;
-  }
+  grown-no q = subst (λ L. Appended g h m (map (redirected (g .states)) L)) (sym (entered-no g s i q)) c
 
 pub grown-end : (g : Graph) (s : ℕ) (h : Graph) (m : ℕ) → m ≤ 2048 → Grown g s h m (g .edges)
     → Doubled g s (record {

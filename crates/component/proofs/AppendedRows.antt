@@ -1,25 +1,24 @@
 -- The component's edges, appended word by word and state by state.
--- In order: row-yes, row-no, row-all; Rowed, rowed-none, rowed-yes, rowed-no, rowed-over, rowed-end; rows, rows-more,
--- rows-all; Done, done-none, done-more, done-over, done-end; added-none.
+-- In order: row-yes, row-no, row-all; Rowed, rowed-yes, rowed-no, rowed-over, rowed-end; rows, rows-all; Done,
+-- done-none, done-more, done-over, done-end; added-none.
 -- Assumes nothing.
 use mathlib.Core.Path.{_≡_, refl, sym, ap, subst, _∙_}
 use mathlib.Core.Bool.{true, false}
 use mathlib.Core.List.{List, [], _∷_, _++_, map, append-assoc, append-nil}
-use Prim.Native.Nat.{ℕ, zero, suc, _+_, _-_, _≤_, _<_}
-use native.Mathlib.Nat.{add-zero}
+use Prim.Native.Nat.{ℕ, _+_, _≤_, _<_}
 use native.Mathlib.Omega.{arith}
 use borrow.Author.Tests.{lt-ltb, le-ltb, ltb-true, ltb-false}
-use lib.ListN.{length, getD, length-set, length-append}
+use lib.ListN.{length, getD, length-append}
 use Rattle.laws.specs.Lists.{if_then_else_, range, filter, concat}
 use Rattle.graph.specs.declared.Graph.{Graph}
 use Rattle.graph.specs.declared.NextGraph.{NextGraph}
-use Rattle.graph.specs.Arcs.{Arc}
+use Rattle.graph.specs.Arcs.{Arc, arc}
 use Rattle.graph.specs.Value.{arcAt, arcsIn}
 use Rattle.weights.specs.PowerTable.{entryAt}
 use Rattle.component.specs.ComponentParts.{placeOf, rowKeeps, rowArc, rowArcs, Added}
-use Rattle.laws.proofs.Ranges.{range-more, length-map-range}
+use Rattle.laws.proofs.Ranges.{range-more, length-map-range, concat-more}
 use Rattle.laws.proofs.Maps.{map-append, filter-append}
-use Rattle.graph.proofs.CodeValue.{withArc, appended}
+use Rattle.graph.proofs.Values.{withArc, Appended, appended-count, appended-more, climbs}
 
 module _ (P I : List ℕ) (s : ℕ) where
   row-snoc : (w : ℕ) → rowArcs P I s (w + 1) ≡ rowArcs P I s w ++ map (rowArc P I s) (filter (rowKeeps P I s) (w ∷ []))
@@ -41,79 +40,27 @@ module _ (P I : List ℕ) (s : ℕ) where
       (le-ltb (placeOf I (entryAt P s w)) 16 h)
       ∙ append-nil (rowArcs P I s w)
 
-  row-le : (w d : ℕ) → length (rowArcs P I s w) ≤ length (rowArcs P I s (w + d))
-  row-le w zero = rw (add-zero w) (omega arith)
-  row-le w (suc d) =
-      let e : w + suc d ≡ w + d + 1 = omega arith in
-      rw e (omega (
-        arith,
-        row-le w d,
-        ap length (row-snoc (w + d)),
-        length-append (rowArcs P I s (w + d)) (map (rowArc P I s) (filter (rowKeeps P I s) ((w + d) ∷ []))),
-      ))
-
   row-all : (w words : ℕ) → w ≤ words → length (rowArcs P I s w) ≤ length (rowArcs P I s words)
-  row-all w words h =
-      let e : w + (words - w) ≡ words = omega arith in
-      subst (λ n. length (rowArcs P I s w) ≤ length (rowArcs P I s n)) e (row-le w (words - w))
+  row-all = climbs (λ w. length (rowArcs P I s w)) (λ w. omega (
+    arith,
+    ap length (row-snoc w),
+    length-append (rowArcs P I s w) (map (rowArc P I s) (filter (rowKeeps P I s) (w ∷ []))),
+  ))
 
   -- the first m edges of h are those of g and the words below w
-  pub record Rowed (g h : Graph) (m w : ℕ) : Type 0 where
-    pub arcs : map (arcAt h) (range m) ≡ arcsIn g ++ rowArcs P I s w
-    pub source : length (h .source) ≡ 2048
-    pub word : length (h .word) ≡ 2048
-    pub target : length (h .target) ≡ 2048
-    pub states : h .states ≡ g .states
-    pub weight : h .weight ≡ g .weight
-
-  pub rowed-none : (g : Graph) → length (g .source) ≡ 2048 → length (g .word) ≡ 2048 → length (g .target) ≡ 2048
-      → Rowed g g (g .edges) 0
-  rowed-none g a b d = record {
-    arcs = sym (append-nil (arcsIn g));
-    source = a;
-    word = b;
-    target = d;
-    states = refl;
-    weight = refl;
-  }
+  abbrev pub Rowed : Graph → Graph → ℕ → ℕ → Type 0
+  Rowed g h m w = Appended g h m (rowArcs P I s w)
 
   module _ (g h : Graph) (m w : ℕ) (c : Rowed g h m w) where
-    rowed-count : m ≡ g .edges + length (rowArcs P I s w)
-    rowed-count =
-        sym (length-map-range (arcAt h) m) ∙ ap length (c .arcs) ∙ length-append (arcsIn g) (rowArcs P I s w)
-        ∙ ap (λ x. x + length (rowArcs P I s w)) (length-map-range (arcAt g) (g .edges))
-
-    rowed-here : m < 2048 → placeOf I (entryAt P s w) < 16
-        → Rowed g (withArc h m (getD I s 0) w (placeOf I (entryAt P s w))) (m + 1) (w + 1)
-    rowed-here l q = record {
-      arcs =
-          appended h m (getD I s 0) w (placeOf I (entryAt P s w)) (let a = c .source in omega arith)
-          (let a = c .word in omega arith) (let a = c .target in omega arith)
-          ∙ ap (λ x. x ++ (rowArc P I s w ∷ [])) (c .arcs)
-          ∙ append-assoc (arcsIn g) (rowArcs P I s w) (rowArc P I s w ∷ [])
-          ∙ ap (λ x. arcsIn g ++ x) (sym (row-yes w q));
-      source = length-set (h .source) m (getD I s 0) ∙ c .source;
-      word = length-set (h .word) m w ∙ c .word;
-      target = length-set (h .target) m (placeOf I (entryAt P s w)) ∙ c .target;
-      states = c .states;
-      weight = c .weight;
-    }
-
     pub rowed-yes : (t : ℕ) → t ≡ placeOf I (entryAt P s w) → m < 2048 → t < 16
         → Rowed g (withArc h m (getD I s 0) w t) (m + 1) (w + 1)
     rowed-yes t e l q =
-        subst (λ x. Rowed g (withArc h m (getD I s 0) w x) (m + 1) (w + 1)) (sym e)
-        (rowed-here l (subst (λ x. x < 16) e q))
+        subst (Appended g (withArc h m (getD I s 0) w t) (m + 1))
+        (ap (λ x. rowArcs P I s w ++ (arc (getD I s 0) w x ∷ [])) e ∙ sym (row-yes w (subst (λ x. x < 16) e q)))
+        (appended-more g h m (rowArcs P I s w) c l (getD I s 0) w t)
 
     pub rowed-no : 16 ≤ placeOf I (entryAt P s w) → Rowed g h m (w + 1)
-    rowed-no q = record {
-      arcs = c .arcs ∙ ap (λ x. arcsIn g ++ x) (sym (row-no w q));
-      source = c .source;
-      word = c .word;
-      target = c .target;
-      states = c .states;
-      weight = c .weight;
-    }
+    rowed-no q = subst (Appended g h m) (sym (row-no w q)) c
 
     pub rowed-over : (words : ℕ) → w < words → 2048 ≤ m → placeOf I (entryAt P s w) < 16
         → Added g (rowArcs P I s words) (record { crowded = true; graph = g })
@@ -121,7 +68,7 @@ module _ (P I : List ℕ) (s : ℕ) where
       crowds = sym (lt-ltb 2048 (g .edges + length (rowArcs P I s words))
           (omega (
             arith,
-            rowed-count,
+            appended-count g h m (rowArcs P I s w) c,
             row-all (w + 1) words (omega arith),
             ap length (row-yes w q),
             length-append (rowArcs P I s w) (rowArc P I s w ∷ []),
@@ -143,7 +90,8 @@ module _ (P I : List ℕ) (s : ℕ) where
       };
     })
     rowed-end l = record {
-      crowds = sym (le-ltb 2048 (g .edges + length (rowArcs P I s w)) (omega (arith, rowed-count)));
+      crowds = sym (le-ltb 2048 (g .edges + length (rowArcs P I s w))
+          (omega (arith, appended-count g h m (rowArcs P I s w) c)));
       arcs = λ e. c .arcs;
       states = λ e. c .states;
       weight = λ e. c .weight;
@@ -154,24 +102,9 @@ module _ (row : ℕ → List Arc) where
   abbrev pub rows : ℕ → List Arc
   rows k = concat (map row (range k))
 
-  concat-append : (a b : List (List Arc)) → concat (a ++ b) ≡ concat a ++ concat b
-  concat-append [] b = refl
-  concat-append (x ∷ a) b = ap (λ y. x ++ y) (concat-append a b) ∙ sym (append-assoc x (concat a) (concat b))
-
-  rows-more : (k : ℕ) → rows (k + 1) ≡ rows k ++ row k
-  rows-more k =
-      ap concat (ap (map row) (range-more k) ∙ map-append row (range k) (k ∷ []))
-      ∙ concat-append (map row (range k)) (row k ∷ []) ∙ ap (λ x. rows k ++ x) (append-nil (row k))
-
-  rows-le : (k d : ℕ) → length (rows k) ≤ length (rows (k + d))
-  rows-le k zero = rw (add-zero k) (omega arith)
-  rows-le k (suc d) =
-      let e : k + suc d ≡ k + d + 1 = omega arith in
-      rw e (omega (arith, rows-le k d, ap length (rows-more (k + d)), length-append (rows (k + d)) (row (k + d))))
-
   rows-all : (i k : ℕ) → i ≤ k → length (rows i) ≤ length (rows k)
-  rows-all i k h =
-      let e : i + (k - i) ≡ k = omega arith in subst (λ n. length (rows i) ≤ length (rows n)) e (rows-le i (k - i))
+  rows-all = climbs (λ k. length (rows k))
+      (λ k. omega (arith, ap length (concat-more row k), length-append (rows k) (row k)))
 
   pub record Done (g h : Graph) (i : ℕ) : Type 0 where
     pub arcs : arcsIn h ≡ arcsIn g ++ rows i
@@ -189,13 +122,13 @@ module _ (row : ℕ → List Arc) where
         ∙ ap (λ x. x + length (rows i)) (length-map-range (arcAt g) (g .edges))
 
     more-count : length (rows (i + 1)) ≡ length (rows i) + length (row i)
-    more-count = ap length (rows-more i) ∙ length-append (rows i) (row i)
+    more-count = ap length (concat-more row i) ∙ length-append (rows i) (row i)
 
     pub done-more : (r : NextGraph) → Added h (row i) r → r .crowded ≡ false → Done g (r .graph) (i + 1)
     done-more r a e = record {
       arcs =
           a .arcs e ∙ ap (λ x. x ++ row i) (c .arcs) ∙ append-assoc (arcsIn g) (rows i) (row i)
-          ∙ ap (λ x. arcsIn g ++ x) (sym (rows-more i));
+          ∙ ap (λ x. arcsIn g ++ x) (sym (concat-more row i));
       room =
           let l : r .graph .edges ≡ h .edges + length (row i) =
           sym (length-map-range (arcAt (r .graph)) (r .graph .edges)) ∙ ap length (a .arcs e)

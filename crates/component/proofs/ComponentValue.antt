@@ -44,8 +44,8 @@ use Rattle.component.specs.ComponentParts.{placeOf, rowKeeps, rowArc, ro
 use Rattle.laws.proofs.Ranges.{length-map-range, map-range-same}
 use Rattle.laws.proofs.Maps.{filter-same, filter-map, filter-both, filter-concat, filter-never}
 use Rattle.laws.proofs.Maps.{map-concat, map-each, map-map}
-use Rattle.graph.proofs.CodeValue.{fits-from, Bounded, Low}
-use Rattle.component.proofs.CodeLinked.{live-lt}
+use Rattle.graph.proofs.Values.{fits-from, Bounded, Low}
+use Rattle.component.proofs.LiveArcs.{live-lt}
 
 module _ (P : List ℕ) (words k : ℕ) (pw : Powers P words k) (v : List ℕ) (long : length v ≡ 16)
     (low : (s : ℕ) → s < k → getD v s 0 ≤ 128) (M : List Bool) (s : ℕ)

@@ -19,7 +19,7 @@ use Rattle.graph.specs.Arcs.{Arc, leadsOn}
 use Rattle.graph.specs.Component.{leadsInto, both, within, weighs, live}
 use Rattle.weights.specs.PowerTable.{entryAt, wordAt, wordsAt, tabled, Powers, wordLeads, wordCount}
 use Rattle.reach.specs.ReachSets.{linksInto, Linked, liveEdge}
-use Rattle.graph.proofs.CodeUpTo.{elem-kept}
+use Rattle.graph.proofs.UpTo.{elem-kept}
 use Rattle.laws.proofs.Filters.{filter-pos, filter-some}
 use Rattle.laws.proofs.Ranges.{any-range-same}
 use Rattle.laws.proofs.Places.{quotient-of, remainder-of}

@@ -14,7 +14,7 @@ use Rattle.laws.proofs.Sums.{each-map, each-append, each-filter, each-image}
 use Rattle.graph.specs.Arcs.{Arc, arc, leaves, enters}
 use Rattle.graph.specs.Splitting.{among, moved, redirected, doubled}
 use Rattle.splitting.specs.SplitParts.{entering}
-use Rattle.graph.proofs.CodeValue.{Bounded}
+use Rattle.graph.proofs.Values.{Bounded}
 
 -- ---- moving edges changes no target
 target-moved : (s K : ℕ) (keep : List Arc) (e : Arc) → moved s K keep e .target ≡ e .target

@@ -1,6 +1,6 @@
 -- All splits: counting edges of states, and the loop.
--- In order: Counted, counted-none, counted-more; unfinished-yes, unfinished-no; Going, going-start, going-splits,
--- going-on, going-crowded, going-end.
+-- In order: Counted, counted-none, counted-more; unfinished-yes, unfinished-no; Going, going-start, goesOn-is,
+-- more-states, going-splits, going-on, going-crowded, going-end.
 -- Assumes nothing.
 use mathlib.Core.Path.{_≡_, refl, sym, ap, ap₂, subst, _∙_}
 use mathlib.Core.Bool.{Bool, true, false, not, _&&_}
@@ -132,12 +132,12 @@ module _ (n : ℕ) (g h : Graph) (p : Splits n g) (c : Going n g h) where
   not-crowded : crowded (workIn h) ≡ false
   not-crowded = le-ltb 2048 (length (arcsIn h)) (rw (length-map-range (arcAt h) (h .edges)) (c .fits .room))
 
-  goes : (b : Bool) → unfinished n (workIn h) ≡ b → goesOn n (workIn h) ≡ b
-  goes b q = ap₂ (λ x y. not x && y) not-crowded q
+  pub goesOn-is : (b : Bool) → unfinished n (workIn h) ≡ b → goesOn n (workIn h) ≡ b
+  goesOn-is b q = ap₂ (λ x y. not x && y) not-crowded q
 
   module _ (u : unfinished n (workIn h) ≡ true) where
-    more : suc (h .states) ≤ sum (weightsIn g)
-    more =
+    pub more-states : suc (h .states) ≤ sum (weightsIn g)
+    more-states =
         let t : T (unfinished n (workIn h)) = rw u tt in
         let e = split-length n (sum (weightsIn g)) (workIn h) (p .some) (c .inv) t in
         let l = states-le n (sum (weightsIn g)) (p .some) (split n (workIn h))
@@ -146,16 +146,17 @@ module _ (n : ℕ) (g h : Graph) (p : Splits n g) (c : Going n g h) where
         omega arith
 
     pub going-room : h .states < 128
-    going-room = omega (arith, more, p .weighs)
+    going-room = omega (arith, more-states, p .weighs)
 
     pub going-splits : T (any (splittable (weightsIn h) (arcsIn h)) (range (length (weightsIn h))))
     going-splits = ripe-some n (sum (weightsIn g)) (workIn h) (c .inv) (rw u tt)
 
     -- one split fewer left
     next : (k : ℕ) → c .fuel ≡ k → (j : ℕ) × (k ≡ suc j) × (splits j n (split n (workIn h)) ≡ splitAll n (workIn g))
-    next zero e = absurd (omega (arith, more, c .enough))
+    next zero e = absurd (omega (arith, more-states, c .enough))
     next (suc k) e =
-        (k, refl, sym (splits-on k n (workIn h) (goes true u)) ∙ ap (λ j. splits j n (workIn h)) (sym e) ∙ c .leads)
+        let l = sym (splits-on k n (workIn h) (goesOn-is true u)) in
+        (k, refl, l ∙ ap (λ j. splits j n (workIn h)) (sym e) ∙ c .leads)
 
     pub going-on : (r : NextGraph) → SplitInto n h r → r .crowded ≡ false → Going n g (r .graph)
     going-on r s q =
@@ -201,4 +202,4 @@ module _ (n : ℕ) (g h : Graph) (p : Splits n g) (c : Going n g h) where
   }
     where
       at : (j : ℕ) → splits j n (workIn h) ≡ workIn h
-      at j = splits-stop j n (workIn h) (goes false u)
+      at j = splits-stop j n (workIn h) (goesOn-is false u)

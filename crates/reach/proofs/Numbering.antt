@@ -12,7 +12,7 @@ use lib.ListN.{length, getD, take, set, length-set, replicate, length-replicate,
 use lib.Seq.{length-take-le, getD-set-same, getD-set-other, take-suc-set}
 use Rattle.laws.specs.Lists.{if_then_else_, elem, indexOf}
 use Rattle.reach.specs.ReachSets.{Listed}
-use Rattle.graph.proofs.CodeUpTo.{upTo, upTo-yes, upTo-no, elem-kept, index-kept}
+use Rattle.graph.proofs.UpTo.{upTo, upTo-yes, upTo-no, elem-kept, index-kept}
 
 module _ (q : ℕ → Bool) where
   pub record Numbered (i count : ℕ) (state index : List ℕ) : Type 0 where

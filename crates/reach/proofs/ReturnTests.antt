@@ -9,7 +9,7 @@ use lib.Dec.{ltb}
 use lib.ListN.{length, getD, take}
 use Rattle.graph.specs.Component.{returning, live}
 use Rattle.reach.specs.ReachSets.{reachAt, rowsOf}
-use Rattle.reach.proofs.CodeMembers.{returning-yes, returning-no}
+use Rattle.reach.proofs.ComponentMembers.{returning-yes, returning-no}
 
 -- t is reached from s and does not reach back
 abbrev pub failsAt : List Bool → List ℕ → ℕ → ℕ → Bool
