@@ -1,15 +1,16 @@
 -- The edges of each state reached are followed once; in the end no edge leads out of the set.
 use mathlib.Core.Path.{_≡_, refl, ap, _∙_}
 use mathlib.Core.Bool.{true, false, _||_}
-use Prim.Native.Nat.{_-_}
 use native.Mathlib.Omega.{arith}
 use lib.Dec.{eqb}
 use lib.ListN.{length, replicate, length-replicate, length-set}
 use Rattle.laws.specs.Sets.{member}
+use Rattle.laws.proofs.Grids.{missing}
+use Rattle.laws.proofs.Members.{put-member, member-blank}
 use Rattle.order.specs.EdgeKeys.{keysIn}
 use Rattle.finish.specs.Finishing.{Finished, Open}
 use Rattle.finish.proofs.Closure.{Forward, forward-start, forward-step, forward-end}
-use Rattle.finish.proofs.Marks.{opens, opens-less, put-member, blank-none, open-set, open-done}
+use Rattle.finish.proofs.Marks.{missing-put, open-set, open-done}
 use borrow.Author.Needs.{needs}
 use Rattle.finish.proofs.finish_table.reach_rows.Statement.{statement}
 use Rattle.finish.proofs.finish_table.reach_rows.Tie as tie
@@ -19,7 +20,7 @@ Inv-loop g n k set₀ done₀ s₀ set done s =
     (h : Finished n g) × (k ≡ g .states) × Open set done k s × Forward n g h set done
 
 abbrev μ-loop : tie.MeasureT-loop
-μ-loop g n k set₀ done₀ s₀ set done s = opens done k
+μ-loop g n k set₀ done₀ s₀ set done s = missing done
 
 array-write-set : tie.Need-array-write-set Inv-loop μ-loop
 array-write-set c = search needs
@@ -37,8 +38,8 @@ loop-holds c =
           (length-set (replicate 128 false) 0 true ∙ length-replicate 128 false)
           (length-replicate 128 false)
           (λ x. put-member (replicate 128 false) 0 x (omega (arith, length-replicate 128 false))
-          ∙ ap (λ b. b || eqb 0 x) (blank-none 128 x))
-          (blank-none 128),
+          ∙ ap (λ b. b || eqb 0 x) (member-blank 128 x))
+          (member-blank 128),
     )
 
 first-edges-requires : tie.Need-first-edges-requires Inv-loop μ-loop
@@ -58,8 +59,7 @@ loop-less : tie.Need-loop-less Inv-loop μ-loop
 loop-less c =
     let l = c .before .before .before .before .loop in
     let o = l .inv .2 .here (c .before .before .before .loop-test .taken) in
-    opens-less (l .done) (l .s) (c .before .before .before .before .before .before .args .g .states)
-    (c .before .before .before .loop-test .taken)
+    missing-put (l .done) (l .s)
     (let m = l .inv .3 .longD in omega (arith, c .before .before .before .before .before .before .pre .fits .few))
     (open-done (member (l .set) (l .s)) (member (l .done) (l .s)) o)
 
