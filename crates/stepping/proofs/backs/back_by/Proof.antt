@@ -117,7 +117,8 @@ returns c =
     let S = now (s .args .set) in
     let w = s .args .w in
     back-places (table s) (s .pre .fits) S (l .out) w
-    (marking-done (run s) (entersAt (table s) S w) (enter-only (table s) S w) (l .inv) (omega (arith, c .loop-test .left)))
+    (marking-done (run s) (entersAt (table s) S w) (enter-only (table s) S w) (l .inv)
+    (omega (arith, c .loop-test .left)))
 
 pub back-by-spec : {M : Type 1} → statement M
 back-by-spec =

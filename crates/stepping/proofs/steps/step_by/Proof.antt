@@ -117,7 +117,8 @@ returns c =
     let S = now (s .args .set) in
     let w = s .args .w in
     along-places (table s) (s .pre .fits) S (l .out) w
-    (marking-done (run s) (leadsAt (table s) S w) (lead-only (table s) S w) (l .inv) (omega (arith, c .loop-test .left)))
+    (marking-done (run s) (leadsAt (table s) S w) (lead-only (table s) S w) (l .inv)
+    (omega (arith, c .loop-test .left)))
 
 pub step-by-spec : {M : Type 1} → statement M
 step-by-spec =
