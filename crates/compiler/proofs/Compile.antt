@@ -1,5 +1,6 @@
 -- The outcomes of compiling, each with its reason; and "no code" is said exactly when there is none.
--- In order: Reason, reason; ways-pos; weighs-nothing, no-vector, vector-none; no-code-exact; greatest-vector.
+-- In order: Reason, reason; ways-pos; weighs-nothing, no-vector, vector-none; compile-none, no-code-exact;
+-- greatest-vector.
 -- Assumes nothing.
 use mathlib.Core.Path.{_≡_, refl, subst, _∙_}
 use mathlib.Core.Logic.{_↔_}
@@ -96,9 +97,9 @@ nothing-weighs j h =
     let C = componentStates (weightsOf j) (graphOf j) in
     tot-eq (weightOf (weightsOf j)) (λ s. 0) C (each-always (λ s. getD (weightsOf j) s 0 ≡ 0) h C) ∙ tot-zero C
 
-says-none : (j : Job) → sum (componentOf j .weights) ≡ 0 → compile j ≡ refused NoCode
+pub compile-none : (j : Job) → sum (componentOf j .weights) ≡ 0 → compile j ≡ refused NoCode
 unfolding compile
-says-none j z = unless-false NoCode (ltb 0 (sum (componentOf j .weights))) _ (rw z)
+compile-none j z = unless-false NoCode (ltb 0 (sum (componentOf j .weights))) _ (rw z)
 
 -- refusal 3 comes exactly when the only vector is 0
 pub no-code-exact : (j : Job) → Allowed j
@@ -114,4 +115,4 @@ no-code-exact j a = (there, here)
         omega (arith, greatest-vector j u v s)
 
     here : ((u : List ℕ) → Vector j u → (s : ℕ) → getD u s 0 ≡ 0) → compile j ≡ refused NoCode
-    here f = says-none j (nothing-weighs j (f (weightsOf j) (weights-vector j)))
+    here f = compile-none j (nothing-weighs j (f (weightsOf j) (weights-vector j)))

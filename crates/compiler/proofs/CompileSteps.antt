@@ -1,5 +1,5 @@
 -- Compiling stage by stage: what each stage of the code needs, and what compiling comes to at each of its returns.
--- In order: compile-none, compile-heavy, compile-crowded, compile-table; crowded-stays; has-states, held-powers,
+-- In order: compile-heavy, compile-crowded, compile-table; crowded-stays; has-states, held-powers,
 -- held-component; begun-splits, begun-crowded, begun-room, begun-short, begun-work, begun-finished.
 -- Assumes nothing.
 use mathlib.Core.Path.{_≡_, sym, ap, ap₂, subst, _∙_}
@@ -42,6 +42,7 @@ use Rattle.weights.proofs.TabledWords.{tabled-power}
 use Rattle.graph.proofs.Loop.{splits-off, splitted-end}
 use Rattle.job.specs.declared.JobValue.{JobValue}
 use Rattle.job.specs.Jobs.{Job, Allowed}
+use Rattle.job.proofs.JobSteps.{unless-yes}
 use Rattle.compiler.specs.Compile.{ways, graphOf, weightsOf, componentOf, finishedOf, tableFor, code, compile}
 use Rattle.job.specs.JobValues.{jobIn, JobReady}
 use Rattle.compiler.specs.Stages.{Begun}
@@ -50,31 +51,25 @@ use Rattle.compiler.proofs.Compile.{ways-pos}
 use Rattle.compiler.proofs.Promises.{split-ends}
 
 -- ---- the outcome at each return
-go : {A : Type 0} (r : Refusal) (b : Bool) (x : Outcome A) → b ≡ true → unless r b x ≡ x
-go r b x e = ap (λ c. unless r c x) e
-
 module _ (j : Job) where
-  pub compile-none : sum (componentOf j .weights) ≡ 0 → compile j ≡ refused NoCode
-  unfolding compile
-  compile-none z = unless-false NoCode _ _ (ap (ltb 0) z)
-
   module _ (h : 0 < sum (componentOf j .weights)) where
     pub compile-heavy : 128 < sum (componentOf j .weights) → compile j ≡ refused TooHeavy
     unfolding compile
-    compile-heavy g = go NoCode _ _ (lt-ltb _ _ h) ∙ unless-false TooHeavy _ _ (lt-leb _ _ g)
+    compile-heavy g = unless-yes NoCode _ _ (lt-ltb _ _ h) ∙ unless-false TooHeavy _ _ (lt-leb _ _ g)
 
     module _ (l : sum (componentOf j .weights) ≤ 128) where
       pub compile-crowded : crowded (finishedOf j) ≡ true → compile j ≡ refused TooManyEdges
       unfolding compile
       compile-crowded e =
-          go NoCode _ _ (lt-ltb _ _ h) ∙ go TooHeavy _ _ (le-leb _ _ l)
+          unless-yes NoCode _ _ (lt-ltb _ _ h) ∙ unless-yes TooHeavy _ _ (le-leb _ _ l)
           ∙ unless-false TooManyEdges _ _ (ap not e)
 
       pub compile-table : crowded (finishedOf j) ≡ false
           → compile j ≡ unless NoWindow (leb (window (tableFor j) .memory) 15) (done (code j (tableFor j)))
       unfolding compile
       compile-table e =
-          go NoCode _ _ (lt-ltb _ _ h) ∙ go TooHeavy _ _ (le-leb _ _ l) ∙ go TooManyEdges _ _ (ap not e)
+          unless-yes NoCode _ _ (lt-ltb _ _ h) ∙ unless-yes TooHeavy _ _ (le-leb _ _ l)
+          ∙ unless-yes TooManyEdges _ _ (ap not e)
 
 -- a graph with too many edges is not split
 stays : (k n : ℕ) (x : Work) → crowded x ≡ true → crowded (splits k n x) ≡ true

@@ -1,10 +1,10 @@
 -- What compiling makes of a constraint: n edges a state, each a word that the constraint reads between the roots; and
 -- when all weights are 0.
--- In order: live-some, first-inv, states-few, table-coded, none-weighs, Coded.
+-- In order: live-some, first-inv, states-few, table-coded, none-weighs.
 -- Assumes nothing.
 use mathlib.Core.Path.{_≡_, refl, sym, ap, _∙_}
 use mathlib.Core.List.{List, [], _∷_}
-use Prim.Native.Nat.{ℕ, zero, suc, _≤_, _<_, zero-le, suc-le-suc, _^_}
+use Prim.Native.Nat.{ℕ, zero, suc, _≤_, _<_, zero-le, suc-le-suc}
 use native.Mathlib.Nat.{le-refl, le-trans, le-of-eq}
 use native.Mathlib.Omega.{arith}
 use lib.Dec.{T, lt→ltb}
@@ -18,7 +18,6 @@ use Rattle.graph.specs.Arcs.{Arc, Work, power, Reads}
 use Rattle.graph.specs.Weights.{weights}
 use Rattle.graph.specs.Splitting.{splitAll}
 use Rattle.constraint.specs.Walking.{Constraint, Well}
-use Rattle.table.specs.Rows.{Code}
 use Rattle.graph.specs.Component.{both, within, renamed, weighs, live, componentStates, componentGraph}
 use Rattle.finish.specs.TableOf.{tableStates, tableOf}
 use Rattle.graph.proofs.Weights.{weights-length, weights-enough, enough-total}
@@ -146,9 +145,3 @@ module _ (c : Constraint) (well : Well c) (n q cap : ℕ) (hn : 0 < n) where
           C-pos : (l : List ℕ) (s : ℕ) → T (elem s l) → 0 < length l
           C-pos [] s t = absurd t
           C-pos (a ∷ l) s t = suc-le-suc zero-le
-
--- ---- the whole compilation
-pub record Coded (c : Constraint) (p q : ℕ) (k : Code) (root : ℕ → ℕ) : Type 0 where
-  pub table-is : Tabled (Reads c q) (2 ^ p) (k .table) root
-  pub start-is : root 0 ≡ k .start
-  pub small : length (k .table) ≤ 128

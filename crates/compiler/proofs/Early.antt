@@ -15,9 +15,8 @@ use Rattle.answer.specs.declared.Refusal.the-variants.{Parameters, States, Leng
 use Rattle.answer.specs.Refusals.{numberOf}
 use Rattle.answer.specs.Outcomes.{Outcome, done, refused, unless}
 use Rattle.answer.proofs.Outcomes.{refused-not}
-use Rattle.constraint.specs.Walking.{runLength}
 use Rattle.table.specs.Formed.{goodNext}
-use Rattle.job.specs.Jobs.{Job, goodParameters, statesOf, readJob, readRunLength}
+use Rattle.job.specs.Jobs.{goodParameters, statesOf, readJob, readRunLength}
 use Rattle.compiler.proofs.Refused.{refused-inj}
 
 -- the refusals that reading a job gives: 1, 2 and 8
@@ -44,31 +43,16 @@ early-8 = inr refl
 pub read-early : (xs : List ℕ) (r : Refusal) → readJob xs ≡ refused r → Early r
 unfolding readJob
 read-early xs =
-    let p = getD xs 0 0 in
-    let q = getD xs 1 0 in
-    let cap = getD xs 2 0 in
     let K = getD xs 3 0 in
-    let c = statesOf K (drop 4 xs) in
-    let found : Job = record { p = p; q = q; cap = cap; constraint = c } in
-    let last = unless States (all (goodNext K) c) (done found) in
-    let long = unless Length (eqb (length xs) (4 + 2 * K)) last in
-    let count = unless States (leb 1 K && leb K 16) long in
-    unless-early Length (leb 4 (length xs)) (unless Parameters (goodParameters p q cap) count) early-8
-    (unless-early Parameters (goodParameters p q cap) count early-1
-    (unless-early States (leb 1 K && leb K 16) long early-2
-    (unless-early Length (eqb (length xs) (4 + 2 * K)) last early-8
-    (unless-early States (all (goodNext K) c) (done found) early-2 (done-early found)))))
+    unless-early Length (leb 4 (length xs)) _ early-8
+    (unless-early Parameters (goodParameters (getD xs 0 0) (getD xs 1 0) (getD xs 2 0)) _ early-1
+    (unless-early States (leb 1 K && leb K 16) _ early-2
+    (unless-early Length (eqb (length xs) (4 + 2 * K)) _ early-8
+    (unless-early States (all (goodNext K) (statesOf K (drop 4 xs))) _ early-2 (done-early _)))))
 
 pub run-length-early : (xs : List ℕ) (r : Refusal) → readRunLength xs ≡ refused r → Early r
 unfolding readRunLength
 run-length-early xs =
-    let d = getD xs 0 0 in
-    let k = getD xs 1 0 in
-    let p = getD xs 2 0 in
-    let q = getD xs 3 0 in
-    let cap = getD xs 4 0 in
-    let found : Job = record { p = p; q = q; cap = cap; constraint = runLength d k } in
-    let last = unless States (leb d k && leb k 15) (done found) in
-    unless-early Length (eqb (length xs) 5) (unless Parameters (goodParameters p q cap) last) early-8
-    (unless-early Parameters (goodParameters p q cap) last early-1
-    (unless-early States (leb d k && leb k 15) (done found) early-2 (done-early found)))
+    unless-early Length (eqb (length xs) 5) _ early-8
+    (unless-early Parameters (goodParameters (getD xs 2 0) (getD xs 3 0) (getD xs 4 0)) _ early-1
+    (unless-early States (leb (getD xs 0 0) (getD xs 1 0) && leb (getD xs 1 0) 15) _ early-2 (done-early _)))

@@ -1,6 +1,7 @@
 -- A job read check by check: what reading comes to at each return of the code, and what holds of a job that is read.
--- In order: statesOf-is; in-range; jobOf; job-short, job-parameters, job-count, job-length, job-states, job-good;
--- run-length-size, run-length-parameters, run-length-range, run-length-good; ready-of, job-ready, run-length-ready.
+-- In order: statesOf-is; in-range; unless-yes; jobOf; job-short, job-parameters, job-count, job-length, job-states,
+-- job-good; run-length-size, run-length-parameters, run-length-range, run-length-good; ready-of,
+-- job-ready, run-length-ready.
 -- Assumes nothing.
 use mathlib.Core.Path.{_≡_, refl, sym, ap, ap₂, subst, _∙_}
 use mathlib.Core.Bool.{Bool, true, false, _&&_}
@@ -15,6 +16,7 @@ use Rattle.laws.proofs.Tests.{and→}
 use Rattle.answer.specs.declared.Refusal.{Refusal}
 use Rattle.answer.specs.declared.Refusal.the-variants.{Parameters, States, Length}
 use Rattle.answer.specs.Outcomes.{Outcome, done, refused, unless}
+use Rattle.answer.proofs.Outcomes.{unless-false}
 use Rattle.constraint.specs.Walking.{NextStates, runLength}
 use Rattle.constraint.specs.declared.Constraint.{Constraint}
 use Rattle.constraint.specs.Value.{constraintOf}
@@ -52,11 +54,8 @@ in-range low x high e =
     (leb→le low x a, leb→le x high b)
 
 -- ---- one check
-no : {A : Type 0} (r : Refusal) (b : Bool) (x : Outcome A) → b ≡ false → unless r b x ≡ refused r
-no r b x e = ap (λ c. unless r c x) e
-
-go : {A : Type 0} (r : Refusal) (b : Bool) (x : Outcome A) → b ≡ true → unless r b x ≡ x
-go r b x e = ap (λ c. unless r c x) e
+pub unless-yes : {A : Type 0} (r : Refusal) (b : Bool) (x : Outcome A) → b ≡ true → unless r b x ≡ x
+unless-yes r b x e = ap (λ c. unless r c x) e
 
 -- the job with these fields
 abbrev pub jobOf : ℕ → ℕ → ℕ → Constraint → JobValue
@@ -70,7 +69,7 @@ asked xs =
 module _ (xs : List ℕ) where
   pub job-short : leb 4 (length xs) ≡ false → readJob xs ≡ refused Length
   unfolding readJob
-  job-short e = no Length (leb 4 (length xs)) _ e
+  job-short e = unless-false Length (leb 4 (length xs)) _ e
 
   module _ (e₀ : leb 4 (length xs) ≡ true) where
     step : readJob xs ≡ unless Parameters (goodParameters (getD xs 0 0) (getD xs 1 0) (getD xs 2 0))
@@ -78,28 +77,28 @@ module _ (xs : List ℕ) where
         (unless Length (eqb (length xs) (4 + 2 * getD xs 3 0))
         (unless States (all (goodNext (getD xs 3 0)) (statesOf (getD xs 3 0) (drop 4 xs))) (done (asked xs)))))
     unfolding readJob asked
-    step = go Length (leb 4 (length xs)) _ e₀
+    step = unless-yes Length (leb 4 (length xs)) _ e₀
 
     pub job-parameters : goodParameters (getD xs 0 0) (getD xs 1 0) (getD xs 2 0) ≡ false → readJob xs ≡ refused
         Parameters
-    job-parameters e = step ∙ no Parameters _ _ e
+    job-parameters e = step ∙ unless-false Parameters _ _ e
 
     module _ (e₁ : goodParameters (getD xs 0 0) (getD xs 1 0) (getD xs 2 0) ≡ true) where
       pub job-count : (leb 1 (getD xs 3 0) && leb (getD xs 3 0) 16) ≡ false → readJob xs ≡ refused States
-      job-count e = step ∙ go Parameters _ _ e₁ ∙ no States _ _ e
+      job-count e = step ∙ unless-yes Parameters _ _ e₁ ∙ unless-false States _ _ e
 
       module _ (e₂ : (leb 1 (getD xs 3 0) && leb (getD xs 3 0) 16) ≡ true) where
         step₂ : readJob xs ≡ unless Length (eqb (length xs) (4 + 2 * getD xs 3 0))
             (unless States (all (goodNext (getD xs 3 0)) (statesOf (getD xs 3 0) (drop 4 xs))) (done (asked xs)))
-        step₂ = step ∙ go Parameters _ _ e₁ ∙ go States _ _ e₂
+        step₂ = step ∙ unless-yes Parameters _ _ e₁ ∙ unless-yes States _ _ e₂
 
         pub job-length : eqb (length xs) (4 + 2 * getD xs 3 0) ≡ false → readJob xs ≡ refused Length
-        job-length e = step₂ ∙ no Length _ _ e
+        job-length e = step₂ ∙ unless-false Length _ _ e
 
         module _ (e₃ : eqb (length xs) (4 + 2 * getD xs 3 0) ≡ true) where
           pub job-states : all (goodStateAt xs (getD xs 3 0)) (range (getD xs 3 0)) ≡ false → readJob xs ≡ refused
               States
-          job-states e = step₂ ∙ go Length _ _ e₃ ∙ no States _ _ (states-test (getD xs 3 0) xs ∙ e)
+          job-states e = step₂ ∙ unless-yes Length _ _ e₃ ∙ unless-false States _ _ (states-test (getD xs 3 0) xs ∙ e)
 
           -- THEOREM: the job that is read
           pub job-good : all (goodStateAt xs (getD xs 3 0)) (range (getD xs 3 0)) ≡ true
@@ -107,7 +106,7 @@ module _ (xs : List ℕ) where
               → readJob xs ≡ done (jobIn (jobOf (getD xs 0 0) (getD xs 1 0) (getD xs 2 0) k))
           unfolding asked
           job-good e k s =
-              step₂ ∙ go Length _ _ e₃ ∙ go States _ _ (states-test (getD xs 3 0) xs ∙ e)
+              step₂ ∙ unless-yes Length _ _ e₃ ∙ unless-yes States _ _ (states-test (getD xs 3 0) xs ∙ e)
               ∙ ap (λ c. done (record { p = getD xs 0 0; q = getD xs 1 0; cap = getD xs 2 0; constraint = c }))
               (statesOf-is (getD xs 3 0) xs ∙ sym s)
 
@@ -115,7 +114,7 @@ module _ (xs : List ℕ) where
 module _ (xs : List ℕ) where
   pub run-length-size : eqb (length xs) 5 ≡ false → readRunLength xs ≡ refused Length
   unfolding readRunLength
-  run-length-size e = no Length _ _ e
+  run-length-size e = unless-false Length _ _ e
 
   module _ (e₀ : eqb (length xs) 5 ≡ true) where
     sized : readRunLength xs ≡ unless Parameters (goodParameters (getD xs 2 0) (getD xs 3 0) (getD xs 4 0))
@@ -127,23 +126,23 @@ module _ (xs : List ℕ) where
           constraint = runLength (getD xs 0 0) (getD xs 1 0);
         })))
     unfolding readRunLength
-    sized = go Length _ _ e₀
+    sized = unless-yes Length _ _ e₀
 
     pub run-length-parameters : goodParameters (getD xs 2 0) (getD xs 3 0) (getD xs 4 0) ≡ false
         → readRunLength xs ≡ refused Parameters
-    run-length-parameters e = sized ∙ no Parameters _ _ e
+    run-length-parameters e = sized ∙ unless-false Parameters _ _ e
 
     module _ (e₁ : goodParameters (getD xs 2 0) (getD xs 3 0) (getD xs 4 0) ≡ true) where
       pub run-length-range : (leb (getD xs 0 0) (getD xs 1 0) && leb (getD xs 1 0) 15) ≡ false
           → readRunLength xs ≡ refused States
-      run-length-range e = sized ∙ go Parameters _ _ e₁ ∙ no States _ _ e
+      run-length-range e = sized ∙ unless-yes Parameters _ _ e₁ ∙ unless-false States _ _ e
 
       -- THEOREM: the run-length job that is read
       pub run-length-good : (leb (getD xs 0 0) (getD xs 1 0) && leb (getD xs 1 0) 15) ≡ true
           → (k : Constraint) → constraintOf k ≡ runLength (getD xs 0 0) (getD xs 1 0)
           → readRunLength xs ≡ done (jobIn (jobOf (getD xs 2 0) (getD xs 3 0) (getD xs 4 0) k))
       run-length-good e k s =
-          sized ∙ go Parameters _ _ e₁ ∙ go States _ _ e
+          sized ∙ unless-yes Parameters _ _ e₁ ∙ unless-yes States _ _ e
           ∙ ap (λ c. done (record { p = getD xs 2 0; q = getD xs 3 0; cap = getD xs 4 0; constraint = c })) (sym s)
 
 -- ---- a job that is read

@@ -68,21 +68,15 @@ length-statesOf (suc K) xs = ap suc (length-statesOf K (drop 2 xs))
 pub readJob-allowed : (xs : List ℕ) (j : Job) → readJob xs ≡ done j → Allowed j
 unfolding readJob
 readJob-allowed xs j e =
-    let p = getD xs 0 0 in
-    let q = getD xs 1 0 in
-    let cap = getD xs 2 0 in
     let K = getD xs 3 0 in
     let c = statesOf K (drop 4 xs) in
-    let found : Job = record { p = p; q = q; cap = cap; constraint = c } in
-    let last = unless States (all (goodNext K) c) (done found) in
-    let long = unless Length (eqb (length xs) (4 + 2 * K)) last in
-    let count = unless States (leb 1 K && leb K 16) long in
-    let (_, e₁) = unless→ Length (leb 4 (length xs)) (unless Parameters (goodParameters p q cap) count) j e in
-    let (tp, e₂) = unless→ Parameters (goodParameters p q cap) count j e₁ in
-    let (tk, e₃) = unless→ States (leb 1 K && leb K 16) long j e₂ in
-    let (_, e₄) = unless→ Length (eqb (length xs) (4 + 2 * K)) last j e₃ in
-    let (ts, e₅) = unless→ States (all (goodNext K) c) (done found) j e₄ in
-    let r : Parameter p q cap = parameters p q cap tp in
+    let found : Job = record { p = getD xs 0 0; q = getD xs 1 0; cap = getD xs 2 0; constraint = c } in
+    let (_, e₁) = unless→ Length (leb 4 (length xs)) _ j e in
+    let (tp, e₂) = unless→ Parameters (goodParameters (getD xs 0 0) (getD xs 1 0) (getD xs 2 0)) _ j e₁ in
+    let (tk, e₃) = unless→ States (leb 1 K && leb K 16) _ j e₂ in
+    let (_, e₄) = unless→ Length (eqb (length xs) (4 + 2 * K)) _ j e₃ in
+    let (ts, e₅) = unless→ States (all (goodNext K) c) _ j e₄ in
+    let r = parameters (getD xs 0 0) (getD xs 1 0) (getD xs 2 0) tp in
     let (k₁, k₂) = and→ (leb 1 K) (leb K 16) tk in
     let l : length c ≡ K = length-statesOf K (drop 4 xs) in
     let n₁ : 1 ≤ K = leb→le 1 K k₁ in
@@ -104,15 +98,11 @@ unfolding readRunLength
 readRunLength-allowed xs j e =
     let d = getD xs 0 0 in
     let k = getD xs 1 0 in
-    let p = getD xs 2 0 in
-    let q = getD xs 3 0 in
-    let cap = getD xs 4 0 in
-    let found : Job = record { p = p; q = q; cap = cap; constraint = runLength d k } in
-    let last = unless States (leb d k && leb k 15) (done found) in
-    let (_, e₁) = unless→ Length (eqb (length xs) 5) (unless Parameters (goodParameters p q cap) last) j e in
-    let (tp, e₂) = unless→ Parameters (goodParameters p q cap) last j e₁ in
-    let (tk, e₃) = unless→ States (leb d k && leb k 15) (done found) j e₂ in
-    let r : Parameter p q cap = parameters p q cap tp in
+    let found : Job = record { p = getD xs 2 0; q = getD xs 3 0; cap = getD xs 4 0; constraint = runLength d k } in
+    let (_, e₁) = unless→ Length (eqb (length xs) 5) _ j e in
+    let (tp, e₂) = unless→ Parameters (goodParameters (getD xs 2 0) (getD xs 3 0) (getD xs 4 0)) _ j e₁ in
+    let (tk, e₃) = unless→ States (leb d k && leb k 15) _ j e₂ in
+    let r = parameters (getD xs 2 0) (getD xs 3 0) (getD xs 4 0) tp in
     let h : k ≤ 15 = leb→le k 15 (and→ (leb d k) (leb k 15) tk .1) in
     let l : length (runLength d k) ≡ k + 1 = length-runLength d k in
     let n₁ : 1 ≤ k + 1 = omega arith in

@@ -4,7 +4,8 @@ use mathlib.Core.Path.{sym, _∙_}
 use native.Mathlib.Omega.{arith}
 use Rattle.compiler.specs.Compile.{ways, componentOf}
 use Rattle.job.specs.JobValues.{jobIn}
-use Rattle.compiler.proofs.CompileSteps.{compile-none, compile-heavy, compile-crowded, crowded-stays}
+use Rattle.compiler.proofs.Compile.{compile-none}
+use Rattle.compiler.proofs.CompileSteps.{compile-heavy, compile-crowded, crowded-stays}
 use borrow.Author.Needs.{needs}
 use borrow.Author.Needs.{needs}
 use Rattle.compiler.proofs.compiling.compile.Statement.{statement}

@@ -6,9 +6,10 @@ use Prim.Native.Nat.{_+_, _*_, _-_, _≤_}
 use native.Mathlib.Omega.{arith}
 use denote.Ref.{now}
 use lib.ListN.{getD}
-use Rattle.constraint.specs.Walking.{none, NextStates, nowhere}
+use Rattle.constraint.specs.Walking.{none, NextStates}
 use Rattle.constraint.specs.PowerTable.{Filled}
-use Rattle.constraint.proofs.Values.{map-below, fill-none, fill-more, filled-read}
+use Rattle.laws.proofs.Ranges.{map-range-same}
+use Rattle.constraint.proofs.Values.{fill-none, fill-more, filled-read}
 use Rattle.job.specs.JobValues.{stateAt}
 use borrow.Author.Needs.{needs}
 use Rattle.job.proofs.reading.states_of.Statement.{statement}
@@ -68,7 +69,7 @@ returns : tie.Need-returns Inv-loop μ-loop
 returns c =
     let l = c .before .loop in
     let a = c .before .before .args in (
-      map-below nowhere _ (stateAt (now (a .bytes))) (a .count)
+      map-range-same _ (stateAt (now (a .bytes))) (a .count)
           (λ i h. ap₂ {C = NextStates} (λ z o. record { zero = z; one = o })
           (filled-read _ none 16 (l .s) (l .zero) (l .inv .2) i (omega arith) (omega arith))
           (filled-read _ none 16 (l .s) (l .one) (l .inv .3) i (omega arith) (omega arith))),
