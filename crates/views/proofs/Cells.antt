@@ -12,7 +12,7 @@ use Rattle.table.specs.Edges.{lent}
 use Rattle.table.specs.Value.{codeIn}
 use Rattle.table.proofs.RowsOf.{length-rows}
 use Rattle.text.specs.Texts.{bytes}
-use Rattle.text.proofs.Rows.{concat-more}
+use Rattle.laws.proofs.Ranges.{concat-more}
 use Rattle.views.specs.Edges.{linesTo}
 use Rattle.views.specs.Matrix.{columnX, rowY, columnText, rowText, cell, inRow, sizes, axes, matrix}
 use Rattle.views.proofs.Edges.{lines-are}

@@ -21,7 +21,7 @@ use Rattle.table.specs.Value.{wordAt, nextAt, codeIn, ready}
 use Rattle.table.proofs.Marks.{some-stop}
 use Rattle.table.proofs.RowsOf.{length-rows, row-long, edge-at}
 use Rattle.text.specs.Texts.{bytes}
-use Rattle.text.proofs.Rows.{concat-more}
+use Rattle.laws.proofs.Ranges.{concat-more}
 use Rattle.views.specs.Drawn.{label, joined, opens, other, others, arrowHead, arrow, arrowOf}
 use Rattle.views.specs.Drawn.{tableArrow, arrowsTo, opening, diagram, drawn, drawText}
 use Rattle.views.specs.Matrix.{matrix}
