@@ -7,8 +7,8 @@ use Rattle.text.specs.Texts.{bytes}
 use Rattle.answer.specs.Outcomes.{Outcome}
 use Rattle.table.specs.declared.Table.{Table}
 use Rattle.codec.specs.Answers.{encodeUnder, decodeUnder}
-use Rattle.views.specs.Shown.{showText}
-use Rattle.views.specs.Drawn.{drawText}
+use Rattle.showing.specs.Shown.{showText}
+use Rattle.drawing.specs.Drawn.{drawText}
 use Rattle.arguments.specs.declared.View.{View}
 use Rattle.arguments.specs.declared.View.the-variants.{Check, Show, Draw}
 use Rattle.arguments.specs.declared.Way.{Way}

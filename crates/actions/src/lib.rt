@@ -10,11 +10,11 @@ use answer::Answer;
 use arguments::View;
 use arguments::Way;
 use decoder::decode;
+use drawing::draw;
 use encoder::encode;
+use showing::show;
 use table::Table;
 use text::put;
-use views::drawing::draw;
-use views::showing::show;
 
 // The words of blocks, or the blocks of words, under a record, in the output.
 pub fn code(w: Way, under: &[u8], bytes: &[u8], out: &mut [u8]) -> Answer

@@ -1,8 +1,4 @@
-// What a person reads of a code, as text in lent bytes.
-pub mod drawing;
+// What a person reads of a code, as text in lent bytes: its listing, and pieces of text for other views.
 pub mod filling;
-pub mod limits;
 pub mod listing;
-pub mod matrix;
 pub mod phrases;
-pub mod showing;

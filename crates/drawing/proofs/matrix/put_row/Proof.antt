@@ -1,0 +1,48 @@
+-- `put_row` meets its contract: its parts are put in a row.
+-- Assumes nothing.
+use mathlib.Core.Path.{ap}
+use Rattle.text.proofs.Adding.{added-same, _then_}
+use Rattle.text.specs.Texts.{bytes}
+use Rattle.drawing.specs.Matrix.{place, rowText}
+use borrow.Author.Needs.{needs}
+use Rattle.drawing.proofs.matrix.put_row.Statement.{statement}
+use Rattle.drawing.proofs.matrix.put_row.Tie as tie
+
+row-y-requires : tie.Need-row-y-requires
+row-y-requires c κs = search needs
+
+put-place-requires : tie.Need-put-place-requires
+put-place-requires c κs = search needs
+
+put-decimal-requires : tie.Need-put-decimal-requires
+put-decimal-requires c κs = search needs
+
+slice-aggregate-put : tie.Need-slice-aggregate-put
+slice-aggregate-put c = search needs
+
+put-requires : tie.Need-put-requires
+put-requires c κs = search needs
+
+same-length : tie.Need-same-length
+same-length c = search needs
+
+returns : tie.Need-returns
+unfolding rowText
+returns c =
+    let x3 = c .before .before in
+    let x2 = x3 .before .before .before .before .before in
+    let x1 = x2 .before .before .before .before in
+    added-same (ap (place 4) (x1 .before .row-y .ensures .0)) (x1 .put-place .ensures) then
+    x2 .put-decimal .ensures then x3 .put .ensures
+
+pub put-row-spec : {M : Type 1} → statement M
+put-row-spec =
+    tie.close
+    (tie.spec
+    row-y-requires
+    put-place-requires
+    put-decimal-requires
+    slice-aggregate-put
+    put-requires
+    same-length
+    returns)

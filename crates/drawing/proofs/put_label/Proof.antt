@@ -1,0 +1,42 @@
+-- `put_label` meets its contract: its parts are put in a row.
+-- Assumes nothing.
+use Rattle.text.proofs.Adding.{_then_}
+use Rattle.text.specs.Texts.{bytes}
+use Rattle.drawing.specs.Drawn.{label}
+use borrow.Author.Needs.{needs}
+use Rattle.drawing.proofs.put_label.Statement.{statement}
+use Rattle.drawing.proofs.put_label.Tie as tie
+
+put-number-requires : tie.Need-put-number-requires
+put-number-requires c κs = search needs
+
+slice-aggregate-put : tie.Need-slice-aggregate-put
+slice-aggregate-put c = search needs
+
+put-requires : tie.Need-put-requires
+put-requires c κs = search needs
+
+put-word-requires : tie.Need-put-word-requires
+put-word-requires c κs = search needs
+
+same-length : tie.Need-same-length
+same-length c = search needs
+
+returns : tie.Need-returns
+unfolding label
+returns c =
+    let x3 = c .before .before in
+    let x2 = x3 .before .before .before .before in
+    let x1 = x2 .before .before .before .before .before in
+    x1 .put-number .ensures then x2 .put .ensures then x3 .put-word .ensures
+
+pub put-label-spec : {M : Type 1} → statement M
+put-label-spec =
+    tie.close
+    (tie.spec
+    put-number-requires
+    slice-aggregate-put
+    put-requires
+    put-word-requires
+    same-length
+    returns)

@@ -1,0 +1,2 @@
+pub mod LimitLines
+pub mod Shown

@@ -1,0 +1,87 @@
+-- `is_same` meets its contract: the states below i are alike; the first that is not ends the loop.
+-- Assumes nothing.
+use mathlib.Core.Path.{sym, subst, _∙_}
+use Prim.Native.Nat.{ℕ, _-_, _≤_, _<_}
+use native.Mathlib.Nat.{not-suc-le-zero}
+use native.Mathlib.Omega.{arith}
+use borrow.Author.Needs.{needs}
+use borrow.Author.Count.{below-more}
+use borrow.Author.Tests.{not-true, not-false}
+use lib.Dec.{T}
+use Rattle.constraint.specs.Value.{nextStatesAt}
+use Rattle.table.proofs.LoopTests.{all-passed, all-failed}
+use Rattle.showing.specs.Limits.{alike}
+use Rattle.showing.proofs.limits.is_same.Statement.{statement}
+use Rattle.showing.proofs.limits.is_same.Tie as tie
+
+abbrev Inv-loop : tie.InvT-loop
+Inv-loop a b count i₀ i =
+    (i ≤ a .states) × (a .states ≤ 16) × ((j : ℕ) → j < i → T (alike (nextStatesAt a j) (nextStatesAt b j)))
+
+abbrev μ-loop : tie.MeasureT-loop
+μ-loop a b count i₀ i = a .states - i
+
+loop-holds : tie.Need-loop-holds Inv-loop μ-loop
+loop-holds c = (omega arith, omega arith, λ i h. absurd (not-suc-le-zero h))
+
+element-copy-out-is-alike : tie.Need-element-copy-out-is-alike Inv-loop μ-loop
+element-copy-out-is-alike c = search needs
+
+element-copy-out-is-alike-2 : tie.Need-element-copy-out-is-alike-2 Inv-loop μ-loop
+element-copy-out-is-alike-2 c = search needs
+
+element-copy-out-is-alike-3 : tie.Need-element-copy-out-is-alike-3 Inv-loop μ-loop
+element-copy-out-is-alike-3 c = search needs
+
+element-copy-out-is-alike-4 : tie.Need-element-copy-out-is-alike-4 Inv-loop μ-loop
+element-copy-out-is-alike-4 c = search needs
+
+is-alike-requires : tie.Need-is-alike-requires Inv-loop μ-loop
+is-alike-requires c κs = search needs
+
+returns : tie.Need-returns Inv-loop μ-loop
+returns c =
+    let l = c .before .before .before .before .before .before .before in
+    let a = l .before .args .t1 in
+    let b = l .before .args .t2 in
+    all-failed (λ j. alike (nextStatesAt a j) (nextStatesAt b j)) (a .states) (l .loop .i) (omega arith)
+    (sym (c .before .is-alike .ensures) ∙ not-true _ (c .if1 .taken))
+
+add-i : tie.Need-add-i Inv-loop μ-loop
+add-i c = search needs
+
+loop-less : tie.Need-loop-less Inv-loop μ-loop
+loop-less c = search needs
+
+loop-again : tie.Need-loop-again Inv-loop μ-loop
+loop-again c =
+    let l = c .before .before .before .before .before .before .before .loop in (
+      omega arith,
+      omega arith,
+      below-more _ (l .i) (l .inv .2) (subst T (sym (not-false _ (c .if1 .left)) ∙ c .before .is-alike .ensures) tt),
+    )
+
+returns-2 : tie.Need-returns-2 Inv-loop μ-loop
+returns-2 c =
+    let l = c .before .loop in
+    let a = c .before .before .args .t1 in
+    let b = c .before .before .args .t2 in
+    all-passed (λ j. alike (nextStatesAt a j) (nextStatesAt b j)) (a .states) (l .i) (omega arith) (l .inv .2)
+
+pub is-same-spec : {M : Type 1} → statement M
+is-same-spec =
+    tie.close
+    (tie.spec
+    Inv-loop
+    μ-loop
+    loop-holds
+    element-copy-out-is-alike
+    element-copy-out-is-alike-2
+    element-copy-out-is-alike-3
+    element-copy-out-is-alike-4
+    is-alike-requires
+    returns
+    add-i
+    loop-less
+    loop-again
+    returns-2)

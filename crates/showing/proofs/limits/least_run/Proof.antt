@@ -1,0 +1,89 @@
+-- `least_run` meets its contract: with no d passed is the constraint (d, k); the first with which it is ends the loop.
+-- Assumes nothing.
+use mathlib.Core.Path.{_≡_, sym, subst, _∙_}
+use mathlib.Core.Bool.{false}
+use Prim.Native.Nat.{ℕ, _-_, _≤_, _<_}
+use native.Mathlib.Nat.{not-suc-le-zero}
+use native.Mathlib.Omega.{arith}
+use borrow.Author.Needs.{needs}
+use borrow.Author.Count.{below-more}
+use Rattle.constraint.specs.Value.{constraintOf}
+use Rattle.showing.specs.Limits.{isRuns}
+use Rattle.showing.proofs.LimitLines.{same-runs, run-least, run-none}
+use Rattle.showing.proofs.limits.least_run.Statement.{statement}
+use Rattle.showing.proofs.limits.least_run.Tie as tie
+
+abbrev Inv-loop : tie.InvT-loop
+Inv-loop c count d₀ d =
+    (d ≤ c .states) × (c .states ≤ 16) × ((j : ℕ) → j < d → isRuns (constraintOf c) j ≡ false)
+
+abbrev μ-loop : tie.MeasureT-loop
+μ-loop c count d₀ d = c .states - d
+
+-- the test of a turn
+test-is : (c : tie.After-is-same Inv-loop μ-loop)
+    → c .is-same .result
+    ≡ isRuns (constraintOf (c .before .before .before .before .args .c)) (c .before .before .before .loop .d)
+test-is c =
+    let run = c .before in
+    let turn = run .before in
+    c .is-same .ensures ∙ same-runs (turn .before .before .args .c) (run .run-length .result) (turn .before .loop .d)
+    (omega (arith, turn .loop-test .taken)) (run .run-length .ensures)
+
+loop-holds : tie.Need-loop-holds Inv-loop μ-loop
+loop-holds c = (omega arith, omega arith, λ j h. absurd (not-suc-le-zero h))
+
+sub-run-length : tie.Need-sub-run-length Inv-loop μ-loop
+sub-run-length c = omega (arith, c .loop-test .taken)
+
+run-length-requires : tie.Need-run-length-requires Inv-loop μ-loop
+run-length-requires c κs = omega (arith, c .loop-test .taken, c .before .loop .inv .1)
+
+is-same-requires : tie.Need-is-same-requires Inv-loop μ-loop
+is-same-requires c κs = c .before .before .loop .inv .1
+
+returns : tie.Need-returns Inv-loop μ-loop
+returns c =
+    let turn = c .before .before .before in
+    run-least (turn .before .before .args .c) (turn .before .loop .d) (turn .before .loop .inv .2)
+    (turn .loop-test .taken) (sym (test-is (c .before)) ∙ c .if1 .taken)
+
+add-d : tie.Need-add-d Inv-loop μ-loop
+add-d c =
+    let turn = c .before .before .before in
+    omega (arith, turn .loop-test .taken, turn .before .loop .inv .1)
+
+loop-less : tie.Need-loop-less Inv-loop μ-loop
+loop-less c = let turn = c .before .before .before in omega (arith, turn .loop-test .taken)
+
+loop-again : tie.Need-loop-again Inv-loop μ-loop
+loop-again c =
+    let turn = c .before .before .before in
+    let l = turn .before .loop in (
+      omega (arith, turn .loop-test .taken),
+      l .inv .1,
+      below-more (λ j. isRuns (constraintOf (turn .before .before .args .c)) j ≡ false) (l .d) (l .inv .2)
+          (sym (test-is (c .before)) ∙ c .if1 .left),
+    )
+
+returns-2 : tie.Need-returns-2 Inv-loop μ-loop
+returns-2 c =
+    let l = c .before .loop in
+    let k = c .before .before .args .c in
+    run-none k (λ j h. l .inv .2 j (omega (arith, c .loop-test .left)))
+
+pub least-run-spec : {M : Type 1} → statement M
+least-run-spec =
+    tie.close
+    (tie.spec
+    Inv-loop
+    μ-loop
+    loop-holds
+    sub-run-length
+    run-length-requires
+    is-same-requires
+    returns
+    add-d
+    loop-less
+    loop-again
+    returns-2)
