@@ -23,7 +23,7 @@ fn tell_all(file: i32) -> bool {
   trace d k p q cap          print how a run-length job is compiled
   check FILE                 say whether a record is accepted
   show FILE                  print the code of a record
-  draw FILE                  print the code of a record as a Graphviz digraph
+  draw FILE                  print the code of a record as a Graphviz digraph or an SVG matrix
   encode RECORD DATA OUT     record data blocks as words
   decode RECORD WORDS OUT    read words as data blocks
   set FILE                   list the records of a set
@@ -78,7 +78,8 @@ Prints the code of the record in FILE: its rate, its window, its constraint and 
         View::Draw => io::write_all(
             file,
             b"usage: sbc draw FILE
-Prints the states and edges of the record in FILE as a Graphviz digraph.
+Prints the states and edges of the record in FILE as a Graphviz digraph, or as an SVG matrix of states by words
+if there are more than 24 states.
 ",
         ),
     }
