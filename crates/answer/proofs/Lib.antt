@@ -1,3 +1,4 @@
 pub mod Outcomes
 pub mod Cases
 pub mod FirstBad
+pub mod RefusedOutcomes

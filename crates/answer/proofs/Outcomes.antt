@@ -1,5 +1,6 @@
 -- Laws of outcomes: what a finished result says of the checks before it.
--- In order: done-inj, refused-not; unless-true, unless-false, unless→; onward→; said-good, said-bad; fitting-true, fitting→.
+-- In order: done-inj, refused-not; unless-true, unless-false, unless→; onward→; said-good, said-bad; fitting-true,
+-- fitting→.
 -- Assumes nothing.
 use mathlib.Core.Path.{_≡_, refl, sym, ap, subst, _∙_}
 use mathlib.Core.Bool.{Bool, true, false}

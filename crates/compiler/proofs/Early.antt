@@ -17,7 +17,7 @@ use Rattle.answer.specs.Outcomes.{Outcome, done, refused, unless}
 use Rattle.answer.proofs.Outcomes.{refused-not}
 use Rattle.table.specs.Formed.{goodNext}
 use Rattle.job.specs.Jobs.{goodParameters, statesOf, readJob, readRunLength}
-use Rattle.compiler.proofs.Refused.{refused-inj}
+use Rattle.answer.proofs.RefusedOutcomes.{refused-inj}
 
 -- the refusals that reading a job gives: 1, 2 and 8
 abbrev pub Early : Refusal → Type 0

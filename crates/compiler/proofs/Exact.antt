@@ -24,7 +24,7 @@ use Rattle.windows.proofs.Window.{works-complete}
 use Rattle.windows.proofs.WindowLeast.{Chosen, window-least}
 use Rattle.job.specs.Jobs.{Job, Allowed}
 use Rattle.compiler.specs.Compile.{Vector, componentOf, finishedOf, tableFor, code, compile}
-use Rattle.compiler.proofs.Refused.{refused-inj}
+use Rattle.answer.proofs.RefusedOutcomes.{refused-inj}
 use Rattle.compiler.proofs.Compile.{Reason, reason, nothing, heavy, crowding, windowless, coded, compile-none}
 use Rattle.compiler.proofs.Compile.{no-code-exact}
 use Rattle.compiler.proofs.CompileSteps.{compile-heavy, compile-crowded, compile-table}

@@ -5,7 +5,6 @@ pub mod Promises
 pub mod CompileSteps
 pub mod CompileTable
 pub mod Onward
-pub mod Refused
 pub mod Exact
 pub mod Early
 pub mod Written

@@ -31,7 +31,7 @@ use Rattle.job.proofs.Jobs.{readJob-allowed, readRunLength-allowed}
 use Rattle.compiler.proofs.Compile.{no-code-exact}
 use Rattle.compiler.proofs.Accepted.{compiled-passes}
 use Rattle.compiler.proofs.Promises.{job-passes, run-length-passes}
-use Rattle.compiler.proofs.Refused.{onward-refused, fitting-refused}
+use Rattle.answer.proofs.RefusedOutcomes.{onward-refused, fitting-refused}
 use Rattle.compiler.proofs.Early.{Early, read-early, run-length-early}
 use Rattle.compiler.proofs.Exact.{weighs-some, compile-done, not-short}
 

@@ -19,7 +19,7 @@ use Rattle.compiler.specs.Compile.{compile}
 use Rattle.compiler.specs.Kinds.{Kind, compileAs}
 use Rattle.job.proofs.Jobs.{readRunLength-allowed}
 use Rattle.compiler.proofs.Accepted.{compiled-passes}
-use Rattle.compiler.proofs.Refused.{onward-refused, fitting-refused}
+use Rattle.answer.proofs.RefusedOutcomes.{onward-refused, fitting-refused}
 use Rattle.compiler.proofs.Early.{run-length-early}
 use Rattle.compiler.proofs.Exact.{not-short}
 use Rattle.compiler.proofs.Written as written
