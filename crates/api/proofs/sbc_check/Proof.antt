@@ -6,14 +6,8 @@ use Rattle.api.specs.Words.{wordOf}
 use Rattle.api.proofs.sbc_check.Statement.{statement}
 use Rattle.api.proofs.sbc_check.Tie as tie
 
-check-requires : tie.Need-check-requires
-check-requires c κs = search needs
-
-word-requires : tie.Need-word-requires
-word-requires c κs = search needs
-
 returns : tie.Need-returns
 returns c = c .word .ensures ∙ ap wordOf (c .before .check .ensures)
 
 pub sbc-check-spec : {M : Type 1} → statement M
-sbc-check-spec = tie.close (tie.spec check-requires word-requires returns)
+sbc-check-spec = tie.close (tie.spec (λ c κs. search needs) (λ c κs. search needs) returns)

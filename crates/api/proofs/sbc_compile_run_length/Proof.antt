@@ -7,19 +7,10 @@ use Rattle.api.specs.Words.{wordOf}
 use Rattle.api.proofs.sbc_compile_run_length.Statement.{statement}
 use Rattle.api.proofs.sbc_compile_run_length.Tie as tie
 
-compile-run-length-requires : tie.Need-compile-run-length-requires
-compile-run-length-requires c κs = search needs
-
-word-requires : tie.Need-word-requires
-word-requires c κs = search needs
-
-same-length : tie.Need-same-length
-same-length c = search needs
-
 returns : tie.Need-returns
 returns c =
     let call = c .before .before .before in
     (c .word .ensures ∙ ap wordOf (call .compile-run-length .ensures .0), call .compile-run-length .ensures .1)
 
 pub sbc-compile-run-length-spec : {M : Type 1} → statement M
-sbc-compile-run-length-spec = tie.close (tie.spec compile-run-length-requires word-requires same-length returns)
+sbc-compile-run-length-spec = tie.close (tie.spec (λ c κs. search needs) (λ c κs. search needs) (λ c. search needs) returns)

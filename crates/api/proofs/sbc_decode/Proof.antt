@@ -6,19 +6,10 @@ use Rattle.api.specs.Words.{wordOf}
 use Rattle.api.proofs.sbc_decode.Statement.{statement}
 use Rattle.api.proofs.sbc_decode.Tie as tie
 
-decode-requires : tie.Need-decode-requires
-decode-requires c κs = search needs
-
-word-requires : tie.Need-word-requires
-word-requires c κs = search needs
-
-same-length : tie.Need-same-length
-same-length c = search needs
-
 returns : tie.Need-returns
 returns c =
     let call = c .before .before .before in
     (c .word .ensures ∙ ap wordOf (call .decode .ensures .0), call .decode .ensures .1)
 
 pub sbc-decode-spec : {M : Type 1} → statement M
-sbc-decode-spec = tie.close (tie.spec decode-requires word-requires same-length returns)
+sbc-decode-spec = tie.close (tie.spec (λ c κs. search needs) (λ c κs. search needs) (λ c. search needs) returns)

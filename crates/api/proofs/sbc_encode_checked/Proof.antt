@@ -6,19 +6,10 @@ use Rattle.api.specs.Words.{wordOf}
 use Rattle.api.proofs.sbc_encode_checked.Statement.{statement}
 use Rattle.api.proofs.sbc_encode_checked.Tie as tie
 
-encode-checked-requires : tie.Need-encode-checked-requires
-encode-checked-requires c κs = search needs
-
-word-requires : tie.Need-word-requires
-word-requires c κs = search needs
-
-same-length : tie.Need-same-length
-same-length c = search needs
-
 returns : tie.Need-returns
 returns c =
     let call = c .before .before .before in
     (c .word .ensures ∙ ap wordOf (call .encode-checked .ensures .0), call .encode-checked .ensures .1)
 
 pub sbc-encode-checked-spec : {M : Type 1} → statement M
-sbc-encode-checked-spec = tie.close (tie.spec encode-checked-requires word-requires same-length returns)
+sbc-encode-checked-spec = tie.close (tie.spec (λ c κs. search needs) (λ c κs. search needs) (λ c. search needs) returns)

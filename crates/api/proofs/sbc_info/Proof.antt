@@ -6,19 +6,10 @@ use Rattle.api.specs.Words.{wordOf}
 use Rattle.api.proofs.sbc_info.Statement.{statement}
 use Rattle.api.proofs.sbc_info.Tie as tie
 
-info-requires : tie.Need-info-requires
-info-requires c κs = search needs
-
-word-requires : tie.Need-word-requires
-word-requires c κs = search needs
-
-same-length : tie.Need-same-length
-same-length c = search needs
-
 returns : tie.Need-returns
 returns c =
     let call = c .before .before .before in
     (c .word .ensures ∙ ap wordOf (call .info .ensures .0), call .info .ensures .1)
 
 pub sbc-info-spec : {M : Type 1} → statement M
-sbc-info-spec = tie.close (tie.spec info-requires word-requires same-length returns)
+sbc-info-spec = tie.close (tie.spec (λ c κs. search needs) (λ c κs. search needs) (λ c. search needs) returns)

@@ -6,19 +6,10 @@ use Rattle.api.specs.Words.{wordOf}
 use Rattle.api.proofs.sbc_listing.Statement.{statement}
 use Rattle.api.proofs.sbc_listing.Tie as tie
 
-list-run-length-requires : tie.Need-list-run-length-requires
-list-run-length-requires c κs = search needs
-
-word-requires : tie.Need-word-requires
-word-requires c κs = search needs
-
-same-length : tie.Need-same-length
-same-length c = search needs
-
 returns : tie.Need-returns
 returns c =
     let call = c .before .before .before in
     (c .word .ensures ∙ ap wordOf (call .list-run-length .ensures .0), call .list-run-length .ensures .1)
 
 pub sbc-listing-spec : {M : Type 1} → statement M
-sbc-listing-spec = tie.close (tie.spec list-run-length-requires word-requires same-length returns)
+sbc-listing-spec = tie.close (tie.spec (λ c κs. search needs) (λ c κs. search needs) (λ c. search needs) returns)

@@ -6,19 +6,10 @@ use Rattle.api.specs.Words.{wordOf}
 use Rattle.api.proofs.sbc_phrase.Statement.{statement}
 use Rattle.api.proofs.sbc_phrase.Tie as tie
 
-phrase-requires : tie.Need-phrase-requires
-phrase-requires c κs = search needs
-
-word-requires : tie.Need-word-requires
-word-requires c κs = search needs
-
-same-length : tie.Need-same-length
-same-length c = search needs
-
 returns : tie.Need-returns
 returns c =
     let call = c .before .before .before in
     (c .word .ensures ∙ ap wordOf (call .phrase .ensures .0), call .phrase .ensures .1)
 
 pub sbc-phrase-spec : {M : Type 1} → statement M
-sbc-phrase-spec = tie.close (tie.spec phrase-requires word-requires same-length returns)
+sbc-phrase-spec = tie.close (tie.spec (λ c κs. search needs) (λ c κs. search needs) (λ c. search needs) returns)

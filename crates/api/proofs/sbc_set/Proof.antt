@@ -6,14 +6,8 @@ use Rattle.api.specs.Words.{setWordOf}
 use Rattle.api.proofs.sbc_set.Statement.{statement}
 use Rattle.api.proofs.sbc_set.Tie as tie
 
-check-set-requires : tie.Need-check-set-requires
-check-set-requires c κs = search needs
-
-set-word-requires : tie.Need-set-word-requires
-set-word-requires c κs = search needs
-
 returns : tie.Need-returns
 returns c = c .set-word .ensures ∙ ap setWordOf (c .before .check-set .ensures)
 
 pub sbc-set-spec : {M : Type 1} → statement M
-sbc-set-spec = tie.close (tie.spec check-set-requires set-word-requires returns)
+sbc-set-spec = tie.close (tie.spec (λ c κs. search needs) (λ c κs. search needs) returns)

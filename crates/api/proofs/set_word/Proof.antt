@@ -9,12 +9,6 @@ use Rattle.api.proofs.Words.{set-number-le}
 use Rattle.api.proofs.set_word.Statement.{statement}
 use Rattle.api.proofs.set_word.Tie as tie
 
-set-number-requires : tie.Need-set-number-requires
-set-number-requires c κs = search needs
-
-set-value-requires : tie.Need-set-value-requires
-set-value-requires c κs = search needs
-
 join-requires : tie.Need-join-requires
 join-requires c κs =
     let n = c .before in
@@ -27,4 +21,4 @@ returns c =
     c .join .ensures ∙ ap₂ joined (v .before .set-number .ensures) (v .set-value .ensures)
 
 pub set-word-spec : {M : Type 1} → statement M
-set-word-spec = tie.close (tie.spec set-number-requires set-value-requires join-requires returns)
+set-word-spec = tie.close (tie.spec (λ c κs. search needs) (λ c κs. search needs) join-requires returns)

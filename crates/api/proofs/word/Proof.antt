@@ -9,12 +9,6 @@ use Rattle.api.proofs.Words.{number-le}
 use Rattle.api.proofs.word.Statement.{statement}
 use Rattle.api.proofs.word.Tie as tie
 
-answer-number-requires : tie.Need-answer-number-requires
-answer-number-requires c κs = search needs
-
-answer-value-requires : tie.Need-answer-value-requires
-answer-value-requires c κs = search needs
-
 join-requires : tie.Need-join-requires
 join-requires c κs =
     let n = c .before in
@@ -27,4 +21,4 @@ returns c =
     c .join .ensures ∙ ap₂ joined (v .before .answer-number .ensures) (v .answer-value .ensures)
 
 pub word-spec : {M : Type 1} → statement M
-word-spec = tie.close (tie.spec answer-number-requires answer-value-requires join-requires returns)
+word-spec = tie.close (tie.spec (λ c κs. search needs) (λ c κs. search needs) join-requires returns)

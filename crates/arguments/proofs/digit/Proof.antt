@@ -13,9 +13,6 @@ returns : tie.Need-returns
 unfolding digitOf
 returns c = (simp (lt-ltb _ _ (c .if1 .taken)), omega arith)
 
-cast-result : tie.Need-cast-result
-cast-result c = search needs
-
 returns-2 : tie.Need-returns-2
 unfolding digitOf
 returns-2 c =
@@ -31,4 +28,4 @@ returns-3 c =
     (simp (le-ltb _ _ (c .before .if1 .left), min-eq-right l), omega arith)
 
 pub digit-spec : {M : Type 1} → statement M
-digit-spec = tie.close (tie.spec returns cast-result returns-2 returns-3)
+digit-spec = tie.close (tie.spec returns (λ c. search needs) returns-2 returns-3)

@@ -10,12 +10,6 @@ use borrow.Author.Needs.{needs}
 use Rattle.arguments.proofs.record_action.Statement.{statement}
 use Rattle.arguments.proofs.record_action.Tie as tie
 
-slice-aggregate-is-same : tie.Need-slice-aggregate-is-same
-slice-aggregate-is-same c = search needs
-
-is-same-requires : tie.Need-is-same-requires
-is-same-requires c κs = search needs
-
 returns : tie.Need-returns
 unfolding recordAction
 returns c =
@@ -23,12 +17,6 @@ returns c =
     let e1 : same w (bytes "check") ≡ true =
     sym (c .before .is-same .ensures) ∙ c .if1 .taken in
     simp (e1)
-
-slice-aggregate-is-same-2 : tie.Need-slice-aggregate-is-same-2
-slice-aggregate-is-same-2 c = search needs
-
-is-same-requires-2 : tie.Need-is-same-requires-2
-is-same-requires-2 c κs = search needs
 
 returns-2 : tie.Need-returns-2
 unfolding recordAction
@@ -40,12 +28,6 @@ returns-2 c =
     let e2 : same w (bytes "show") ≡ true =
     sym (c .before .is-same2 .ensures) ∙ c .if2 .taken in
     simp (e1, e2)
-
-slice-aggregate-is-same-3 : tie.Need-slice-aggregate-is-same-3
-slice-aggregate-is-same-3 c = search needs
-
-is-same-requires-3 : tie.Need-is-same-requires-3
-is-same-requires-3 c κs = search needs
 
 returns-3 : tie.Need-returns-3
 unfolding recordAction
@@ -60,12 +42,6 @@ returns-3 c =
     let e3 : same w (bytes "draw") ≡ true =
     sym (c .before .is-same3 .ensures) ∙ c .if3 .taken in
     simp (e1, e2, e3)
-
-slice-aggregate-is-same-4 : tie.Need-slice-aggregate-is-same-4
-slice-aggregate-is-same-4 c = search needs
-
-is-same-requires-4 : tie.Need-is-same-requires-4
-is-same-requires-4 c κs = search needs
 
 returns-4 : tie.Need-returns-4
 unfolding recordAction
@@ -83,12 +59,6 @@ returns-4 c =
     let e4 : same w (bytes "encode") ≡ true =
     sym (c .before .is-same4 .ensures) ∙ c .if4 .taken in
     simp (e1, e2, e3, e4)
-
-slice-aggregate-is-same-5 : tie.Need-slice-aggregate-is-same-5
-slice-aggregate-is-same-5 c = search needs
-
-is-same-requires-5 : tie.Need-is-same-requires-5
-is-same-requires-5 c κs = search needs
 
 returns-5 : tie.Need-returns-5
 unfolding recordAction
@@ -109,9 +79,6 @@ returns-5 c =
     let e5 : same w (bytes "decode") ≡ true =
     sym (c .before .is-same5 .ensures) ∙ c .if5 .taken in
     simp (e1, e2, e3, e4, e5)
-
-asked-action-requires : tie.Need-asked-action-requires
-asked-action-requires c κs = search needs
 
 returns-6 : tie.Need-returns-6
 unfolding recordAction
@@ -138,20 +105,6 @@ pub record-action-spec : {M : Type 1} → statement M
 record-action-spec =
     tie.close
     (tie.spec
-    slice-aggregate-is-same
-    is-same-requires
-    returns
-    slice-aggregate-is-same-2
-    is-same-requires-2
-    returns-2
-    slice-aggregate-is-same-3
-    is-same-requires-3
-    returns-3
-    slice-aggregate-is-same-4
-    is-same-requires-4
-    returns-4
-    slice-aggregate-is-same-5
-    is-same-requires-5
-    returns-5
-    asked-action-requires
-    returns-6)
+    (λ c. search needs) (λ c κs. search needs) returns (λ c. search needs) (λ c κs. search needs) returns-2
+    (λ c. search needs) (λ c κs. search needs) returns-3 (λ c. search needs) (λ c κs. search needs) returns-4
+    (λ c. search needs) (λ c κs. search needs) returns-5 (λ c κs. search needs) returns-6)

@@ -6,15 +6,6 @@ use Rattle.checker.proofs.Follow.{check-bad, check-read}
 use Rattle.checker.proofs.check.Statement.{statement}
 use Rattle.checker.proofs.check.Tie as tie
 
-load-requires : tie.Need-load-requires
-load-requires c κs = search needs
-
-enum-known-v : tie.Need-enum-known-v
-enum-known-v c = search needs
-
-enum-told : tie.Need-enum-told
-enum-told c = search needs
-
 returns : tie.Need-returns
 returns c =
     let r = c .before .before .before in
@@ -26,4 +17,4 @@ returns-2 c =
     check-read (now (r .before .before .args .bytes)) (r .load .result) (r .load .ensures .0) (c .enum-told .given .1)
 
 pub check-spec : {M : Type 1} → statement M
-check-spec = tie.close (tie.spec load-requires enum-known-v enum-told returns returns-2)
+check-spec = tie.close (tie.spec (λ c κs. search needs) (λ c. search needs) (λ c. search needs) returns returns-2)

@@ -13,9 +13,6 @@ use Rattle.checker.proofs.judge.Tie as tie
 obeys-requires : tie.Need-obeys-requires
 obeys-requires c κs = followable (c .args .t) (c .pre)
 
-declined-requires : tie.Need-declined-requires
-declined-requires c κs = search needs
-
 returns : tie.Need-returns
 returns c =
     let o = c .before .before in (
@@ -29,9 +26,6 @@ works-requires : tie.Need-works-requires
 works-requires c κs =
     let s = c .before .before in
     (ready→ (s .args .t) (s .pre), near (s .args .t) (s .pre))
-
-declined-requires-2 : tie.Need-declined-requires-2
-declined-requires-2 c κs = search needs
 
 returns-2 : tie.Need-returns-2
 returns-2 c =
@@ -57,4 +51,4 @@ returns-3 c =
 pub judge-spec : {M : Type 1} → statement M
 judge-spec =
     tie.close
-    (tie.spec obeys-requires declined-requires returns works-requires declined-requires-2 returns-2 returns-3)
+    (tie.spec obeys-requires (λ c κs. search needs) returns works-requires (λ c κs. search needs) returns-2 returns-3)

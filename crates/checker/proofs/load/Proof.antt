@@ -7,18 +7,6 @@ use Rattle.checker.proofs.Follow.{parse-read, parse-bad}
 use Rattle.checker.proofs.load.Statement.{statement}
 use Rattle.checker.proofs.load.Tie as tie
 
-read-requires : tie.Need-read-requires
-read-requires c κs = search needs
-
-enum-known-v : tie.Need-enum-known-v
-enum-known-v c = search needs
-
-declined-requires : tie.Need-declined-requires
-declined-requires c κs = search needs
-
-enum-told : tie.Need-enum-told
-enum-told c = search needs
-
 judge-requires : tie.Need-judge-requires
 judge-requires c κs = c .before .before .before .read .ensures .1 .0 (c .enum-told .given .1)
 
@@ -43,4 +31,4 @@ returns-2 c =
 pub load-spec : {M : Type 1} → statement M
 load-spec =
     tie.close
-    (tie.spec read-requires enum-known-v declined-requires enum-told judge-requires returns returns-2)
+    (tie.spec (λ c κs. search needs) (λ c. search needs) (λ c κs. search needs) (λ c. search needs) judge-requires returns returns-2)

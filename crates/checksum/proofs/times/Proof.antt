@@ -5,18 +5,6 @@ use borrow.Author.Needs.{needs}
 use Rattle.checksum.proofs.times.Statement.{statement}
 use Rattle.checksum.proofs.times.Tie as tie
 
-mul-low : tie.Need-mul-low
-mul-low c = search needs
-
-mul-high : tie.Need-mul-high
-mul-high c = search needs
-
-wrapping-add-u64-requires : tie.Need-wrapping-add-u64-requires
-wrapping-add-u64-requires c κs = search needs
-
-wrapping-add-u64-requires-2 : tie.Need-wrapping-add-u64-requires-2
-wrapping-add-u64-requires-2 c κs = search needs
-
 returns : tie.Need-returns
 returns c =
     let first = c .before in
@@ -26,4 +14,4 @@ returns c =
 pub times-spec : {M : Type 1} → statement M
 times-spec =
     tie.close
-    (tie.spec mul-low mul-high wrapping-add-u64-requires wrapping-add-u64-requires-2 returns)
+    (tie.spec (λ c. search needs) (λ c. search needs) (λ c κs. search needs) (λ c κs. search needs) returns)

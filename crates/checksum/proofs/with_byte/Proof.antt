@@ -5,12 +5,9 @@ use borrow.Author.Needs.{needs}
 use Rattle.checksum.proofs.with_byte.Statement.{statement}
 use Rattle.checksum.proofs.with_byte.Tie as tie
 
-times-requires : tie.Need-times-requires
-times-requires c κs = search needs
-
 returns : tie.Need-returns
 unfolding step
 returns c = c .times .ensures
 
 pub with-byte-spec : {M : Type 1} → statement M
-with-byte-spec = tie.close (tie.spec times-requires returns)
+with-byte-spec = tie.close (tie.spec (λ c κs. search needs) returns)

@@ -33,9 +33,6 @@ fits c =
     let i = c .before .before .before .before .before .before in
     fits-lent (i .before .before .before .before .args .t) (c .ways .result) (ready-table i) (c .ways .ensures .0)
 
-is-ready-requires : tie.Need-is-ready-requires
-is-ready-requires c κs = search needs
-
 returns : tie.Need-returns
 returns c =
     let a = c .before .before .before .before .args in
@@ -49,9 +46,6 @@ returns-2 c =
     declined (decodedWith (a .t) (length (now (a .out))) (now (a .words))) TooFewWords (now (a .out))
     (decode-12 (a .t) (length (now (a .out))) (now (a .words)) (is-ready (c .before)) (c .if2 .taken))
 
-sub-count : tie.Need-sub-count
-sub-count c = search needs
-
 returns-3 : tie.Need-returns-3
 returns-3 c =
     let a = c .before .before .before .before .before .before .args in
@@ -61,9 +55,6 @@ returns-3 c =
 
 power-requires : tie.Need-power-requires
 power-requires c κs = omega (arith, ready-table (c .before .before) .short)
-
-first-bad-requires : tie.Need-first-bad-requires
-first-bad-requires c κs = search needs
 
 returns-4 : tie.Need-returns-4
 returns-4 c =
@@ -90,9 +81,6 @@ read-blocks-requires c κs =
     let i = w .before .before .before .before in
     (h .lay .ensures, omega (arith, i .before .if2 .left), i .if3 .left)
 
-same-length : tie.Need-same-length
-same-length c = search needs
-
 returns-5 : tie.Need-returns-5
 returns-5 c =
     let w = c .before .before .before .before .before .before .before .before .before .before .before .before
@@ -115,16 +103,5 @@ pub decode-with-spec : {M : Type 1} → statement M
 decode-with-spec =
     tie.close
     (tie.spec
-    is-ready-requires
-    returns
-    returns-2
-    sub-count
-    returns-3
-    power-requires
-    first-bad-requires
-    returns-4
-    ways-requires
-    lay-requires
-    read-blocks-requires
-    same-length
-    returns-5)
+    (λ c κs. search needs) returns returns-2 (λ c. search needs) returns-3 power-requires (λ c κs. search needs)
+    returns-4 ways-requires lay-requires read-blocks-requires (λ c. search needs) returns-5)

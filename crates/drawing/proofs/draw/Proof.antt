@@ -19,18 +19,6 @@ passed c = sym (c .before .is-ready .ensures) ∙ not-false _ (c .if1 .left)
 good : (c : tie.Else1) → Ready (c .before .before .before .args .t)
 good c = ready→ (c .before .before .before .args .t) (subst T (sym (passed c)) tt)
 
-is-ready-requires : tie.Need-is-ready-requires
-is-ready-requires c κs = search needs
-
-slice-aggregate-put : tie.Need-slice-aggregate-put
-slice-aggregate-put c = search needs
-
-put-requires : tie.Need-put-requires
-put-requires c κs = search needs
-
-same-length : tie.Need-same-length
-same-length c = search needs
-
 returns : tie.Need-returns
 returns c =
     let x = c .before .before in
@@ -44,9 +32,6 @@ ways-requires c κs = good c .narrow
 put-diagram-requires : tie.Need-put-diagram-requires
 put-diagram-requires c κs = let w = c .before .before .before in (good (w .before), w .ways .ensures .0)
 
-same-length-2 : tie.Need-same-length-2
-same-length-2 c = search needs
-
 returns-2 : tie.Need-returns-2
 returns-2 c =
     let x = c .before .before in
@@ -57,9 +42,6 @@ returns-2 c =
 
 put-matrix-requires : tie.Need-put-matrix-requires
 put-matrix-requires c κs = let w = c .before .before .before in (good (w .before), w .ways .ensures .0)
-
-same-length-3 : tie.Need-same-length-3
-same-length-3 c = search needs
 
 returns-3 : tie.Need-returns-3
 returns-3 c =
@@ -73,15 +55,5 @@ pub draw-spec : {M : Type 1} → statement M
 draw-spec =
     tie.close
     (tie.spec
-    is-ready-requires
-    slice-aggregate-put
-    put-requires
-    same-length
-    returns
-    ways-requires
-    put-diagram-requires
-    same-length-2
-    returns-2
-    put-matrix-requires
-    same-length-3
-    returns-3)
+    (λ c κs. search needs) (λ c. search needs) (λ c κs. search needs) (λ c. search needs) returns ways-requires
+    put-diagram-requires (λ c. search needs) returns-2 put-matrix-requires (λ c. search needs) returns-3)

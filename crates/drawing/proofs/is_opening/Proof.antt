@@ -40,9 +40,6 @@ add-is-one-2 c = let l = c .before .before .loop .inv in omega (arith, l .1, l .
 element-copy-out-is-one-2 : tie.Need-element-copy-out-is-one-2 Inv-loop μ-loop
 element-copy-out-is-one-2 c = let l = c .before .before .loop .inv in omega (arith, l .1, l .2)
 
-is-one-requires : tie.Need-is-one-requires Inv-loop μ-loop
-is-one-requires c κs = search needs
-
 returns : tie.Need-returns Inv-loop μ-loop
 returns c =
     let one = c .before in
@@ -82,18 +79,5 @@ pub is-opening-spec : {M : Type 1} → statement M
 is-opening-spec =
     tie.close
     (tie.spec
-    Inv-loop
-    μ-loop
-    loop-holds
-    mul-is-one
-    add-is-one
-    element-copy-out-is-one
-    mul-is-one-2
-    add-is-one-2
-    element-copy-out-is-one-2
-    is-one-requires
-    returns
-    add-j
-    loop-less
-    loop-again
-    returns-2)
+    Inv-loop μ-loop loop-holds mul-is-one add-is-one element-copy-out-is-one mul-is-one-2 add-is-one-2
+    element-copy-out-is-one-2 (λ c κs. search needs) returns add-j loop-less loop-again returns-2)

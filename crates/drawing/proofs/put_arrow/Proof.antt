@@ -13,15 +13,6 @@ use Rattle.drawing.proofs.put_arrow.Tie as tie
 is-opening-requires : tie.Need-is-opening-requires
 is-opening-requires c κs = (c .before .pre .2, c .before .pre .3)
 
-slice-aggregate-put : tie.Need-slice-aggregate-put
-slice-aggregate-put c = search needs
-
-put-requires : tie.Need-put-requires
-put-requires c κs = search needs
-
-same-length : tie.Need-same-length
-same-length c = search needs
-
 returns : tie.Need-returns
 returns c =
     let x = c .before .before in
@@ -47,15 +38,6 @@ put-head-requires c κs = c .before .before .before .before .before .before .pre
 put-others-requires : tie.Need-put-others-requires
 put-others-requires c κs = c .before .before .before .before .before .before .before .before .before .before .pre
 
-slice-aggregate-put-2 : tie.Need-slice-aggregate-put-2
-slice-aggregate-put-2 c = search needs
-
-put-requires-2 : tie.Need-put-requires-2
-put-requires-2 c κs = search needs
-
-same-length-2 : tie.Need-same-length-2
-same-length-2 c = search needs
-
 returns-2 : tie.Need-returns-2
 returns-2 c =
     let x3 = c .before .before in
@@ -69,18 +51,6 @@ pub put-arrow-spec : {M : Type 1} → statement M
 put-arrow-spec =
     tie.close
     (tie.spec
-    is-opening-requires
-    slice-aggregate-put
-    put-requires
-    same-length
-    returns
-    mul-i
-    add-i
-    element-copy-out-put-head
-    element-copy-out-put-head-2
-    put-head-requires
-    put-others-requires
-    slice-aggregate-put-2
-    put-requires-2
-    same-length-2
-    returns-2)
+    is-opening-requires (λ c. search needs) (λ c κs. search needs) (λ c. search needs) returns mul-i add-i
+    element-copy-out-put-head element-copy-out-put-head-2 put-head-requires put-others-requires (λ c. search needs)
+    (λ c κs. search needs) (λ c. search needs) returns-2)

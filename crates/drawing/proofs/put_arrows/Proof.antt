@@ -32,12 +32,6 @@ mul-edges c =
     let b = c .before .before in
     omega (arith, edges-few (b .args .code) (b .pre .0) (b .args .n) (b .pre .1))
 
-slice-aggregate-put : tie.Need-slice-aggregate-put Inv-loop μ-loop
-slice-aggregate-put c = search needs
-
-put-requires : tie.Need-put-requires Inv-loop μ-loop
-put-requires c κs = search needs
-
 loop-holds : tie.Need-loop-holds Inv-loop μ-loop
 loop-holds c =
     let x = c .before .before in
@@ -90,17 +84,5 @@ pub put-arrows-spec : {M : Type 1} → statement M
 put-arrows-spec =
     tie.close
     (tie.spec
-    Inv-loop
-    μ-loop
-    mul-edges
-    slice-aggregate-put
-    put-requires
-    loop-holds
-    div-put-arrow
-    rem-put-arrow
-    put-arrow-requires
-    add-e
-    loop-less
-    loop-again
-    same-length
-    returns)
+    Inv-loop μ-loop mul-edges (λ c. search needs) (λ c κs. search needs) loop-holds div-put-arrow rem-put-arrow
+    put-arrow-requires add-e loop-less loop-again same-length returns)

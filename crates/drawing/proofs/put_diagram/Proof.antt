@@ -8,24 +8,6 @@ use borrow.Author.Needs.{needs}
 use Rattle.drawing.proofs.put_diagram.Statement.{statement}
 use Rattle.drawing.proofs.put_diagram.Tie as tie
 
-slice-aggregate-put : tie.Need-slice-aggregate-put
-slice-aggregate-put c = search needs
-
-put-requires : tie.Need-put-requires
-put-requires c κs = search needs
-
-put-arrows-requires : tie.Need-put-arrows-requires
-put-arrows-requires c κs = search needs
-
-slice-aggregate-put-2 : tie.Need-slice-aggregate-put-2
-slice-aggregate-put-2 c = search needs
-
-put-requires-2 : tie.Need-put-requires-2
-put-requires-2 c κs = search needs
-
-same-length : tie.Need-same-length
-same-length c = search needs
-
 returns : tie.Need-returns
 unfolding opening
 returns c =
@@ -40,10 +22,5 @@ pub put-diagram-spec : {M : Type 1} → statement M
 put-diagram-spec =
     tie.close
     (tie.spec
-    slice-aggregate-put
-    put-requires
-    put-arrows-requires
-    slice-aggregate-put-2
-    put-requires-2
-    same-length
-    returns)
+    (λ c. search needs) (λ c κs. search needs) (λ c κs. search needs) (λ c. search needs) (λ c κs. search needs)
+    (λ c. search needs) returns)

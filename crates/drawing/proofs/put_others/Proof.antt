@@ -35,12 +35,6 @@ own c =
     let b = c .before .before .before .before .before .before .before .before in
     omega (arith, b .pre .2, b .pre .3)
 
-slice-aggregate-put : tie.Need-slice-aggregate-put Inv-loop μ-loop
-slice-aggregate-put c = search needs
-
-put-requires : tie.Need-put-requires Inv-loop μ-loop
-put-requires c κs = search needs
-
 loop-holds : tie.Need-loop-holds Inv-loop μ-loop
 loop-holds c =
     let x = c .before .before in
@@ -112,21 +106,6 @@ pub put-others-spec : {M : Type 1} → statement M
 put-others-spec =
     tie.close
     (tie.spec
-    Inv-loop
-    μ-loop
-    slice-aggregate-put
-    put-requires
-    loop-holds
-    mul-i
-    add-i
-    element-copy-out-put-other
-    element-copy-out-put-other-2
-    mul-put-other
-    add-put-other
-    element-copy-out-put-other-3
-    put-other-requires
-    add-j
-    loop-less
-    loop-again
-    same-length
-    returns)
+    Inv-loop μ-loop (λ c. search needs) (λ c κs. search needs) loop-holds mul-i add-i element-copy-out-put-other
+    element-copy-out-put-other-2 mul-put-other add-put-other element-copy-out-put-other-3 put-other-requires add-j
+    loop-less loop-again same-length returns)

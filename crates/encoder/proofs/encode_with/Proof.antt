@@ -50,9 +50,6 @@ blocks-below c =
     below-firstBad (w .ways .result) ds
     (omega (arith, c .before .before .before .first-bad .ensures, c .if3 .left, bad-le (w .ways .result) ds))
 
-is-ready-requires : tie.Need-is-ready-requires
-is-ready-requires c κs = search needs
-
 returns : tie.Need-returns
 returns c =
     let a = c .before .before .before .before .args in
@@ -62,12 +59,6 @@ returns c =
 
 ways-requires : tie.Need-ways-requires
 ways-requires c κs = ready-table c .narrow
-
-first-bad-requires : tie.Need-first-bad-requires
-first-bad-requires c κs = search needs
-
-lacks-room-requires : tie.Need-lacks-room-requires
-lacks-room-requires c κs = search needs
 
 returns-2 : tie.Need-returns-2
 returns-2 c =
@@ -106,9 +97,6 @@ write-closing-requires c κs =
       omega (arith, room (s .before .before .before .before .before .before .before .before)),
     )
 
-same-length : tie.Need-same-length
-same-length c = search needs
-
 returns-4 : tie.Need-returns-4
 returns-4 c =
     let s = c .before .before .before .before .before .before .before .before in
@@ -131,15 +119,5 @@ pub encode-with-spec : {M : Type 1} → statement M
 encode-with-spec =
     tie.close
     (tie.spec
-    is-ready-requires
-    returns
-    ways-requires
-    first-bad-requires
-    lacks-room-requires
-    returns-2
-    returns-3
-    add-end
-    write-blocks-requires
-    write-closing-requires
-    same-length
-    returns-4)
+    (λ c κs. search needs) returns ways-requires (λ c κs. search needs) (λ c κs. search needs) returns-2 returns-3
+    add-end write-blocks-requires write-closing-requires (λ c. search needs) returns-4)

@@ -55,9 +55,6 @@ loop-holds c =
 mul-e : tie.Need-mul-e Inv-loop μ-loop
 mul-e c = omega (arith, c .before .loop .inv .2 .inside, c .before .before .pre .0 .few)
 
-shared-slice-read-e : tie.Need-shared-slice-read-e Inv-loop μ-loop
-shared-slice-read-e c = search needs
-
 cast-e : tie.Need-cast-e Inv-loop μ-loop
 cast-e c = omega (arith, c .shared-slice-known .given (c .before .before .loop .i))
 
@@ -76,12 +73,6 @@ element-copy-out-s c = place-small (c .before .before)
 cast-s : tie.Need-cast-s Inv-loop μ-loop
 cast-s c =
     omega (arith, c .before .before .before .before .before .pre .0 .few, next-small (c .before .before .before))
-
-add-i : tie.Need-add-i Inv-loop μ-loop
-add-i c = search needs
-
-loop-less : tie.Need-loop-less Inv-loop μ-loop
-loop-less c = search needs
 
 loop-again : tie.Need-loop-again Inv-loop μ-loop
 loop-again c =
@@ -110,19 +101,5 @@ pub write-blocks-spec : {M : Type 1} → statement M
 write-blocks-spec =
     tie.close
     (tie.spec
-    Inv-loop
-    μ-loop
-    loop-holds
-    mul-e
-    shared-slice-read-e
-    cast-e
-    add-e
-    element-copy-out-out
-    slice-write-out
-    element-copy-out-s
-    cast-s
-    add-i
-    loop-less
-    loop-again
-    same-length
-    returns)
+    Inv-loop μ-loop loop-holds mul-e (λ c. search needs) cast-e add-e element-copy-out-out slice-write-out
+    element-copy-out-s cast-s (λ c. search needs) (λ c. search needs) loop-again same-length returns)

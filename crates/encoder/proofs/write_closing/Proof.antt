@@ -75,12 +75,6 @@ cast-s : tie.Need-cast-s Inv-loop μ-loop
 cast-s c =
     omega (arith, c .before .before .before .before .pre .0 .few, next-small (c .before .before))
 
-add-i : tie.Need-add-i Inv-loop μ-loop
-add-i c = search needs
-
-loop-less : tie.Need-loop-less Inv-loop μ-loop
-loop-less c = search needs
-
 loop-again : tie.Need-loop-again Inv-loop μ-loop
 loop-again c =
     let s = c .before .before .before .before in
@@ -114,16 +108,5 @@ pub write-closing-spec : {M : Type 1} → statement M
 write-closing-spec =
     tie.close
     (tie.spec
-    Inv-loop
-    μ-loop
-    loop-holds
-    mul-first
-    element-copy-out-out
-    slice-write-out
-    element-copy-out-s
-    cast-s
-    add-i
-    loop-less
-    loop-again
-    same-length
-    returns)
+    Inv-loop μ-loop loop-holds mul-first element-copy-out-out slice-write-out element-copy-out-s cast-s
+    (λ c. search needs) (λ c. search needs) loop-again same-length returns)

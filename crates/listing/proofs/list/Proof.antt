@@ -7,33 +7,12 @@ use Rattle.listing.proofs.Printing.{list-done, list-told}
 use Rattle.listing.proofs.list.Statement.{statement}
 use Rattle.listing.proofs.list.Tie as tie
 
-list-run-length-requires : tie.Need-list-run-length-requires
-list-run-length-requires c κs = search needs
-
-enum-known-size : tie.Need-enum-known-size
-enum-known-size c = search needs
-
-enum-known-r : tie.Need-enum-known-r
-enum-known-r c = search needs
-
-tell-refusal-requires : tie.Need-tell-refusal-requires
-tell-refusal-requires c κs = search needs
-
-answer-value-requires : tie.Need-answer-value-requires
-answer-value-requires c κs = search needs
-
-same-length : tie.Need-same-length
-same-length c = search needs
-
 returns : tie.Need-returns
 returns c =
     let call = c .before .before .before .before .before in
     let start = call .before .before .before .before in
     list-done (now (start .args .job)) (now (start .args .out)) (start .pre) _ (c .before .size .given .0 .0)
     (sym (c .before .size .given .1) ∙ call .list-run-length .ensures .0) (call .list-run-length .ensures .1)
-
-same-length-2 : tie.Need-same-length-2
-same-length-2 c = search needs
 
 returns-2 : tie.Need-returns-2
 returns-2 c =
@@ -51,12 +30,5 @@ pub list-spec : {M : Type 1} → statement M
 list-spec =
     tie.close
     (tie.spec
-    list-run-length-requires
-    enum-known-size
-    enum-known-r
-    tell-refusal-requires
-    answer-value-requires
-    same-length
-    returns
-    same-length-2
-    returns-2)
+    (λ c κs. search needs) (λ c. search needs) (λ c. search needs) (λ c κs. search needs) (λ c κs. search needs)
+    (λ c. search needs) returns (λ c. search needs) returns-2)

@@ -14,12 +14,6 @@ use Rattle.listings.proofs.list_into.Tie as tie
 compile-requires : tie.Need-compile-requires
 compile-requires c κs = c .before .pre
 
-enum-known-v : tie.Need-enum-known-v
-enum-known-v c = search needs
-
-enum-told : tie.Need-enum-told
-enum-told c = search needs
-
 list-requires : tie.Need-list-requires
 list-requires c κs =
     let k = c .before .before .before .before .compile in
@@ -32,9 +26,6 @@ returns c =
     let o = now (a .out) in
     ends-bad (compile (jobIn (a .j))) (λ c. fitting (length o) (listing c)) o _
     (read-bad (k .result) _ _ (k .ensures .0) (c .before .v .given .1))
-
-same-length : tie.Need-same-length
-same-length c = search needs
 
 returns-2 : tie.Need-returns-2
 returns-2 c =
@@ -49,4 +40,4 @@ returns-2 c =
 pub list-into-spec : {M : Type 1} → statement M
 list-into-spec =
     tie.close
-    (tie.spec compile-requires enum-known-v enum-told list-requires returns same-length returns-2)
+    (tie.spec compile-requires (λ c. search needs) (λ c. search needs) list-requires returns (λ c. search needs) returns-2)

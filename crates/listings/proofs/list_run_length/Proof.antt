@@ -12,15 +12,6 @@ use borrow.Author.Needs.{needs}
 use Rattle.listings.proofs.list_run_length.Statement.{statement}
 use Rattle.listings.proofs.list_run_length.Tie as tie
 
-read-run-length-requires : tie.Need-read-run-length-requires
-read-run-length-requires c κs = search needs
-
-enum-known-v : tie.Need-enum-known-v
-enum-known-v c = search needs
-
-enum-told : tie.Need-enum-told
-enum-told c = search needs
-
 list-into-requires : tie.Need-list-into-requires
 list-into-requires c κs =
     c .before .before .before .before .read-run-length .ensures .1 (c .before .enum-told .given .1)
@@ -33,9 +24,6 @@ returns c =
     listed-so (now (a .job)) (length o) o _ _
     (ends-bad (readRunLength (now (a .job))) (listedInto (length o)) o _
     (said-bad (k .result .verdict) (jobIn (k .result .job)) _ (k .ensures .0) _ (c .before .v .given .1)))
-
-same-length : tie.Need-same-length
-same-length c = search needs
 
 returns-2 : tie.Need-returns-2
 returns-2 c =
@@ -53,10 +41,5 @@ pub list-run-length-spec : {M : Type 1} → statement M
 list-run-length-spec =
     tie.close
     (tie.spec
-    read-run-length-requires
-    enum-known-v
-    enum-told
-    list-into-requires
-    returns
-    same-length
+    (λ c κs. search needs) (λ c. search needs) (λ c. search needs) list-into-requires returns (λ c. search needs)
     returns-2)

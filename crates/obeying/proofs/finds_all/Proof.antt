@@ -22,9 +22,6 @@ abbrev μ-loop : tie.MeasureT-loop
 loop-holds : tie.Need-loop-holds Inv-loop μ-loop
 loop-holds c = (omega arith, λ i h. absurd (not-suc-le-zero h))
 
-state-after-requires : tie.Need-state-after-requires Inv-loop μ-loop
-state-after-requires c κs = search needs
-
 returns : tie.Need-returns Inv-loop μ-loop
 returns c =
     let a = c .before .before .before .before .args in
@@ -32,12 +29,6 @@ returns c =
     all-failed (findsAt (now (a .word)) (now (a .power)) (a .x)) (a .n) (l .d) (omega arith)
     (same-as (stateAfter (now (a .word)) (now (a .power)) (a .x) (l .d)) 255
     (sym (c .before .state-after .ensures .0) ∙ c .if1 .taken))
-
-add-d : tie.Need-add-d Inv-loop μ-loop
-add-d c = search needs
-
-loop-less : tie.Need-loop-less Inv-loop μ-loop
-loop-less c = search needs
 
 loop-again : tie.Need-loop-again Inv-loop μ-loop
 loop-again c =
@@ -58,12 +49,5 @@ pub finds-all-spec : {M : Type 1} → statement M
 finds-all-spec =
     tie.close
     (tie.spec
-    Inv-loop
-    μ-loop
-    loop-holds
-    state-after-requires
-    returns
-    add-d
-    loop-less
-    loop-again
+    Inv-loop μ-loop loop-holds (λ c κs. search needs) returns (λ c. search needs) (λ c. search needs) loop-again
     returns-2)

@@ -48,20 +48,8 @@ place-on c =
     let n = q .long in
     omega (arith, member-lt (l .set) (getD (l .list) (l .i) 0) (q .listed (l .i) (omega arith)))
 
-array-write-set : tie.Need-array-write-set Inv-loop μ-loop
-array-write-set c = search needs
-
-cast-list : tie.Need-cast-list Inv-loop μ-loop
-cast-list c = search needs
-
-array-write-list : tie.Need-array-write-list Inv-loop μ-loop
-array-write-list c = search needs
-
 loop-holds : tie.Need-loop-holds Inv-loop μ-loop
 loop-holds c = (c .pre .1, reach-start _ _ _ (c .pre .0), λ j h. absurd (not-suc-le-zero h))
-
-mul-x : tie.Need-mul-x Inv-loop μ-loop
-mul-x c = search needs
 
 array-read-x : tie.Need-array-read-x Inv-loop μ-loop
 array-read-x c = omega (arith, count-on (c .before))
@@ -117,19 +105,5 @@ pub follow-spec : {M : Type 1} → statement M
 follow-spec =
     tie.close
     (tie.spec
-    Inv-loop
-    μ-loop
-    array-write-set
-    cast-list
-    array-write-list
-    loop-holds
-    mul-x
-    array-read-x
-    cast-x
-    finds-all-requires
-    returns
-    put-targets-requires
-    add-i
-    loop-less
-    loop-again
-    returns-2)
+    Inv-loop μ-loop (λ c. search needs) (λ c. search needs) (λ c. search needs) loop-holds (λ c. search needs)
+    array-read-x cast-x finds-all-requires returns put-targets-requires add-i loop-less loop-again returns-2)

@@ -4,15 +4,6 @@ use borrow.Author.Needs.{needs}
 use Rattle.obeying.proofs.obeys.Statement.{statement}
 use Rattle.obeying.proofs.obeys.Tie as tie
 
-ways-requires : tie.Need-ways-requires
-ways-requires c κs = search needs
-
-power-codes-requires : tie.Need-power-codes-requires
-power-codes-requires c κs = search needs
-
-follow-requires : tie.Need-follow-requires
-follow-requires c κs = search needs
-
 returns : tie.Need-returns
 returns c =
     let p = c .before .before .before .before in
@@ -22,4 +13,4 @@ returns c =
     (n .ways .ensures .0) (p .power-codes .ensures) (c .follow .ensures)
 
 pub obeys-spec : {M : Type 1} → statement M
-obeys-spec = tie.close (tie.spec ways-requires power-codes-requires follow-requires returns)
+obeys-spec = tie.close (tie.spec (λ c κs. search needs) (λ c κs. search needs) (λ c κs. search needs) returns)

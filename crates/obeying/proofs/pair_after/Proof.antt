@@ -8,32 +8,11 @@ use Rattle.obeying.proofs.PairTests.{pick-same, pick-other}
 use Rattle.obeying.proofs.pair_after.Statement.{statement}
 use Rattle.obeying.proofs.pair_after.Tie as tie
 
-state-after-requires : tie.Need-state-after-requires
-state-after-requires c κs = search needs
-
 returns : tie.Need-returns
 returns c =
     let a = c .before .before .args in
     let e = c .before .state-after .ensures .0 in
     pick-same (stateAfter (now (a .word)) (now (a .power)) (a .x) (a .d)) 255 2048 _ (sym e ∙ c .if1 .taken)
-
-mul-wide : tie.Need-mul-wide
-mul-wide c = search needs
-
-add-wide : tie.Need-add-wide
-add-wide c = search needs
-
-element-copy-out-wide : tie.Need-element-copy-out-wide
-element-copy-out-wide c = search needs
-
-wide-requires : tie.Need-wide-requires
-wide-requires c κs = search needs
-
-mul-result : tie.Need-mul-result
-mul-result c = search needs
-
-add-result : tie.Need-add-result
-add-result c = search needs
 
 returns-2 : tie.Need-returns-2
 returns-2 c =
@@ -48,12 +27,5 @@ pub pair-after-spec : {M : Type 1} → statement M
 pair-after-spec =
     tie.close
     (tie.spec
-    state-after-requires
-    returns
-    mul-wide
-    add-wide
-    element-copy-out-wide
-    wide-requires
-    mul-result
-    add-result
-    returns-2)
+    (λ c κs. search needs) returns (λ c. search needs) (λ c. search needs) (λ c. search needs)
+    (λ c κs. search needs) (λ c. search needs) (λ c. search needs) returns-2)

@@ -40,24 +40,12 @@ sized : (c : tie.Else3) → length (now (c .before .before .before .before .befo
     ≡ size (c .before .before .before .before .front-of .result)
 sized c = c .if3 .left ∙ c .before .size-of .ensures
 
-declined-requires : tie.Need-declined-requires
-declined-requires c κs = search needs
-
 returns : tie.Need-returns
 returns c =
     let xs = now (c .before .before .before .args .bytes) in (
       c .declined .ensures .0 ∙ sym (checked-short xs (lt-leb 4 (length xs) (c .before .if1 .taken))),
       (λ e. absurd (c .declined .ensures .1 .0 e), λ x e. c .declined .ensures .1 .1),
     )
-
-front-of-requires : tie.Need-front-of-requires
-front-of-requires c κs = search needs
-
-good-front-requires : tie.Need-good-front-requires
-good-front-requires c κs = search needs
-
-declined-requires-2 : tie.Need-declined-requires-2
-declined-requires-2 c κs = search needs
 
 returns-2 : tie.Need-returns-2
 returns-2 c =
@@ -73,9 +61,6 @@ returns-2 c =
 size-of-requires : tie.Need-size-of-requires
 size-of-requires c κs = small c
 
-declined-requires-3 : tie.Need-declined-requires-3
-declined-requires-3 c κs = search needs
-
 returns-3 : tie.Need-returns-3
 returns-3 c =
     let s = c .before .before in
@@ -89,9 +74,6 @@ returns-3 c =
 
 good-rest-requires : tie.Need-good-rest-requires
 good-rest-requires c κs = (small (c .before .before), sized c)
-
-declined-requires-4 : tie.Need-declined-requires-4
-declined-requires-4 c κs = search needs
 
 returns-4 : tie.Need-returns-4
 returns-4 c =
@@ -124,17 +106,6 @@ pub read-spec : {M : Type 1} → statement M
 read-spec =
     tie.close
     (tie.spec
-    declined-requires
-    returns
-    front-of-requires
-    good-front-requires
-    declined-requires-2
-    returns-2
-    size-of-requires
-    declined-requires-3
-    returns-3
-    good-rest-requires
-    declined-requires-4
-    returns-4
-    table-of-requires
-    returns-5)
+    (λ c κs. search needs) returns (λ c κs. search needs) (λ c κs. search needs) (λ c κs. search needs) returns-2
+    size-of-requires (λ c κs. search needs) returns-3 good-rest-requires (λ c κs. search needs) returns-4
+    table-of-requires returns-5)

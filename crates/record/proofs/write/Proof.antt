@@ -17,9 +17,6 @@ use Rattle.record.proofs.RecordWriting.{small-in, pack-field, pack-long
 use Rattle.record.proofs.write.Statement.{statement}
 use Rattle.record.proofs.write.Tie as tie
 
-is-ready-requires : tie.Need-is-ready-requires
-is-ready-requires c κs = search needs
-
 returns : tie.Need-returns
 returns c =
     let a = c .before .before .before .args in
@@ -33,9 +30,6 @@ tested c = sym (c .before .is-ready .ensures) ∙ not-false (c .before .is-ready
 
 good : (c : tie.Else1) → Ready (c .before .before .before .args .t)
 good c = ready→ (c .before .before .before .args .t) (subst T (sym (tested c)) tt)
-
-head-of-requires : tie.Need-head-of-requires
-head-of-requires c κs = search needs
 
 size-of-requires : tie.Need-size-of-requires
 size-of-requires c κs =
@@ -59,9 +53,6 @@ put-record-requires c κs =
     let z = c .before .before in
     (good (z .before .before), z .before .head-of .ensures, sized z, c .before .if2 .left)
 
-same-length : tie.Need-same-length
-same-length c = search needs
-
 returns-3 : tie.Need-returns-3
 returns-3 c =
     let p = c .before .before in
@@ -77,11 +68,5 @@ pub write-spec : {M : Type 1} → statement M
 write-spec =
     tie.close
     (tie.spec
-    is-ready-requires
-    returns
-    head-of-requires
-    size-of-requires
-    returns-2
-    put-record-requires
-    same-length
-    returns-3)
+    (λ c κs. search needs) returns (λ c κs. search needs) size-of-requires returns-2 put-record-requires
+    (λ c. search needs) returns-3)

@@ -11,21 +11,6 @@ use borrow.Author.Needs.{needs}
 use Rattle.setlines.proofs.put_record.Statement.{statement}
 use Rattle.setlines.proofs.put_record.Tie as tie
 
-find-requires : tie.Need-find-requires
-find-requires c κs = search needs
-
-enum-told : tie.Need-enum-told
-enum-told c = search needs
-
-slice-aggregate-put : tie.Need-slice-aggregate-put
-slice-aggregate-put c = search needs
-
-put-requires : tie.Need-put-requires
-put-requires c κs = search needs
-
-enum-known-start : tie.Need-enum-known-start
-enum-known-start c = search needs
-
 -- the record that is found lies within the set
 within : (c : tie.After-known-told)
     → c .before .start .given .0 .0 + c .before .start .given .0 .1 .0
@@ -38,20 +23,8 @@ within c =
 add-end : tie.Need-add-end
 add-end c = omega (arith, within c)
 
-sub-put-record-at : tie.Need-sub-put-record-at
-sub-put-record-at c = search needs
-
-part-put-record-at-start : tie.Need-part-put-record-at-start
-part-put-record-at-start c = search needs
-
 part-put-record-at-end : tie.Need-part-put-record-at-end
 part-put-record-at-end c = within (c .before)
-
-put-record-at-requires : tie.Need-put-record-at-requires
-put-record-at-requires c κs = search needs
-
-same-length : tie.Need-same-length
-same-length c = search needs
 
 returns : tie.Need-returns
 returns c =
@@ -61,9 +34,6 @@ returns c =
     added-same (text-nowhere (now (a .set)) (a .i) (sym (told .before .before .find .ensures)
     ∙ told .enum-told .given .1))
     (put .put .ensures)
-
-same-length-2 : tie.Need-same-length-2
-same-length-2 c = search needs
 
 returns-2 : tie.Need-returns-2
 returns-2 c =
@@ -81,17 +51,6 @@ pub put-record-spec : {M : Type 1} → statement M
 put-record-spec =
     tie.close
     (tie.spec
-    find-requires
-    enum-told
-    slice-aggregate-put
-    put-requires
-    enum-known-start
-    add-end
-    sub-put-record-at
-    part-put-record-at-start
-    part-put-record-at-end
-    put-record-at-requires
-    same-length
-    returns
-    same-length-2
-    returns-2)
+    (λ c κs. search needs) (λ c. search needs) (λ c. search needs) (λ c κs. search needs) (λ c. search needs)
+    add-end (λ c. search needs) (λ c. search needs) part-put-record-at-end (λ c κs. search needs)
+    (λ c. search needs) returns (λ c. search needs) returns-2)

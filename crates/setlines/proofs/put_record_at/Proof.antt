@@ -10,30 +10,6 @@ use borrow.Author.Needs.{needs}
 use Rattle.setlines.proofs.put_record_at.Statement.{statement}
 use Rattle.setlines.proofs.put_record_at.Tie as tie
 
-load-requires : tie.Need-load-requires
-load-requires c κs = search needs
-
-enum-told : tie.Need-enum-told
-enum-told c = search needs
-
-slice-aggregate-put : tie.Need-slice-aggregate-put
-slice-aggregate-put c = search needs
-
-put-requires : tie.Need-put-requires
-put-requires c κs = search needs
-
-enum-told-2 : tie.Need-enum-told-2
-enum-told-2 c = search needs
-
-put-place-requires : tie.Need-put-place-requires
-put-place-requires c κs = search needs
-
-put-kind-requires : tie.Need-put-kind-requires
-put-kind-requires c κs = search needs
-
-same-length : tie.Need-same-length
-same-length c = search needs
-
 returns : tie.Need-returns
 returns c =
     let put = c .before .before in
@@ -42,9 +18,6 @@ returns c =
     let bytes = now (a .bytes) in
     added-same (line-bad (a .i) (a .start) (length bytes) (r .result .verdict) (r .result .table) (parse bytes) _
     (put .before .before .before .enum-told .given .1) (r .ensures .0)) (put .put .ensures)
-
-same-length-2 : tie.Need-same-length-2
-same-length-2 c = search needs
 
 returns-2 : tie.Need-returns-2
 returns-2 c =
@@ -63,14 +36,5 @@ pub put-record-at-spec : {M : Type 1} → statement M
 put-record-at-spec =
     tie.close
     (tie.spec
-    load-requires
-    enum-told
-    slice-aggregate-put
-    put-requires
-    enum-told-2
-    put-place-requires
-    put-kind-requires
-    same-length
-    returns
-    same-length-2
-    returns-2)
+    (λ c κs. search needs) (λ c. search needs) (λ c. search needs) (λ c κs. search needs) (λ c. search needs)
+    (λ c κs. search needs) (λ c κs. search needs) (λ c. search needs) returns (λ c. search needs) returns-2)

@@ -14,25 +14,13 @@ returns c =
     let a = c .before .args in
     sym (place-cut (now (a .set)) (a .at) (omega arith))
 
-sub-last : tie.Need-sub-last
-sub-last c = search needs
-
 returns-2 : tie.Need-returns-2
 returns-2 c =
     let a = c .before .before .args in
     sym (place-cut (now (a .set)) (a .at) (omega arith))
 
-shared-slice-read-first : tie.Need-shared-slice-read-first
-shared-slice-read-first c = search needs
-
 cast-first : tie.Need-cast-first
 cast-first c = omega (arith, c .shared-slice-known .given (c .before .before .before .args .at))
-
-add-second : tie.Need-add-second
-add-second c = search needs
-
-shared-slice-read-second : tie.Need-shared-slice-read-second
-shared-slice-read-second c = search needs
 
 cast-second : tie.Need-cast-second
 cast-second c = omega (arith, c .shared-slice-known2 .given (c .before .before .before .before .args .at + 1))
@@ -52,9 +40,6 @@ returns-3 c =
     let a = c .before .before .before .before .before .args in
     sym (place-cut (now (a .set)) (a .at) (omega arith))
 
-add-t7 : tie.Need-add-t7
-add-t7 c = search needs
-
 returns-4 : tie.Need-returns-4
 returns-4 c =
     let a = c .before .before .before .before .before .args in
@@ -64,16 +49,5 @@ pub place-at-spec : {M : Type 1} → statement M
 place-at-spec =
     tie.close
     (tie.spec
-    returns
-    sub-last
-    returns-2
-    shared-slice-read-first
-    cast-first
-    add-second
-    shared-slice-read-second
-    cast-second
-    mul-len
-    add-len
-    returns-3
-    add-t7
-    returns-4)
+    returns (λ c. search needs) returns-2 (λ c. search needs) cast-first (λ c. search needs) (λ c. search needs)
+    cast-second mul-len add-len returns-3 (λ c. search needs) returns-4)

@@ -13,9 +13,6 @@ returns-2 c =
     let t = c .before .before .before .before .args .t in
     rw (le-leb (t .memory) 15 (c .before .before .if1 .left), lt-leb (t .lookahead) 15 (c .if2 .taken))
 
-is-ready-requires : tie.Need-is-ready-requires
-is-ready-requires c κs = search needs
-
 returns-3 : tie.Need-returns-3
 returns-3 c =
     let t = c .before .before .before .before .before .args .t in
@@ -27,4 +24,4 @@ returns-3 c =
     (c .is-ready .ensures)
 
 pub is-whole-spec : {M : Type 1} → statement M
-is-whole-spec = tie.close (tie.spec returns returns-2 is-ready-requires returns-3)
+is-whole-spec = tie.close (tie.spec returns returns-2 (λ c κs. search needs) returns-3)

@@ -7,21 +7,6 @@ use borrow.Author.Needs.{needs}
 use Rattle.showing.proofs.put_range.Statement.{statement}
 use Rattle.showing.proofs.put_range.Tie as tie
 
-slice-aggregate-put-number : tie.Need-slice-aggregate-put-number
-slice-aggregate-put-number c = search needs
-
-put-number-requires : tie.Need-put-number-requires
-put-number-requires c κs = search needs
-
-slice-aggregate-put-number-2 : tie.Need-slice-aggregate-put-number-2
-slice-aggregate-put-number-2 c = search needs
-
-put-number-requires-2 : tie.Need-put-number-requires-2
-put-number-requires-2 c κs = search needs
-
-same-length : tie.Need-same-length
-same-length c = search needs
-
 returns : tie.Need-returns
 unfolding rangeText
 returns c =
@@ -33,9 +18,5 @@ pub put-range-spec : {M : Type 1} → statement M
 put-range-spec =
     tie.close
     (tie.spec
-    slice-aggregate-put-number
-    put-number-requires
-    slice-aggregate-put-number-2
-    put-number-requires-2
-    same-length
+    (λ c. search needs) (λ c κs. search needs) (λ c. search needs) (λ c κs. search needs) (λ c. search needs)
     returns)

@@ -9,28 +9,10 @@ use borrow.Author.Needs.{needs}
 use Rattle.showing.proofs.show.Statement.{statement}
 use Rattle.showing.proofs.show.Tie as tie
 
-is-whole-requires : tie.Need-is-whole-requires
-is-whole-requires c κs = search needs
-
-slice-aggregate-put : tie.Need-slice-aggregate-put
-slice-aggregate-put c = search needs
-
-put-requires : tie.Need-put-requires
-put-requires c κs = search needs
-
-same-length : tie.Need-same-length
-same-length c = search needs
-
 returns : tie.Need-returns
 returns c =
     added-same (nothing-shown _ (sym (c .before .before .before .before .before .before .is-whole .ensures) ∙
     not-true _ (c .before .before .before .before .before .if1 .taken))) (c .before .before .put .ensures)
-
-put-rate-requires : tie.Need-put-rate-requires
-put-rate-requires c κs = search needs
-
-put-window-requires : tie.Need-put-window-requires
-put-window-requires c κs = search needs
 
 put-constraint-requires : tie.Need-put-constraint-requires
 put-constraint-requires c κs =
@@ -45,9 +27,6 @@ put-listing-requires c κs =
     .before in
     let whole = test .before in
     whole→ _ (subst T (sym (sym (whole .is-whole .ensures) ∙ not-false _ (test .if1 .left))) tt)
-
-same-length-2 : tie.Need-same-length-2
-same-length-2 c = search needs
 
 returns-2 : tie.Need-returns-2
 returns-2 c =
@@ -65,14 +44,6 @@ pub show-spec : {M : Type 1} → statement M
 show-spec =
     tie.close
     (tie.spec
-    is-whole-requires
-    slice-aggregate-put
-    put-requires
-    same-length
-    returns
-    put-rate-requires
-    put-window-requires
-    put-constraint-requires
-    put-listing-requires
-    same-length-2
+    (λ c κs. search needs) (λ c. search needs) (λ c κs. search needs) (λ c. search needs) returns
+    (λ c κs. search needs) (λ c κs. search needs) put-constraint-requires put-listing-requires (λ c. search needs)
     returns-2)

@@ -9,8 +9,5 @@ use Rattle.storing.proofs.wide.Tie as tie
 cast-result : tie.Need-cast-result
 cast-result c = sfits-widen {w = w32} {w′ = w64} tt (sfits-toZ (fits-ofZ (c .fits .file)))
 
-returns : tie.Need-returns
-returns c = search needs
-
 pub wide-spec : {M : Type 1} → statement M
-wide-spec = tie.close (tie.spec cast-result returns)
+wide-spec = tie.close (tie.spec cast-result (λ c. search needs))

@@ -10,21 +10,9 @@ use borrow.Author.Needs.{needs}
 use Rattle.text.proofs.put_bit.Statement.{statement}
 use Rattle.text.proofs.put_bit.Tie as tie
 
-power-requires : tie.Need-power-requires
-power-requires c κs = search needs
-
 div-if1 : tie.Need-div-if1
 div-if1 c =
     omega (arith, c .power .ensures, pow-pos (c .before .before .args .k))
-
-slice-aggregate-put : tie.Need-slice-aggregate-put
-slice-aggregate-put c = search needs
-
-put-requires : tie.Need-put-requires
-put-requires c κs = search needs
-
-same-length : tie.Need-same-length
-same-length c = search needs
 
 returns : tie.Need-returns
 returns c =
@@ -34,15 +22,6 @@ returns c =
     added-same (bit-none (a .w / 2 ^ a .k % 2) (subst (λ n. a .w / n % 2 ≡ 0) (power .power .ensures)
     (test .if1 .taken)))
     (c .before .before .put .ensures)
-
-slice-aggregate-put-2 : tie.Need-slice-aggregate-put-2
-slice-aggregate-put-2 c = search needs
-
-put-requires-2 : tie.Need-put-requires-2
-put-requires-2 c κs = search needs
-
-same-length-2 : tie.Need-same-length-2
-same-length-2 c = search needs
 
 returns-2 : tie.Need-returns-2
 returns-2 c =
@@ -57,13 +36,5 @@ pub put-bit-spec : {M : Type 1} → statement M
 put-bit-spec =
     tie.close
     (tie.spec
-    power-requires
-    div-if1
-    slice-aggregate-put
-    put-requires
-    same-length
-    returns
-    slice-aggregate-put-2
-    put-requires-2
-    same-length-2
-    returns-2)
+    (λ c κs. search needs) div-if1 (λ c. search needs) (λ c κs. search needs) (λ c. search needs) returns
+    (λ c. search needs) (λ c κs. search needs) (λ c. search needs) returns-2)

@@ -20,18 +20,9 @@ Inv-loop out₀ at q w end₀ k₀ out end k =
 abbrev μ-loop : tie.MeasureT-loop
 μ-loop out₀ at q w end₀ k₀ out end k = k
 
-slice-aggregate-put : tie.Need-slice-aggregate-put Inv-loop μ-loop
-slice-aggregate-put c = search needs
-
-put-requires : tie.Need-put-requires Inv-loop μ-loop
-put-requires c κs = search needs
-
 loop-holds : tie.Need-loop-holds Inv-loop μ-loop
 loop-holds c =
     (omega arith, [], refl, begun (c .before .before .put .ensures))
-
-sub-k : tie.Need-sub-k Inv-loop μ-loop
-sub-k c = search needs
 
 put-bit-requires : tie.Need-put-bit-requires Inv-loop μ-loop
 put-bit-requires c κs =
@@ -40,9 +31,6 @@ put-bit-requires c κs =
       c .before .before .loop .inv .0,
       c .before .before .before .before .before .before .before .before .before .pre,
     )
-
-loop-less : tie.Need-loop-less Inv-loop μ-loop
-loop-less c = search needs
 
 loop-again : tie.Need-loop-again Inv-loop μ-loop
 loop-again c =
@@ -58,9 +46,6 @@ loop-again c =
       l .inv .3 then call .put-bit .ensures,
     )
 
-same-length : tie.Need-same-length Inv-loop μ-loop
-same-length c = search needs
-
 returns : tie.Need-returns Inv-loop μ-loop
 returns c =
     let l = c .before .loop in
@@ -75,14 +60,5 @@ pub put-word-spec : {M : Type 1} → statement M
 put-word-spec =
     tie.close
     (tie.spec
-    Inv-loop
-    μ-loop
-    slice-aggregate-put
-    put-requires
-    loop-holds
-    sub-k
-    put-bit-requires
-    loop-less
-    loop-again
-    same-length
-    returns)
+    Inv-loop μ-loop (λ c. search needs) (λ c κs. search needs) loop-holds (λ c. search needs) put-bit-requires
+    (λ c. search needs) loop-again (λ c. search needs) returns)

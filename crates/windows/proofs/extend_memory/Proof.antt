@@ -12,15 +12,6 @@ use Rattle.windows.proofs.extend_memory.Tie as tie
 abbrev table : tie.Start → Arrays
 table s = arrays (s .args .states) (s .args .n) (now (s .args .word)) (now (s .args .next))
 
-forward-requires : tie.Need-forward-requires
-forward-requires c κs = search needs
-
-element-write-spare : tie.Need-element-write-spare
-element-write-spare c = search needs
-
-same-pairs-requires : tie.Need-same-pairs-requires
-same-pairs-requires c κs = search needs
-
 returns : tie.Need-returns
 returns c =
     let f = c .before .before .before .before in
@@ -34,9 +25,6 @@ returns c =
         (s .pre .1, put .1),
       ),
     )
-
-copy-requires : tie.Need-copy-requires
-copy-requires c κs = search needs
 
 returns-2 : tie.Need-returns-2
 returns-2 c =
@@ -52,9 +40,4 @@ pub extend-memory-spec : {M : Type 1} → statement M
 extend-memory-spec =
     tie.close
     (tie.spec
-    forward-requires
-    element-write-spare
-    same-pairs-requires
-    returns
-    copy-requires
-    returns-2)
+    (λ c κs. search needs) (λ c. search needs) (λ c κs. search needs) returns (λ c κs. search needs) returns-2)

@@ -32,9 +32,6 @@ table s = arrays (s .args .states) (s .args .n) (now (s .args .word)) (now (s .a
 loop-holds : tie.Need-loop-holds Inv-loop μ-loop
 loop-holds c = (stepped-start _ _ _ _ _ refl, c .pre .2, c .pre .3)
 
-is-empty-requires : tie.Need-is-empty-requires Inv-loop μ-loop
-is-empty-requires c κs = search needs
-
 returns : tie.Need-returns Inv-loop μ-loop
 returns c =
     let l = c .before .before .before .before .loop in
@@ -48,12 +45,6 @@ forward-requires : tie.Need-forward-requires Inv-loop μ-loop
 forward-requires c κs =
     let a = c .before .before .before .before .before .before in
     (a .before .pre .0, a .loop .inv .2)
-
-same-pairs-requires : tie.Need-same-pairs-requires Inv-loop μ-loop
-same-pairs-requires c κs = search needs
-
-add-result : tie.Need-add-result Inv-loop μ-loop
-add-result c = search needs
 
 returns-2 : tie.Need-returns-2 Inv-loop μ-loop
 returns-2 c =
@@ -74,12 +65,6 @@ copy-requires c κs =
     let a = c .before .before .before .before .before .before .before .before .before .before .before .before .before in
     (a .before .pre .0 .fits .few, a .loop .inv .1)
 
-add-k : tie.Need-add-k Inv-loop μ-loop
-add-k c = search needs
-
-loop-less : tie.Need-loop-less Inv-loop μ-loop
-loop-less c = search needs
-
 loop-again : tie.Need-loop-again Inv-loop μ-loop
 loop-again c =
     let f = c .before .before .before .before .before .before .before in
@@ -94,9 +79,6 @@ loop-again c =
       f .forward .ensures .0,
     )
 
-is-empty-requires-2 : tie.Need-is-empty-requires-2 Inv-loop μ-loop
-is-empty-requires-2 c κs = search needs
-
 returns-3 : tie.Need-returns-3 Inv-loop μ-loop
 returns-3 c =
     let l = c .before .before .before .before .loop in
@@ -105,9 +87,6 @@ returns-3 c =
           (sym (c .before .is-empty2 .ensures (rowsOf t) (length-rows t)) ∙ c .if3 .taken),
       (l .inv .1, l .inv .2),
     )
-
-add-result-2 : tie.Need-add-result-2 Inv-loop μ-loop
-add-result-2 c = search needs
 
 returns-4 : tie.Need-returns-4 Inv-loop μ-loop
 returns-4 c =
@@ -122,20 +101,6 @@ pub lookahead-needed-spec : {M : Type 1} → statement M
 lookahead-needed-spec =
     tie.close
     (tie.spec
-    Inv-loop
-    μ-loop
-    loop-holds
-    is-empty-requires
-    returns
-    forward-requires
-    same-pairs-requires
-    add-result
-    returns-2
-    copy-requires
-    add-k
-    loop-less
-    loop-again
-    is-empty-requires-2
-    returns-3
-    add-result-2
-    returns-4)
+    Inv-loop μ-loop loop-holds (λ c κs. search needs) returns forward-requires (λ c κs. search needs)
+    (λ c. search needs) returns-2 copy-requires (λ c. search needs) (λ c. search needs) loop-again
+    (λ c κs. search needs) returns-3 (λ c. search needs) returns-4)

@@ -59,12 +59,6 @@ returns c =
       e .1 .1,
     )
 
-add-i : tie.Need-add-i Inv-loop μ-loop
-add-i c = search needs
-
-loop-less : tie.Need-loop-less Inv-loop μ-loop
-loop-less c = search needs
-
 loop-again : tie.Need-loop-again Inv-loop μ-loop
 loop-again c =
     let e = c .before .extend-memory .ensures in
@@ -81,12 +75,5 @@ pub pairs-after-spec : {M : Type 1} → statement M
 pairs-after-spec =
     tie.close
     (tie.spec
-    Inv-loop
-    μ-loop
-    loop-holds
-    extend-memory-requires
-    returns
-    add-i
-    loop-less
-    loop-again
+    Inv-loop μ-loop loop-holds extend-memory-requires returns (λ c. search needs) (λ c. search needs) loop-again
     returns-2)

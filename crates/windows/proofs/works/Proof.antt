@@ -8,9 +8,6 @@ use borrow.Author.Needs.{needs}
 use Rattle.windows.proofs.works.Statement.{statement}
 use Rattle.windows.proofs.works.Tie as tie
 
-ways-requires : tie.Need-ways-requires
-ways-requires c κs = search needs
-
 chain-requires : tie.Need-chain-requires
 chain-requires c κs =
     let w = c .before .before .before .before in
@@ -36,4 +33,4 @@ returns c =
     (w .ways .ensures .0)
 
 pub works-spec : {M : Type 1} → statement M
-works-spec = tie.close (tie.spec ways-requires chain-requires works-by-requires returns)
+works-spec = tie.close (tie.spec (λ c κs. search needs) chain-requires works-by-requires returns)

@@ -7,21 +7,6 @@ use borrow.Author.Needs.{needs}
 use Rattle.choice.proofs.choose.candidate_keys.Statement.{statement}
 use Rattle.choice.proofs.choose.candidate_keys.Tie as tie
 
-first-edges-requires : tie.Need-first-edges-requires
-first-edges-requires c κs = search needs
-
-element-copy-out-l : tie.Need-element-copy-out-l
-element-copy-out-l c = search needs
-
-sub-first-edges : tie.Need-sub-first-edges
-sub-first-edges c = search needs
-
-first-edges-requires-2 : tie.Need-first-edges-requires-2
-first-edges-requires-2 c κs = search needs
-
-in-front-requires : tie.Need-in-front-requires
-in-front-requires c κs = search needs
-
 returns : tie.Need-returns
 returns c =
     let p = c .before .before .before .before .args in (
@@ -37,9 +22,5 @@ pub candidate-keys-spec : {M : Type 1} → statement M
 candidate-keys-spec =
     tie.close
     (tie.spec
-    first-edges-requires
-    element-copy-out-l
-    sub-first-edges
-    first-edges-requires-2
-    in-front-requires
+    (λ c κs. search needs) (λ c. search needs) (λ c. search needs) (λ c κs. search needs) (λ c κs. search needs)
     returns)

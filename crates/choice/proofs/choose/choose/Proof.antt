@@ -19,14 +19,8 @@ loop-holds c = (omega arith, refl, lowest-none _ _)
 element-copy-out-s : tie.Need-element-copy-out-s Inv-loop μ-loop
 element-copy-out-s c = omega (arith, c .before .before .pre .0 .room)
 
-cast-s : tie.Need-cast-s Inv-loop μ-loop
-cast-s c = search needs
-
 element-copy-out-t : tie.Need-element-copy-out-t Inv-loop μ-loop
 element-copy-out-t c = omega (arith, c .before .before .before .pre .0 .room)
-
-cast-t : tie.Need-cast-t Inv-loop μ-loop
-cast-t c = search needs
 
 element-copy-out-lower-source : tie.Need-element-copy-out-lower-source Inv-loop μ-loop
 element-copy-out-lower-source c =
@@ -45,15 +39,6 @@ element-copy-out-lower-source-2 c =
       c .before .before .before .before .before .pre .0 .target (c .before .before .before .before .loop .i)
           (omega arith),
     )
-
-lower-source-requires : tie.Need-lower-source-requires Inv-loop μ-loop
-lower-source-requires c κs = search needs
-
-add-i : tie.Need-add-i Inv-loop μ-loop
-add-i c = search needs
-
-loop-less : tie.Need-loop-less Inv-loop μ-loop
-loop-less c = search needs
 
 loop-again : tie.Need-loop-again Inv-loop μ-loop
 loop-again c =
@@ -78,17 +63,6 @@ pub choose-spec : {M : Type 1} → statement M
 choose-spec =
     tie.close
     (tie.spec
-    Inv-loop
-    μ-loop
-    loop-holds
-    element-copy-out-s
-    cast-s
-    element-copy-out-t
-    cast-t
-    element-copy-out-lower-source
-    element-copy-out-lower-source-2
-    lower-source-requires
-    add-i
-    loop-less
-    loop-again
-    returns)
+    Inv-loop μ-loop loop-holds element-copy-out-s (λ c. search needs) element-copy-out-t (λ c. search needs)
+    element-copy-out-lower-source element-copy-out-lower-source-2 (λ c κs. search needs) (λ c. search needs)
+    (λ c. search needs) loop-again returns)

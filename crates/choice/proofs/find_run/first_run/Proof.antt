@@ -18,9 +18,6 @@ abbrev μ-loop : tie.MeasureT-loop
 loop-holds : tie.Need-loop-holds Inv-loop μ-loop
 loop-holds c = (omega arith, λ v es e k h. absurd (omega arith))
 
-run-to-requires : tie.Need-run-to-requires Inv-loop μ-loop
-run-to-requires c κs = search needs
-
 returns : tie.Need-returns Inv-loop μ-loop
 returns c =
     let a : length (c .before .before .before .before .before .args .weight) ≡ 16 = search needs in
@@ -29,12 +26,6 @@ returns c =
     let m : length (take (p .m) (p .weight)) ≡ p .m = length-take-le (p .m) (p .weight) (omega arith) in
     first-found (p .n) (take (p .m) (p .weight)) (l .j) (c .before .before .run-to .result)
     (c .before .before .run-to .ensures) (c .if1 .taken) (omega arith) (l .inv .1)
-
-add-j : tie.Need-add-j Inv-loop μ-loop
-add-j c = search needs
-
-loop-less : tie.Need-loop-less Inv-loop μ-loop
-loop-less c = search needs
 
 loop-again : tie.Need-loop-again Inv-loop μ-loop
 loop-again c =
@@ -58,12 +49,5 @@ pub first-run-spec : {M : Type 1} → statement M
 first-run-spec =
     tie.close
     (tie.spec
-    Inv-loop
-    μ-loop
-    loop-holds
-    run-to-requires
-    returns
-    add-j
-    loop-less
-    loop-again
+    Inv-loop μ-loop loop-holds (λ c κs. search needs) returns (λ c. search needs) (λ c. search needs) loop-again
     returns-2)

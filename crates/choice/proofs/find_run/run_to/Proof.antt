@@ -17,12 +17,6 @@ abbrev μ-loop : tie.MeasureT-loop
 loop-holds : tie.Need-loop-holds Inv-loop μ-loop
 loop-holds c = (omega arith, summed-none _ _ _)
 
-mul-total : tie.Need-mul-total Inv-loop μ-loop
-mul-total c = search needs
-
-array-read-total : tie.Need-array-read-total Inv-loop μ-loop
-array-read-total c = search needs
-
 add-total : tie.Need-add-total Inv-loop μ-loop
 add-total c =
     let a : length (c .before .before .args .t1) ≡ 16 = search needs in
@@ -34,12 +28,6 @@ add-total c =
           (omega arith) (c .before .before .pre .3) (l .inv .1),
     )
 
-rem-if1 : tie.Need-rem-if1 Inv-loop μ-loop
-rem-if1 c = search needs
-
-add-t15 : tie.Need-add-t15 Inv-loop μ-loop
-add-t15 c = search needs
-
 returns : tie.Need-returns Inv-loop μ-loop
 returns c =
     let a : length (c .before .before .before .args .t1) ≡ 16 = search needs in
@@ -47,12 +35,6 @@ returns c =
     let l = c .before .before .loop in
     run-found (p .n) (p .t1) (p .m) (p .j) (l .i) (l .total) a (omega arith) (omega arith) (omega arith)
     (c .before .before .before .pre .3) (l .inv .1) (c .if1 .taken)
-
-add-i : tie.Need-add-i Inv-loop μ-loop
-add-i c = search needs
-
-loop-less : tie.Need-loop-less Inv-loop μ-loop
-loop-less c = search needs
 
 loop-again : tie.Need-loop-again Inv-loop μ-loop
 loop-again c =
@@ -74,16 +56,5 @@ pub run-to-spec : {M : Type 1} → statement M
 run-to-spec =
     tie.close
     (tie.spec
-    Inv-loop
-    μ-loop
-    loop-holds
-    mul-total
-    array-read-total
-    add-total
-    rem-if1
-    add-t15
-    returns
-    add-i
-    loop-less
-    loop-again
-    returns-2)
+    Inv-loop μ-loop loop-holds (λ c. search needs) (λ c. search needs) add-total (λ c. search needs)
+    (λ c. search needs) returns (λ c. search needs) (λ c. search needs) loop-again returns-2)

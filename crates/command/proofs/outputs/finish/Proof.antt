@@ -8,15 +8,6 @@ use borrow.Author.Needs.{needs}
 use Rattle.command.proofs.outputs.finish.Statement.{statement}
 use Rattle.command.proofs.outputs.finish.Tie as tie
 
-enum-known-a : tie.Need-enum-known-r
-enum-known-a c = search needs
-
-refuse-requires : tie.Need-refuse-requires
-refuse-requires c κs = search needs
-
-enum-known-a-2 : tie.Need-enum-known-r-2
-enum-known-a-2 c = search needs
-
 slice-aggregate-store-at : tie.Need-slice-aggregate-store-at
 slice-aggregate-store-at c =
     let n = c .before .before .r2 in
@@ -28,20 +19,9 @@ slice-aggregate-store-at c =
 store-at-requires : tie.Need-store-at-requires
 store-at-requires c κs = c .before .before .before .before .before .pre .0
 
-returns : tie.Need-returns
-returns c = search needs
-
-returns-2 : tie.Need-returns-2
-returns-2 c = search needs
-
 pub finish-spec : {M : Type 1} → statement M
 finish-spec =
     tie.close
     (tie.spec
-    enum-known-a
-    refuse-requires
-    enum-known-a-2
-    slice-aggregate-store-at
-    store-at-requires
-    returns
-    returns-2)
+    (λ c. search needs) (λ c κs. search needs) (λ c. search needs) slice-aggregate-store-at store-at-requires
+    (λ c. search needs) (λ c. search needs))

@@ -14,15 +14,6 @@ use Rattle.compiler.proofs.bytes.compile_into.Tie as tie
 compile-requires : tie.Need-compile-requires
 compile-requires c κs = c .before .pre
 
-enum-known-v : tie.Need-enum-known-v
-enum-known-v c = search needs
-
-enum-told : tie.Need-enum-told
-enum-told c = search needs
-
-write-requires : tie.Need-write-requires
-write-requires c κs = search needs
-
 returns : tie.Need-returns
 returns c =
     let k = c .before .before .before .before .compile in
@@ -30,9 +21,6 @@ returns c =
     let o = now (a .out) in
     ends-bad (compile (jobIn (a .j))) (λ c. packInto c (length o)) o _
     (read-bad (k .result) _ _ (k .ensures .0) (c .before .v .given .1))
-
-same-length : tie.Need-same-length
-same-length c = search needs
 
 returns-2 : tie.Need-returns-2
 returns-2 c =
@@ -48,4 +36,4 @@ returns-2 c =
 pub compile-into-spec : {M : Type 1} → statement M
 compile-into-spec =
     tie.close
-    (tie.spec compile-requires enum-known-v enum-told write-requires returns same-length returns-2)
+    (tie.spec compile-requires (λ c. search needs) (λ c. search needs) (λ c κs. search needs) returns (λ c. search needs) returns-2)

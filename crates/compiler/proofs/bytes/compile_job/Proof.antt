@@ -12,15 +12,6 @@ use borrow.Author.Needs.{needs}
 use Rattle.compiler.proofs.bytes.compile_job.Statement.{statement}
 use Rattle.compiler.proofs.bytes.compile_job.Tie as tie
 
-read-job-requires : tie.Need-read-job-requires
-read-job-requires c κs = search needs
-
-enum-known-v : tie.Need-enum-known-v
-enum-known-v c = search needs
-
-enum-told : tie.Need-enum-told
-enum-told c = search needs
-
 compile-into-requires : tie.Need-compile-into-requires
 compile-into-requires c κs = c .before .before .before .before .read-job .ensures .1 (c .before .enum-told .given .1)
 
@@ -32,9 +23,6 @@ returns c =
     let o = now (a .out) in
     ends-bad (readJob (now (a .job))) (compileInto (length o)) o _
     (said-bad (k .result .verdict) (jobIn (k .result .job)) _ (k .ensures .0) _ (c .before .v .given .1))
-
-same-length : tie.Need-same-length
-same-length c = search needs
 
 returns-2 : tie.Need-returns-2
 unfolding compileJob
@@ -52,10 +40,5 @@ pub compile-job-spec : {M : Type 1} → statement M
 compile-job-spec =
     tie.close
     (tie.spec
-    read-job-requires
-    enum-known-v
-    enum-told
-    compile-into-requires
-    returns
-    same-length
+    (λ c κs. search needs) (λ c. search needs) (λ c. search needs) compile-into-requires returns (λ c. search needs)
     returns-2)

@@ -12,15 +12,6 @@ use borrow.Author.Needs.{needs}
 use Rattle.compiler.proofs.bytes.compile_run_length.Statement.{statement}
 use Rattle.compiler.proofs.bytes.compile_run_length.Tie as tie
 
-read-run-length-requires : tie.Need-read-run-length-requires
-read-run-length-requires c κs = search needs
-
-enum-known-v : tie.Need-enum-known-v
-enum-known-v c = search needs
-
-enum-told : tie.Need-enum-told
-enum-told c = search needs
-
 compile-into-requires : tie.Need-compile-into-requires
 compile-into-requires c κs =
     c .before .before .before .before .read-run-length .ensures .1 (c .before .enum-told .given .1)
@@ -33,9 +24,6 @@ returns c =
     let o = now (a .out) in
     ends-bad (readRunLength (now (a .job))) (compileInto (length o)) o _
     (said-bad (k .result .verdict) (jobIn (k .result .job)) _ (k .ensures .0) _ (c .before .v .given .1))
-
-same-length : tie.Need-same-length
-same-length c = search needs
 
 returns-2 : tie.Need-returns-2
 unfolding compileRunLength
@@ -53,10 +41,5 @@ pub compile-run-length-spec : {M : Type 1} → statement M
 compile-run-length-spec =
     tie.close
     (tie.spec
-    read-run-length-requires
-    enum-known-v
-    enum-told
-    compile-into-requires
-    returns
-    same-length
+    (λ c κs. search needs) (λ c. search needs) (λ c. search needs) compile-into-requires returns (λ c. search needs)
     returns-2)

@@ -17,9 +17,6 @@ ways-requires c κs = c .pre .allowed .p₂
 component-of-requires : tie.Need-component-of-requires
 component-of-requires c κs = (c .before .pre, c .ways .ensures .0)
 
-declined-requires : tie.Need-declined-requires
-declined-requires c κs = search needs
-
 returns : tie.Need-returns
 returns c =
     let f = c .before .before .before .component-of in
@@ -27,9 +24,6 @@ returns c =
       c .declined .ensures .0 ∙ sym (compile-none j (sym (f .ensures .total) ∙ c .before .if1 .taken)),
       λ e. absurd (c .declined .ensures .1 .0 e),
     )
-
-declined-requires-2 : tie.Need-declined-requires-2
-declined-requires-2 c κs = search needs
 
 returns-2 : tie.Need-returns-2
 returns-2 c =
@@ -40,9 +34,6 @@ returns-2 c =
           (omega (arith, f .ensures .total, c .before .if2 .taken))),
       λ e. absurd (c .declined2 .ensures .1 .0 e),
     )
-
-declined-requires-3 : tie.Need-declined-requires-3
-declined-requires-3 c κs = search needs
 
 returns-3 : tie.Need-returns-3
 returns-3 c =
@@ -70,20 +61,9 @@ split-and-window-requires c κs =
       },
     )
 
-returns-4 : tie.Need-returns-4
-returns-4 c = search needs
-
 pub compile-spec : {M : Type 1} → statement M
 compile-spec =
     tie.close
     (tie.spec
-    ways-requires
-    component-of-requires
-    declined-requires
-    returns
-    declined-requires-2
-    returns-2
-    declined-requires-3
-    returns-3
-    split-and-window-requires
-    returns-4)
+    ways-requires component-of-requires (λ c κs. search needs) returns (λ c κs. search needs) returns-2
+    (λ c κs. search needs) returns-3 split-and-window-requires (λ c. search needs))

@@ -15,9 +15,6 @@ split-all-requires c κs =
     let a = c .args in
     begun-splits (jobIn (a .j)) (c .pre .0 .allowed) (a .n) (a .g) (a .start) (c .pre .1)
 
-declined-requires : tie.Need-declined-requires
-declined-requires c κs = search needs
-
 returns : tie.Need-returns
 returns c =
     let b = c .before .before .before in
@@ -65,9 +62,4 @@ pub split-and-window-spec : {M : Type 1} → statement M
 split-and-window-spec =
     tie.close
     (tie.spec
-    split-all-requires
-    declined-requires
-    returns
-    finish-table-requires
-    with-window-requires
-    returns-2)
+    split-all-requires (λ c κs. search needs) returns finish-table-requires with-window-requires returns-2)

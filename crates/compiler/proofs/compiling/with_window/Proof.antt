@@ -13,12 +13,6 @@ use Rattle.compiler.proofs.compiling.with_window.Tie as tie
 least-window-requires : tie.Need-least-window-requires
 least-window-requires c κs = c .pre
 
-memory-of-requires : tie.Need-memory-of-requires
-memory-of-requires c κs = search needs
-
-declined-requires : tie.Need-declined-requires
-declined-requires c κs = search needs
-
 returns : tie.Need-returns
 returns c =
     let l = c .before .before .before in (
@@ -27,12 +21,6 @@ returns c =
           (c .before .before .memory-of .ensures) (c .before .if1 .taken)),
       λ e. absurd (c .declined .ensures .1 .0 e),
     )
-
-lookahead-of-requires : tie.Need-lookahead-of-requires
-lookahead-of-requires c κs = search needs
-
-with-size-requires : tie.Need-with-size-requires
-with-size-requires c κs = search needs
 
 returns-2 : tie.Need-returns-2
 returns-2 c =
@@ -52,10 +40,5 @@ pub with-window-spec : {M : Type 1} → statement M
 with-window-spec =
     tie.close
     (tie.spec
-    least-window-requires
-    memory-of-requires
-    declined-requires
-    returns
-    lookahead-of-requires
-    with-size-requires
-    returns-2)
+    least-window-requires (λ c κs. search needs) (λ c κs. search needs) returns (λ c κs. search needs)
+    (λ c κs. search needs) returns-2)

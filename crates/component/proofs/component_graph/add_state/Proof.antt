@@ -13,12 +13,6 @@ use borrow.Author.Needs.{needs}
 use Rattle.component.proofs.component_graph.add_state.Statement.{statement}
 use Rattle.component.proofs.component_graph.add_state.Tie as tie
 
-mul-if1 : tie.Need-mul-if1
-mul-if1 c = search needs
-
-array-read-if1 : tie.Need-array-read-if1
-array-read-if1 c = search needs
-
 add-words-requires : tie.Need-add-words-requires
 add-words-requires c κs =
     (c .before .pre .0, c .before .pre .1, c .before .pre .2, c .if1 .taken, c .before .pre .3)
@@ -38,4 +32,4 @@ returns-2 c =
     (sym (le-ltb (getD (p .t4) (p .s) 0) 16 (c .if1 .left))) (added-none (p .g) (c .before .pre .3))
 
 pub add-state-spec : {M : Type 1} → statement M
-add-state-spec = tie.close (tie.spec mul-if1 array-read-if1 add-words-requires returns returns-2)
+add-state-spec = tie.close (tie.spec (λ c. search needs) (λ c. search needs) add-words-requires returns returns-2)

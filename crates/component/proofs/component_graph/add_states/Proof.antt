@@ -30,12 +30,6 @@ returns c =
     (c .before .add-state .result) (p .k)
     (c .before .before .loop-test .taken) (c .before .add-state .ensures) (c .if1 .taken)
 
-add-s : tie.Need-add-s Inv-loop μ-loop
-add-s c = search needs
-
-loop-less : tie.Need-loop-less Inv-loop μ-loop
-loop-less c = search needs
-
 loop-again : tie.Need-loop-again Inv-loop μ-loop
 loop-again c =
     let l = c .before .before .before .before .loop in
@@ -58,12 +52,5 @@ pub add-states-spec : {M : Type 1} → statement M
 add-states-spec =
     tie.close
     (tie.spec
-    Inv-loop
-    μ-loop
-    loop-holds
-    add-state-requires
-    returns
-    add-s
-    loop-less
-    loop-again
+    Inv-loop μ-loop loop-holds add-state-requires returns (λ c. search needs) (λ c. search needs) loop-again
     returns-2)

@@ -18,33 +18,12 @@ Inv-loop power words s g index h₀ from m₀ w₀ h m w =
 abbrev μ-loop : tie.MeasureT-loop
 μ-loop power words s g index h₀ from m₀ w₀ h m w = words - w
 
-mul-from : tie.Need-mul-from Inv-loop μ-loop
-mul-from c = search needs
-
-array-read-from : tie.Need-array-read-from Inv-loop μ-loop
-array-read-from c = search needs
-
-cast-from : tie.Need-cast-from Inv-loop μ-loop
-cast-from c = search needs
-
 loop-holds : tie.Need-loop-holds Inv-loop μ-loop
 loop-holds c =
     let a : length (c .args .g .source) ≡ 2048 = search needs in
     let b : length (c .args .g .word) ≡ 2048 = search needs in
     let d : length (c .args .g .target) ≡ 2048 = search needs in
     (omega arith, omega arith, refl, appended-none _ a b d)
-
-mul-place-of : tie.Need-mul-place-of Inv-loop μ-loop
-mul-place-of c = search needs
-
-add-place-of : tie.Need-add-place-of Inv-loop μ-loop
-add-place-of c = search needs
-
-element-copy-out-place-of : tie.Need-element-copy-out-place-of Inv-loop μ-loop
-element-copy-out-place-of c = search needs
-
-place-of-requires : tie.Need-place-of-requires Inv-loop μ-loop
-place-of-requires c κs = search needs
 
 returns : tie.Need-returns Inv-loop μ-loop
 returns c =
@@ -53,30 +32,6 @@ returns c =
     rowed-over (now (p .power)) (p .t4) (p .s) (p .g) (l .h) (l .m) (l .w) (l .inv .3) (p .words) (omega arith)
     (c .if2 .taken)
     (omega (arith, c .before .before .place-of .ensures, c .before .if1 .taken))
-
-element-write-h : tie.Need-element-write-h Inv-loop μ-loop
-element-write-h c = search needs
-
-cast-h : tie.Need-cast-h Inv-loop μ-loop
-cast-h c = search needs
-
-element-write-h-2 : tie.Need-element-write-h-2 Inv-loop μ-loop
-element-write-h-2 c = search needs
-
-cast-h-2 : tie.Need-cast-h-2 Inv-loop μ-loop
-cast-h-2 c = search needs
-
-element-write-h-3 : tie.Need-element-write-h-3 Inv-loop μ-loop
-element-write-h-3 c = search needs
-
-add-m : tie.Need-add-m Inv-loop μ-loop
-add-m c = search needs
-
-add-w : tie.Need-add-w Inv-loop μ-loop
-add-w c = search needs
-
-loop-less : tie.Need-loop-less Inv-loop μ-loop
-loop-less c = search needs
 
 loop-again : tie.Need-loop-again Inv-loop μ-loop
 loop-again c =
@@ -115,24 +70,7 @@ pub add-words-spec : {M : Type 1} → statement M
 add-words-spec =
     tie.close
     (tie.spec
-    Inv-loop
-    μ-loop
-    mul-from
-    array-read-from
-    cast-from
-    loop-holds
-    mul-place-of
-    add-place-of
-    element-copy-out-place-of
-    place-of-requires
-    returns
-    element-write-h
-    cast-h
-    element-write-h-2
-    cast-h-2
-    element-write-h-3
-    add-m
-    add-w
-    loop-less
-    loop-again
-    returns-2)
+    Inv-loop μ-loop (λ c. search needs) (λ c. search needs) (λ c. search needs) loop-holds (λ c. search needs)
+    (λ c. search needs) (λ c. search needs) (λ c κs. search needs) returns (λ c. search needs) (λ c. search needs)
+    (λ c. search needs) (λ c. search needs) (λ c. search needs) (λ c. search needs) (λ c. search needs)
+    (λ c. search needs) loop-again returns-2)

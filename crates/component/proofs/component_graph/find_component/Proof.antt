@@ -107,9 +107,6 @@ total-weight-requires c κs =
           (c .before .before .before .list-members .result) b (c .before .before .before .list-members .ensures),
     )
 
-first-state-requires : tie.Need-first-state-requires
-first-state-requires c κs = search needs
-
 returns : tie.Need-returns
 returns c =
     let a = weights-long (c .before .before .before .before .before .before) in
@@ -143,13 +140,5 @@ pub find-component-spec : {M : Type 1} → statement M
 find-component-spec =
     tie.close
     (tie.spec
-    word-counts-requires
-    live-edges-requires
-    reach-all-requires
-    first-returning-requires
-    list-members-requires
-    with-weights-requires
-    add-states-requires
-    total-weight-requires
-    first-state-requires
-    returns)
+    word-counts-requires live-edges-requires reach-all-requires first-returning-requires list-members-requires
+    with-weights-requires add-states-requires total-weight-requires (λ c κs. search needs) returns)

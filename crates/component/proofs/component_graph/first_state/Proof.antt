@@ -7,16 +7,10 @@ use borrow.Author.Needs.{needs}
 use Rattle.component.proofs.component_graph.first_state.Statement.{statement}
 use Rattle.component.proofs.component_graph.first_state.Tie as tie
 
-returns : tie.Need-returns
-returns c = search needs
-
-element-copy-out-result : tie.Need-element-copy-out-result
-element-copy-out-result c = search needs
-
 returns-2 : tie.Need-returns-2
 returns-2 c =
     sym (getD-take (c .before .before .args .t1 .count) (c .before .before .args .t1 .state) 0 0
     (omega (arith, c .before .if1 .left)))
 
 pub first-state-spec : {M : Type 1} → statement M
-first-state-spec = tie.close (tie.spec returns element-copy-out-result returns-2)
+first-state-spec = tie.close (tie.spec (λ c. search needs) (λ c. search needs) returns-2)

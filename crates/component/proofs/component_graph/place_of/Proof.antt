@@ -5,12 +5,6 @@ use borrow.Author.Needs.{needs}
 use Rattle.component.proofs.component_graph.place_of.Statement.{statement}
 use Rattle.component.proofs.component_graph.place_of.Tie as tie
 
-mul-result : tie.Need-mul-result
-mul-result c = search needs
-
-array-read-result : tie.Need-array-read-result
-array-read-result c = search needs
-
 returns : tie.Need-returns
 returns c = simp (lt-ltb (c .before .args .t) 16 (c .if1 .taken))
 
@@ -18,4 +12,4 @@ returns-2 : tie.Need-returns-2
 returns-2 c = simp (le-ltb (c .before .args .t) 16 (c .if1 .left))
 
 pub place-of-spec : {M : Type 1} → statement M
-place-of-spec = tie.close (tie.spec mul-result array-read-result returns returns-2)
+place-of-spec = tie.close (tie.spec (λ c. search needs) (λ c. search needs) returns returns-2)

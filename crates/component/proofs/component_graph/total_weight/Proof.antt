@@ -21,12 +21,6 @@ abbrev μ-loop : tie.MeasureT-loop
 loop-holds : tie.Need-loop-holds Inv-loop μ-loop
 loop-holds c = (omega arith, refl, c .pre .0, omega arith, refl)
 
-mul-total : tie.Need-mul-total Inv-loop μ-loop
-mul-total c = search needs
-
-element-copy-out-total : tie.Need-element-copy-out-total Inv-loop μ-loop
-element-copy-out-total c = search needs
-
 mul-total-2 : tie.Need-mul-total-2 Inv-loop μ-loop
 mul-total-2 c = omega (arith, c .before .before .before .pre .1 (c .before .before .loop .i) (omega arith) .0)
 
@@ -36,12 +30,6 @@ array-read-total c = c .before .before .before .pre .1 (c .before .before .loop 
 add-total : tie.Need-add-total Inv-loop μ-loop
 add-total c =
     omega (arith, c .before .before .before .pre .1 (c .before .before .loop .i) (omega arith) .1)
-
-add-i : tie.Need-add-i Inv-loop μ-loop
-add-i c = search needs
-
-loop-less : tie.Need-loop-less Inv-loop μ-loop
-loop-less c = search needs
 
 loop-again : tie.Need-loop-again Inv-loop μ-loop
 loop-again c =
@@ -66,15 +54,5 @@ pub total-weight-spec : {M : Type 1} → statement M
 total-weight-spec =
     tie.close
     (tie.spec
-    Inv-loop
-    μ-loop
-    loop-holds
-    mul-total
-    element-copy-out-total
-    mul-total-2
-    array-read-total
-    add-total
-    add-i
-    loop-less
-    loop-again
-    returns)
+    Inv-loop μ-loop loop-holds (λ c. search needs) (λ c. search needs) mul-total-2 array-read-total add-total
+    (λ c. search needs) (λ c. search needs) loop-again returns)

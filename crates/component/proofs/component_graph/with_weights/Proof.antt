@@ -19,12 +19,6 @@ abbrev μ-loop : tie.MeasureT-loop
 loop-holds : tie.Need-loop-holds Inv-loop μ-loop
 loop-holds c = (omega arith, refl, c .pre .0, fill-none 0 _ 128 0)
 
-mul-weight : tie.Need-mul-weight Inv-loop μ-loop
-mul-weight c = search needs
-
-element-copy-out-weight : tie.Need-element-copy-out-weight Inv-loop μ-loop
-element-copy-out-weight c = search needs
-
 mul-weight-2 : tie.Need-mul-weight-2 Inv-loop μ-loop
 mul-weight-2 c = omega (arith, c .before .before .before .pre .1 (c .before .before .loop .i) (omega arith) .0)
 
@@ -34,15 +28,6 @@ array-read-weight c = c .before .before .before .pre .1 (c .before .before .loop
 cast-weight : tie.Need-cast-weight Inv-loop μ-loop
 cast-weight c =
     omega (arith, c .before .before .before .pre .1 (c .before .before .loop .i) (omega arith) .1)
-
-array-write-weight : tie.Need-array-write-weight Inv-loop μ-loop
-array-write-weight c = search needs
-
-add-i : tie.Need-add-i Inv-loop μ-loop
-add-i c = search needs
-
-loop-less : tie.Need-loop-less Inv-loop μ-loop
-loop-less c = search needs
 
 loop-again : tie.Need-loop-again Inv-loop μ-loop
 loop-again c =
@@ -71,16 +56,5 @@ pub with-weights-spec : {M : Type 1} → statement M
 with-weights-spec =
     tie.close
     (tie.spec
-    Inv-loop
-    μ-loop
-    loop-holds
-    mul-weight
-    element-copy-out-weight
-    mul-weight-2
-    array-read-weight
-    cast-weight
-    array-write-weight
-    add-i
-    loop-less
-    loop-again
-    returns)
+    Inv-loop μ-loop loop-holds (λ c. search needs) (λ c. search needs) mul-weight-2 array-read-weight cast-weight
+    (λ c. search needs) (λ c. search needs) (λ c. search needs) loop-again returns)

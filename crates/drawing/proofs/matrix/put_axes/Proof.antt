@@ -15,9 +15,6 @@ column-x-requires c κs = c .words-of .ensures .1
 row-y-requires : tie.Need-row-y-requires
 row-y-requires c κs = let p = c .before .before .before .pre in (p .1, p .2)
 
-put-sizes-requires : tie.Need-put-sizes-requires
-put-sizes-requires c κs = search needs
-
 put-columns-requires : tie.Need-put-columns-requires
 put-columns-requires c κs =
     let w = c .before .before .before .before .before .before .before in
@@ -28,9 +25,6 @@ put-rows-requires c κs =
     let w = c .before .before .before .before .before .before .before .before .before .before .before in
     let p = w .before .before .pre in
     (p .1, p .2)
-
-same-length : tie.Need-same-length
-same-length c = search needs
 
 returns : tie.Need-returns
 returns c =
@@ -47,11 +41,5 @@ pub put-axes-spec : {M : Type 1} → statement M
 put-axes-spec =
     tie.close
     (tie.spec
-    words-of-requires
-    column-x-requires
-    row-y-requires
-    put-sizes-requires
-    put-columns-requires
-    put-rows-requires
-    same-length
-    returns)
+    words-of-requires column-x-requires row-y-requires (λ c κs. search needs) put-columns-requires put-rows-requires
+    (λ c. search needs) returns)

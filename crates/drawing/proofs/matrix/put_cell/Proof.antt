@@ -9,45 +9,6 @@ use borrow.Author.Needs.{needs}
 use Rattle.drawing.proofs.matrix.put_cell.Statement.{statement}
 use Rattle.drawing.proofs.matrix.put_cell.Tie as tie
 
-column-x-requires : tie.Need-column-x-requires
-column-x-requires c κs = search needs
-
-mul-x : tie.Need-mul-x
-mul-x c = search needs
-
-add-x : tie.Need-add-x
-add-x c = search needs
-
-row-y-requires : tie.Need-row-y-requires
-row-y-requires c κs = search needs
-
-mul-y : tie.Need-mul-y
-mul-y c = search needs
-
-add-y : tie.Need-add-y
-add-y c = search needs
-
-put-place-requires : tie.Need-put-place-requires
-put-place-requires c κs = search needs
-
-put-decimal-requires : tie.Need-put-decimal-requires
-put-decimal-requires c κs = search needs
-
-slice-aggregate-put-number : tie.Need-slice-aggregate-put-number
-slice-aggregate-put-number c = search needs
-
-put-number-requires : tie.Need-put-number-requires
-put-number-requires c κs = search needs
-
-slice-aggregate-put : tie.Need-slice-aggregate-put
-slice-aggregate-put c = search needs
-
-put-requires : tie.Need-put-requires
-put-requires c κs = search needs
-
-same-length : tie.Need-same-length
-same-length c = search needs
-
 returns : tie.Need-returns
 unfolding cell
 returns c =
@@ -65,17 +26,6 @@ pub put-cell-spec : {M : Type 1} → statement M
 put-cell-spec =
     tie.close
     (tie.spec
-    column-x-requires
-    mul-x
-    add-x
-    row-y-requires
-    mul-y
-    add-y
-    put-place-requires
-    put-decimal-requires
-    slice-aggregate-put-number
-    put-number-requires
-    slice-aggregate-put
-    put-requires
-    same-length
-    returns)
+    (λ c κs. search needs) (λ c. search needs) (λ c. search needs) (λ c κs. search needs) (λ c. search needs)
+    (λ c. search needs) (λ c κs. search needs) (λ c κs. search needs) (λ c. search needs) (λ c κs. search needs)
+    (λ c. search needs) (λ c κs. search needs) (λ c. search needs) returns)

@@ -8,24 +8,6 @@ use borrow.Author.Needs.{needs}
 use Rattle.drawing.proofs.matrix.put_column.Statement.{statement}
 use Rattle.drawing.proofs.matrix.put_column.Tie as tie
 
-column-x-requires : tie.Need-column-x-requires
-column-x-requires c κs = search needs
-
-put-place-requires : tie.Need-put-place-requires
-put-place-requires c κs = search needs
-
-put-word-requires : tie.Need-put-word-requires
-put-word-requires c κs = search needs
-
-slice-aggregate-put : tie.Need-slice-aggregate-put
-slice-aggregate-put c = search needs
-
-put-requires : tie.Need-put-requires
-put-requires c κs = search needs
-
-same-length : tie.Need-same-length
-same-length c = search needs
-
 returns : tie.Need-returns
 unfolding columnText
 returns c =
@@ -39,10 +21,5 @@ pub put-column-spec : {M : Type 1} → statement M
 put-column-spec =
     tie.close
     (tie.spec
-    column-x-requires
-    put-place-requires
-    put-word-requires
-    slice-aggregate-put
-    put-requires
-    same-length
-    returns)
+    (λ c κs. search needs) (λ c κs. search needs) (λ c κs. search needs) (λ c. search needs) (λ c κs. search needs)
+    (λ c. search needs) returns)

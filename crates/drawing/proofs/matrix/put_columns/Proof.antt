@@ -18,12 +18,6 @@ Inv-loop out₀ first q words at₀ w₀ out at w =
 abbrev μ-loop : tie.MeasureT-loop
 μ-loop out₀ first q words at₀ w₀ out at w = words - w
 
-slice-aggregate-put : tie.Need-slice-aggregate-put Inv-loop μ-loop
-slice-aggregate-put c = search needs
-
-put-requires : tie.Need-put-requires Inv-loop μ-loop
-put-requires c κs = search needs
-
 loop-holds : tie.Need-loop-holds Inv-loop μ-loop
 loop-holds c =
     let x = c .before .before in
@@ -68,14 +62,5 @@ pub put-columns-spec : {M : Type 1} → statement M
 put-columns-spec =
     tie.close
     (tie.spec
-    Inv-loop
-    μ-loop
-    slice-aggregate-put
-    put-requires
-    loop-holds
-    put-column-requires
-    add-w
-    loop-less
-    loop-again
-    same-length
-    returns)
+    Inv-loop μ-loop (λ c. search needs) (λ c κs. search needs) loop-holds put-column-requires add-w loop-less
+    loop-again same-length returns)

@@ -19,15 +19,6 @@ put-axes-requires c κs =
 put-cells-requires : tie.Need-put-cells-requires
 put-cells-requires c κs = c .before .before .before .before .before .before .pre
 
-slice-aggregate-put : tie.Need-slice-aggregate-put
-slice-aggregate-put c = search needs
-
-put-requires : tie.Need-put-requires
-put-requires c κs = search needs
-
-same-length : tie.Need-same-length
-same-length c = search needs
-
 returns : tie.Need-returns
 returns c =
     let x3 = c .before .before in
@@ -41,9 +32,4 @@ pub put-matrix-spec : {M : Type 1} → statement M
 put-matrix-spec =
     tie.close
     (tie.spec
-    put-axes-requires
-    put-cells-requires
-    slice-aggregate-put
-    put-requires
-    same-length
-    returns)
+    put-axes-requires put-cells-requires (λ c. search needs) (λ c κs. search needs) (λ c. search needs) returns)

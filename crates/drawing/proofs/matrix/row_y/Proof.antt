@@ -6,12 +6,6 @@ use borrow.Author.Needs.{needs}
 use Rattle.drawing.proofs.matrix.row_y.Statement.{statement}
 use Rattle.drawing.proofs.matrix.row_y.Tie as tie
 
-mul-result : tie.Need-mul-result
-mul-result c = search needs
-
-add-result : tie.Need-add-result
-add-result c = search needs
-
 mul-result-2 : tie.Need-mul-result-2
 mul-result-2 c = omega (arith, row-small (c .args .n) (c .args .s) (c .pre .0) (c .pre .1))
 
@@ -22,4 +16,4 @@ returns : tie.Need-returns
 returns c = row-is (c .args .n) (c .args .s) (c .pre .0) (c .pre .1)
 
 pub row-y-spec : {M : Type 1} → statement M
-row-y-spec = tie.close (tie.spec mul-result add-result mul-result-2 add-result-2 returns)
+row-y-spec = tie.close (tie.spec (λ c. search needs) (λ c. search needs) mul-result-2 add-result-2 returns)

@@ -25,9 +25,6 @@ Inv-loop g n set k index rows₀ count₀ t₀ rows count t =
 abbrev μ-loop : tie.MeasureT-loop
 μ-loop g n set k index rows₀ count₀ t₀ rows count t = k - t
 
-reach-rows-requires : tie.Need-reach-rows-requires Inv-loop μ-loop
-reach-rows-requires c κs = search needs
-
 ranks-requires : tie.Need-ranks-requires Inv-loop μ-loop
 ranks-requires c κs = c .before .pre .fits .few
 
@@ -78,12 +75,6 @@ add-count c =
       c .before .before .before .before .before .before .pre .fits .few,
     )
 
-add-t : tie.Need-add-t Inv-loop μ-loop
-add-t c = search needs
-
-loop-less : tie.Need-loop-less Inv-loop μ-loop
-loop-less c = search needs
-
 loop-again : tie.Need-loop-again Inv-loop μ-loop
 loop-again c =
     let l = c .before .before .loop in
@@ -128,15 +119,5 @@ pub finish-table-spec : {M : Type 1} → statement M
 finish-table-spec =
     tie.close
     (tie.spec
-    Inv-loop
-    μ-loop
-    reach-rows-requires
-    ranks-requires
-    loop-holds
-    array-read-if1
-    add-row-requires
-    add-count
-    add-t
-    loop-less
-    loop-again
-    returns)
+    Inv-loop μ-loop (λ c κs. search needs) ranks-requires loop-holds array-read-if1 add-row-requires add-count
+    (λ c. search needs) (λ c. search needs) loop-again returns)

@@ -27,21 +27,9 @@ loop-holds c =
     let a : length (c .args .set) ≡ 128 = search needs in
     (omega arith, refl, c .pre, a, λ x. sym (or-false (member (c .args .set) x)))
 
-mul-r : tie.Need-mul-r Inv-loop μ-loop
-mul-r c = search needs
-
-element-copy-out-r : tie.Need-element-copy-out-r Inv-loop μ-loop
-element-copy-out-r c = search needs
-
 array-write-r : tie.Need-array-write-r Inv-loop μ-loop
 array-write-r c =
     mod-lt (getD (c .before .before .before .args .t1 .key) (c .before .before .loop .i) 0) {m = 128} (lit< tt)
-
-add-i : tie.Need-add-i Inv-loop μ-loop
-add-i c = search needs
-
-loop-less : tie.Need-loop-less Inv-loop μ-loop
-loop-less c = search needs
 
 loop-again : tie.Need-loop-again Inv-loop μ-loop
 loop-again c =
@@ -67,13 +55,5 @@ pub mark-targets-spec : {M : Type 1} → statement M
 mark-targets-spec =
     tie.close
     (tie.spec
-    Inv-loop
-    μ-loop
-    loop-holds
-    mul-r
-    element-copy-out-r
-    array-write-r
-    add-i
-    loop-less
-    loop-again
-    returns)
+    Inv-loop μ-loop loop-holds (λ c. search needs) (λ c. search needs) array-write-r (λ c. search needs)
+    (λ c. search needs) loop-again returns)

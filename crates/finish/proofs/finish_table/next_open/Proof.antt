@@ -19,15 +19,6 @@ abbrev μ-loop : tie.MeasureT-loop
 loop-holds : tie.Need-loop-holds Inv-loop μ-loop
 loop-holds c = (omega arith, λ j h. absurd (omega arith))
 
-array-read-but-not : tie.Need-array-read-but-not Inv-loop μ-loop
-array-read-but-not c = search needs
-
-array-read-but-not-2 : tie.Need-array-read-but-not-2 Inv-loop μ-loop
-array-read-but-not-2 c = search needs
-
-but-not-requires : tie.Need-but-not-requires Inv-loop μ-loop
-but-not-requires c κs = search needs
-
 returns : tie.Need-returns Inv-loop μ-loop
 returns c =
     record {
@@ -35,12 +26,6 @@ returns c =
       here = λ h. sym (c .before .but-not .ensures) ∙ c .if1 .taken;
       none = λ e. absurd (omega arith);
     }
-
-add-s : tie.Need-add-s Inv-loop μ-loop
-add-s c = search needs
-
-loop-less : tie.Need-loop-less Inv-loop μ-loop
-loop-less c = search needs
 
 loop-again : tie.Need-loop-again Inv-loop μ-loop
 loop-again c = (
@@ -61,14 +46,5 @@ pub next-open-spec : {M : Type 1} → statement M
 next-open-spec =
     tie.close
     (tie.spec
-    Inv-loop
-    μ-loop
-    loop-holds
-    array-read-but-not
-    array-read-but-not-2
-    but-not-requires
-    returns
-    add-s
-    loop-less
-    loop-again
-    returns-2)
+    Inv-loop μ-loop loop-holds (λ c. search needs) (λ c. search needs) (λ c κs. search needs) returns
+    (λ c. search needs) (λ c. search needs) loop-again returns-2)

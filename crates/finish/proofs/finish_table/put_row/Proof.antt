@@ -23,12 +23,6 @@ loop-holds c =
     let b : length (c .args .rows .next) ≡ 2048 = search needs in
     (omega arith, c .pre .0, put-start _ _ _ _ _ a b)
 
-mul-key : tie.Need-mul-key Inv-loop μ-loop
-mul-key c = search needs
-
-element-copy-out-key : tie.Need-element-copy-out-key Inv-loop μ-loop
-element-copy-out-key c = search needs
-
 cast-r : tie.Need-cast-r Inv-loop μ-loop
 cast-r c =
     let h : getD (c .before .before .before .args .t2 .key) (c .before .before .loop .d) 0 / 128 < 256 =
@@ -39,15 +33,6 @@ cast-r c =
           (c .before .loop-test .taken) .0,
     )) in
     omega arith
-
-mul-r : tie.Need-mul-r Inv-loop μ-loop
-mul-r c = search needs
-
-add-r : tie.Need-add-r Inv-loop μ-loop
-add-r c = search needs
-
-element-write-r : tie.Need-element-write-r Inv-loop μ-loop
-element-write-r c = search needs
 
 mul-r-2 : tie.Need-mul-r-2 Inv-loop μ-loop
 mul-r-2 c =
@@ -64,21 +49,6 @@ array-read-r c =
 cast-r-2 : tie.Need-cast-r-2 Inv-loop μ-loop
 cast-r-2 c =
     omega (arith, c .before .before .before .pre .3 (c .before .before .loop .d) (c .before .loop-test .taken) .1)
-
-mul-r-3 : tie.Need-mul-r-3 Inv-loop μ-loop
-mul-r-3 c = search needs
-
-add-r-2 : tie.Need-add-r-2 Inv-loop μ-loop
-add-r-2 c = search needs
-
-element-write-r-2 : tie.Need-element-write-r-2 Inv-loop μ-loop
-element-write-r-2 c = search needs
-
-add-d : tie.Need-add-d Inv-loop μ-loop
-add-d c = search needs
-
-loop-less : tie.Need-loop-less Inv-loop μ-loop
-loop-less c = search needs
 
 loop-again : tie.Need-loop-again Inv-loop μ-loop
 loop-again c =
@@ -100,22 +70,6 @@ pub put-row-spec : {M : Type 1} → statement M
 put-row-spec =
     tie.close
     (tie.spec
-    Inv-loop
-    μ-loop
-    loop-holds
-    mul-key
-    element-copy-out-key
-    cast-r
-    mul-r
-    add-r
-    element-write-r
-    mul-r-2
-    array-read-r
-    cast-r-2
-    mul-r-3
-    add-r-2
-    element-write-r-2
-    add-d
-    loop-less
-    loop-again
-    returns)
+    Inv-loop μ-loop loop-holds (λ c. search needs) (λ c. search needs) cast-r (λ c. search needs)
+    (λ c. search needs) (λ c. search needs) mul-r-2 array-read-r cast-r-2 (λ c. search needs) (λ c. search needs)
+    (λ c. search needs) (λ c. search needs) (λ c. search needs) loop-again returns)

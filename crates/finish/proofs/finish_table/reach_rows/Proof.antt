@@ -22,9 +22,6 @@ Inv-loop g n k set₀ done₀ s₀ set done s =
 abbrev μ-loop : tie.MeasureT-loop
 μ-loop g n k set₀ done₀ s₀ set done s = missing done
 
-array-write-set : tie.Need-array-write-set Inv-loop μ-loop
-array-write-set c = search needs
-
 next-open-requires : tie.Need-next-open-requires Inv-loop μ-loop
 next-open-requires c κs = c .pre .fits .few
 
@@ -90,15 +87,5 @@ pub reach-rows-spec : {M : Type 1} → statement M
 reach-rows-spec =
     tie.close
     (tie.spec
-    Inv-loop
-    μ-loop
-    array-write-set
-    next-open-requires
-    loop-holds
-    first-edges-requires
-    mark-targets-requires
-    array-write-done
-    next-open-requires-2
-    loop-less
-    loop-again
-    returns)
+    Inv-loop μ-loop (λ c. search needs) next-open-requires loop-holds first-edges-requires mark-targets-requires
+    array-write-done next-open-requires-2 loop-less loop-again returns)

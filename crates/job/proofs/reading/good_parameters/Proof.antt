@@ -6,14 +6,8 @@ use borrow.Author.Needs.{needs}
 use Rattle.job.proofs.reading.good_parameters.Statement.{statement}
 use Rattle.job.proofs.reading.good_parameters.Tie as tie
 
-between-requires : tie.Need-between-requires
-between-requires c κs = search needs
-
 returns : tie.Need-returns
 returns c = rw (← c .before .between .ensures, not-true (c .before .between .result) (c .if1 .taken))
-
-between-requires-2 : tie.Need-between-requires-2
-between-requires-2 c κs = search needs
 
 returns-2 : tie.Need-returns-2
 returns-2 c =
@@ -23,9 +17,6 @@ returns-2 c =
       ← c .before .between2 .ensures,
       not-true (c .before .between2 .result) (c .if2 .taken),
     )
-
-between-requires-3 : tie.Need-between-requires-3
-between-requires-3 c κs = search needs
 
 returns-3 : tie.Need-returns-3
 returns-3 c =
@@ -39,4 +30,4 @@ returns-3 c =
 pub good-parameters-spec : {M : Type 1} → statement M
 good-parameters-spec =
     tie.close
-    (tie.spec between-requires returns between-requires-2 returns-2 between-requires-3 returns-3)
+    (tie.spec (λ c κs. search needs) returns (λ c κs. search needs) returns-2 (λ c κs. search needs) returns-3)

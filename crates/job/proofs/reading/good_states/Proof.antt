@@ -35,12 +35,6 @@ returns c =
     all-failed (goodStateAt (now (a .bytes)) (a .count)) (a .count) (l .loop .s) (omega arith)
     (sym (g .ensures) ∙ not-true (g .result) (c .if1 .taken))
 
-add-s : tie.Need-add-s Inv-loop μ-loop
-add-s c = search needs
-
-loop-less : tie.Need-loop-less Inv-loop μ-loop
-loop-less c = search needs
-
 loop-again : tie.Need-loop-again Inv-loop μ-loop
 loop-again c =
     let g = c .before .good-next in (
@@ -60,12 +54,5 @@ pub good-states-spec : {M : Type 1} → statement M
 good-states-spec =
     tie.close
     (tie.spec
-    Inv-loop
-    μ-loop
-    loop-holds
-    good-next-requires
-    returns
-    add-s
-    loop-less
-    loop-again
+    Inv-loop μ-loop loop-holds good-next-requires returns (λ c. search needs) (λ c. search needs) loop-again
     returns-2)

@@ -42,9 +42,6 @@ counted c = sym (c .before .between .ensures) ∙ not-false (c .before .between 
 sized : (c : tie.Else4) → eqb (length (in₃ (c .before))) (4 + 2 * getD (in₃ (c .before)) 3 0) ≡ true
 sized c = eq-eqb _ _ (c .if4 .left)
 
-declined-requires : tie.Need-declined-requires
-declined-requires c κs = search needs
-
 returns : tie.Need-returns
 returns c = (
   c .declined .ensures .0 ∙ sym (job-short (now (c .before .before .before .args .bytes))
@@ -52,29 +49,14 @@ returns c = (
   λ e. absurd (c .declined .ensures .1 e),
 )
 
-shared-slice-read-p : tie.Need-shared-slice-read-p
-shared-slice-read-p c = search needs
-
 cast-p : tie.Need-cast-p
 cast-p c = omega (arith, c .shared-slice-known2 .given 0)
-
-shared-slice-read-q : tie.Need-shared-slice-read-q
-shared-slice-read-q c = search needs
 
 cast-q : tie.Need-cast-q
 cast-q c = omega (arith, c .shared-slice-known3 .given 1)
 
-shared-slice-read-cap : tie.Need-shared-slice-read-cap
-shared-slice-read-cap c = search needs
-
 cast-cap : tie.Need-cast-cap
 cast-cap c = omega (arith, c .shared-slice-known4 .given 2)
-
-good-parameters-requires : tie.Need-good-parameters-requires
-good-parameters-requires c κs = search needs
-
-declined-requires-2 : tie.Need-declined-requires-2
-declined-requires-2 c κs = search needs
 
 returns-2 : tie.Need-returns-2
 returns-2 c =
@@ -86,17 +68,8 @@ returns-2 c =
       λ e. absurd (c .declined2 .ensures .1 e),
     )
 
-shared-slice-read-count : tie.Need-shared-slice-read-count
-shared-slice-read-count c = search needs
-
 cast-count : tie.Need-cast-count
 cast-count c = omega (arith, c .shared-slice-known5 .given 3)
-
-between-requires : tie.Need-between-requires
-between-requires c κs = search needs
-
-declined-requires-3 : tie.Need-declined-requires-3
-declined-requires-3 c κs = search needs
 
 returns-3 : tie.Need-returns-3
 returns-3 c =
@@ -114,9 +87,6 @@ mul-if4 c = omega (arith, in-range 1 (getD (in₃ c) 3 0) 16 (counted c) .1)
 add-if4 : tie.Need-add-if4
 add-if4 c = omega (arith, in-range 1 (getD (in₃ c) 3 0) 16 (counted c) .1)
 
-declined-requires-4 : tie.Need-declined-requires-4
-declined-requires-4 c κs = search needs
-
 returns-4 : tie.Need-returns-4
 returns-4 c =
     let k = c .before .before in
@@ -129,9 +99,6 @@ returns-4 c =
 
 good-states-requires : tie.Need-good-states-requires
 good-states-requires c κs = (in-range 1 _ 16 (counted (c .before)) .1, omega arith)
-
-declined-requires-5 : tie.Need-declined-requires-5
-declined-requires-5 c κs = search needs
 
 returns-5 : tie.Need-returns-5
 returns-5 c =
@@ -164,28 +131,7 @@ pub read-job-spec : {M : Type 1} → statement M
 read-job-spec =
     tie.close
     (tie.spec
-    declined-requires
-    returns
-    shared-slice-read-p
-    cast-p
-    shared-slice-read-q
-    cast-q
-    shared-slice-read-cap
-    cast-cap
-    good-parameters-requires
-    declined-requires-2
-    returns-2
-    shared-slice-read-count
-    cast-count
-    between-requires
-    declined-requires-3
-    returns-3
-    mul-if4
-    add-if4
-    declined-requires-4
-    returns-4
-    good-states-requires
-    declined-requires-5
-    returns-5
-    states-of-requires
-    returns-6)
+    (λ c κs. search needs) returns (λ c. search needs) cast-p (λ c. search needs) cast-q (λ c. search needs)
+    cast-cap (λ c κs. search needs) (λ c κs. search needs) returns-2 (λ c. search needs) cast-count
+    (λ c κs. search needs) (λ c κs. search needs) returns-3 mul-if4 add-if4 (λ c κs. search needs) returns-4
+    good-states-requires (λ c κs. search needs) returns-5 states-of-requires returns-6)

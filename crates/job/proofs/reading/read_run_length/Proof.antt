@@ -38,9 +38,6 @@ in₃ c = in₂ (c .before .before .before .before)
 ranged : (c : tie.Else3) → (leb (getD (in₃ c) 0 0) (getD (in₃ c) 1 0) && leb (getD (in₃ c) 1 0) 15) ≡ true
 ranged c = sym (c .before .between .ensures) ∙ not-false (c .before .between .result) (c .if3 .left)
 
-declined-requires : tie.Need-declined-requires
-declined-requires c κs = search needs
-
 returns : tie.Need-returns
 returns c = (
   c .declined .ensures .0 ∙ sym (run-length-size (now (c .before .before .before .args .bytes))
@@ -48,29 +45,14 @@ returns c = (
   λ e. absurd (c .declined .ensures .1 e),
 )
 
-shared-slice-read-p : tie.Need-shared-slice-read-p
-shared-slice-read-p c = search needs
-
 cast-p : tie.Need-cast-p
 cast-p c = omega (arith, c .shared-slice-known2 .given 2)
-
-shared-slice-read-q : tie.Need-shared-slice-read-q
-shared-slice-read-q c = search needs
 
 cast-q : tie.Need-cast-q
 cast-q c = omega (arith, c .shared-slice-known3 .given 3)
 
-shared-slice-read-cap : tie.Need-shared-slice-read-cap
-shared-slice-read-cap c = search needs
-
 cast-cap : tie.Need-cast-cap
 cast-cap c = omega (arith, c .shared-slice-known4 .given 4)
-
-good-parameters-requires : tie.Need-good-parameters-requires
-good-parameters-requires c κs = search needs
-
-declined-requires-2 : tie.Need-declined-requires-2
-declined-requires-2 c κs = search needs
 
 returns-2 : tie.Need-returns-2
 returns-2 c =
@@ -82,23 +64,11 @@ returns-2 c =
       λ e. absurd (c .declined2 .ensures .1 e),
     )
 
-shared-slice-read-d : tie.Need-shared-slice-read-d
-shared-slice-read-d c = search needs
-
 cast-d : tie.Need-cast-d
 cast-d c = omega (arith, c .shared-slice-known5 .given 0)
 
-shared-slice-read-k : tie.Need-shared-slice-read-k
-shared-slice-read-k c = search needs
-
 cast-k : tie.Need-cast-k
 cast-k c = omega (arith, c .shared-slice-known6 .given 1)
-
-between-requires : tie.Need-between-requires
-between-requires c κs = search needs
-
-declined-requires-3 : tie.Need-declined-requires-3
-declined-requires-3 c κs = search needs
 
 returns-3 : tie.Need-returns-3
 returns-3 c =
@@ -126,23 +96,6 @@ pub read-run-length-spec : {M : Type 1} → statement M
 read-run-length-spec =
     tie.close
     (tie.spec
-    declined-requires
-    returns
-    shared-slice-read-p
-    cast-p
-    shared-slice-read-q
-    cast-q
-    shared-slice-read-cap
-    cast-cap
-    good-parameters-requires
-    declined-requires-2
-    returns-2
-    shared-slice-read-d
-    cast-d
-    shared-slice-read-k
-    cast-k
-    between-requires
-    declined-requires-3
-    returns-3
-    run-length-requires
-    returns-4)
+    (λ c κs. search needs) returns (λ c. search needs) cast-p (λ c. search needs) cast-q (λ c. search needs)
+    cast-cap (λ c κs. search needs) (λ c κs. search needs) returns-2 (λ c. search needs) cast-d (λ c. search needs)
+    cast-k (λ c κs. search needs) (λ c κs. search needs) returns-3 run-length-requires returns-4)

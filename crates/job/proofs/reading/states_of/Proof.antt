@@ -26,36 +26,6 @@ abbrev μ-loop : tie.MeasureT-loop
 loop-holds : tie.Need-loop-holds Inv-loop μ-loop
 loop-holds c = (omega arith, omega arith, fill-none _ none 16, fill-none _ none 16)
 
-mul-zero : tie.Need-mul-zero Inv-loop μ-loop
-mul-zero c = search needs
-
-add-zero : tie.Need-add-zero Inv-loop μ-loop
-add-zero c = search needs
-
-shared-slice-read-zero : tie.Need-shared-slice-read-zero Inv-loop μ-loop
-shared-slice-read-zero c = search needs
-
-array-write-zero : tie.Need-array-write-zero Inv-loop μ-loop
-array-write-zero c = search needs
-
-mul-one : tie.Need-mul-one Inv-loop μ-loop
-mul-one c = search needs
-
-add-one : tie.Need-add-one Inv-loop μ-loop
-add-one c = search needs
-
-shared-slice-read-one : tie.Need-shared-slice-read-one Inv-loop μ-loop
-shared-slice-read-one c = search needs
-
-array-write-one : tie.Need-array-write-one Inv-loop μ-loop
-array-write-one c = search needs
-
-add-s : tie.Need-add-s Inv-loop μ-loop
-add-s c = search needs
-
-loop-less : tie.Need-loop-less Inv-loop μ-loop
-loop-less c = search needs
-
 loop-again : tie.Need-loop-again Inv-loop μ-loop
 loop-again c =
     let l = c .before .before .before .loop in (
@@ -80,18 +50,6 @@ pub states-of-spec : {M : Type 1} → statement M
 states-of-spec =
     tie.close
     (tie.spec
-    Inv-loop
-    μ-loop
-    loop-holds
-    mul-zero
-    add-zero
-    shared-slice-read-zero
-    array-write-zero
-    mul-one
-    add-one
-    shared-slice-read-one
-    array-write-one
-    add-s
-    loop-less
-    loop-again
-    returns)
+    Inv-loop μ-loop loop-holds (λ c. search needs) (λ c. search needs) (λ c. search needs) (λ c. search needs)
+    (λ c. search needs) (λ c. search needs) (λ c. search needs) (λ c. search needs) (λ c. search needs)
+    (λ c. search needs) loop-again returns)

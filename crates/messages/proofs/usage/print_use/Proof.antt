@@ -8,21 +8,12 @@ use borrow.Author.Needs.{needs}
 use Rattle.messages.proofs.usage.print_use.Statement.{statement}
 use Rattle.messages.proofs.usage.print_use.Tie as tie
 
-first-requires : tie.Need-tell-requires
-first-requires c κs = search needs
-
 returns : tie.Need-returns
 returns c = omega arith
-
-slice-aggregate-complain : tie.Need-slice-aggregate-complain
-slice-aggregate-complain c = search needs
-
-complain-requires : tie.Need-complain-requires
-complain-requires c κs = search needs
 
 returns-2 : tie.Need-returns-2
 returns-2 c = subst (λ s. statusOf s ≤ 1) (sym (c .complain .ensures)) (omega arith)
 
 pub print-use-spec : {M : Type 1} → statement M
 print-use-spec =
-    tie.close (tie.spec first-requires returns slice-aggregate-complain complain-requires returns-2)
+    tie.close (tie.spec (λ c κs. search needs) returns (λ c. search needs) (λ c κs. search needs) returns-2)

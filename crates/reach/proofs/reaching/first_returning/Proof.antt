@@ -37,12 +37,6 @@ returns c =
       λ h. c .before .before .loop-test .taken,
     )
 
-add-s : tie.Need-add-s Inv-loop μ-loop
-add-s c = search needs
-
-loop-less : tie.Need-loop-less Inv-loop μ-loop
-loop-less c = search needs
-
 loop-again : tie.Need-loop-again Inv-loop μ-loop
 loop-again c = (
   omega arith,
@@ -63,12 +57,5 @@ pub first-returning-spec : {M : Type 1} → statement M
 first-returning-spec =
     tie.close
     (tie.spec
-    Inv-loop
-    μ-loop
-    loop-holds
-    is-returning-requires
-    returns
-    add-s
-    loop-less
-    loop-again
+    Inv-loop μ-loop loop-holds is-returning-requires returns (λ c. search needs) (λ c. search needs) loop-again
     returns-2)

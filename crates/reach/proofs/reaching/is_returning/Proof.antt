@@ -13,12 +13,6 @@ use borrow.Author.Needs.{needs}
 use Rattle.reach.proofs.reaching.is_returning.Statement.{statement}
 use Rattle.reach.proofs.reaching.is_returning.Tie as tie
 
-mul-if1 : tie.Need-mul-if1
-mul-if1 c = search needs
-
-array-read-if1 : tie.Need-array-read-if1
-array-read-if1 c = search needs
-
 returns : tie.Need-returns
 returns c =
     let p = c .before .args in
@@ -27,9 +21,6 @@ returns c =
     weighs-at (now (p .m)) (p .t2) (p .k) (c .before .pre .1) a (p .s) (c .before .pre .2)
     ∙ le-ltb 0 (getD (p .t2) (p .s) 0) (omega (arith, c .if1 .taken)) in
     sym (ap (λ b. b && returning (rowsOf (now (p .m)) (p .k)) (live (take (p .k) (p .t2))) (p .s)) e)
-
-returns-all-requires : tie.Need-returns-all-requires
-returns-all-requires c κs = search needs
 
 returns-2 : tie.Need-returns-2
 returns-2 c =
@@ -43,4 +34,4 @@ returns-2 c =
 
 pub is-returning-spec : {M : Type 1} → statement M
 is-returning-spec =
-    tie.close (tie.spec mul-if1 array-read-if1 returns returns-all-requires returns-2)
+    tie.close (tie.spec (λ c. search needs) (λ c. search needs) returns (λ c κs. search needs) returns-2)

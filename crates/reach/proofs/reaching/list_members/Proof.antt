@@ -24,44 +24,8 @@ abbrev μ-loop : tie.MeasureT-loop
 loop-holds : tie.Need-loop-holds Inv-loop μ-loop
 loop-holds c = (omega arith, c .pre .1, numbered-none _)
 
-mul-is-member : tie.Need-mul-is-member Inv-loop μ-loop
-mul-is-member c = search needs
-
-array-read-is-member : tie.Need-array-read-is-member Inv-loop μ-loop
-array-read-is-member c = search needs
-
-mul-is-member-2 : tie.Need-mul-is-member-2 Inv-loop μ-loop
-mul-is-member-2 c = search needs
-
-add-is-member : tie.Need-add-is-member Inv-loop μ-loop
-add-is-member c = search needs
-
-element-copy-out-is-member : tie.Need-element-copy-out-is-member Inv-loop μ-loop
-element-copy-out-is-member c = search needs
-
-is-member-requires : tie.Need-is-member-requires Inv-loop μ-loop
-is-member-requires c κs = search needs
-
-mul-state : tie.Need-mul-state Inv-loop μ-loop
-mul-state c = search needs
-
 array-write-state : tie.Need-array-write-state Inv-loop μ-loop
 array-write-state c = omega (arith, c .before .before .before .before .loop .inv .2 .fits)
-
-mul-index : tie.Need-mul-index Inv-loop μ-loop
-mul-index c = search needs
-
-array-write-index : tie.Need-array-write-index Inv-loop μ-loop
-array-write-index c = search needs
-
-add-count : tie.Need-add-count Inv-loop μ-loop
-add-count c = search needs
-
-add-t : tie.Need-add-t Inv-loop μ-loop
-add-t c = search needs
-
-loop-less : tie.Need-loop-less Inv-loop μ-loop
-loop-less c = search needs
 
 loop-again : tie.Need-loop-again Inv-loop μ-loop
 loop-again c =
@@ -99,21 +63,6 @@ pub list-members-spec : {M : Type 1} → statement M
 list-members-spec =
     tie.close
     (tie.spec
-    Inv-loop
-    μ-loop
-    loop-holds
-    mul-is-member
-    array-read-is-member
-    mul-is-member-2
-    add-is-member
-    element-copy-out-is-member
-    is-member-requires
-    mul-state
-    array-write-state
-    mul-index
-    array-write-index
-    add-count
-    add-t
-    loop-less
-    loop-again
-    returns)
+    Inv-loop μ-loop loop-holds (λ c. search needs) (λ c. search needs) (λ c. search needs) (λ c. search needs)
+    (λ c. search needs) (λ c κs. search needs) (λ c. search needs) array-write-state (λ c. search needs)
+    (λ c. search needs) (λ c. search needs) (λ c. search needs) (λ c. search needs) loop-again returns)

@@ -15,12 +15,6 @@ Inv-loop edge k m₀ n i₀ m i = (h : k ≤ 16) × (i ≤ k) × Rounds edge k h
 abbrev μ-loop : tie.MeasureT-loop
 μ-loop edge k m₀ n i₀ m i = k - i
 
-themselves-requires : tie.Need-themselves-requires Inv-loop μ-loop
-themselves-requires c κs = search needs
-
-mul-n : tie.Need-mul-n Inv-loop μ-loop
-mul-n c = search needs
-
 loop-holds : tie.Need-loop-holds Inv-loop μ-loop
 loop-holds c =
     let a : length (c .themselves .result) ≡ 256 = search needs in (
@@ -50,12 +44,6 @@ returns c =
     (c .before .before .before .before .reach-step .ensures) (l .i) (l .inv .2)
     (c .before .same-places .ensures (c .if1 .taken))
 
-add-i : tie.Need-add-i Inv-loop μ-loop
-add-i c = search needs
-
-loop-less : tie.Need-loop-less Inv-loop μ-loop
-loop-less c = search needs
-
 loop-again : tie.Need-loop-again Inv-loop μ-loop
 loop-again c =
     let a : length (c .before .before .before .before .reach-step .result) ≡ 256 = search needs in
@@ -78,15 +66,5 @@ pub reach-all-spec : {M : Type 1} → statement M
 reach-all-spec =
     tie.close
     (tie.spec
-    Inv-loop
-    μ-loop
-    themselves-requires
-    mul-n
-    loop-holds
-    reach-step-requires
-    same-places-requires
-    returns
-    add-i
-    loop-less
-    loop-again
-    returns-2)
+    Inv-loop μ-loop (λ c κs. search needs) (λ c. search needs) loop-holds reach-step-requires same-places-requires
+    returns (λ c. search needs) (λ c. search needs) loop-again returns-2)

@@ -13,9 +13,6 @@ use borrow.Author.Needs.{needs}
 use Rattle.reach.proofs.reaching.reaches_on.Statement.{statement}
 use Rattle.reach.proofs.reaching.reaches_on.Tie as tie
 
-element-copy-out-if1 : tie.Need-element-copy-out-if1
-element-copy-out-if1 c = search needs
-
 returns : tie.Need-returns
 returns c =
     let p = c .before .before .args in
@@ -39,4 +36,4 @@ returns-2 c =
     (c .before .if1 .left))
 
 pub reaches-on-spec : {M : Type 1} → statement M
-reaches-on-spec = tie.close (tie.spec element-copy-out-if1 returns leads-any-requires returns-2)
+reaches-on-spec = tie.close (tie.spec (λ c. search needs) returns leads-any-requires returns-2)

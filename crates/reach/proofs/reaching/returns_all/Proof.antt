@@ -20,33 +20,6 @@ abbrev μ-loop : tie.MeasureT-loop
 loop-holds : tie.Need-loop-holds Inv-loop μ-loop
 loop-holds c = (omega arith, λ j h. absurd (omega arith))
 
-mul-no-return : tie.Need-mul-no-return Inv-loop μ-loop
-mul-no-return c = search needs
-
-array-read-no-return : tie.Need-array-read-no-return Inv-loop μ-loop
-array-read-no-return c = search needs
-
-mul-no-return-2 : tie.Need-mul-no-return-2 Inv-loop μ-loop
-mul-no-return-2 c = search needs
-
-add-no-return : tie.Need-add-no-return Inv-loop μ-loop
-add-no-return c = search needs
-
-element-copy-out-no-return : tie.Need-element-copy-out-no-return Inv-loop μ-loop
-element-copy-out-no-return c = search needs
-
-mul-no-return-3 : tie.Need-mul-no-return-3 Inv-loop μ-loop
-mul-no-return-3 c = search needs
-
-add-no-return-2 : tie.Need-add-no-return-2 Inv-loop μ-loop
-add-no-return-2 c = search needs
-
-element-copy-out-no-return-2 : tie.Need-element-copy-out-no-return-2 Inv-loop μ-loop
-element-copy-out-no-return-2 c = search needs
-
-no-return-requires : tie.Need-no-return-requires Inv-loop μ-loop
-no-return-requires c κs = search needs
-
 returns : tie.Need-returns Inv-loop μ-loop
 returns c =
     let p = c .before .before .before .before .before .before .args in
@@ -56,12 +29,6 @@ returns c =
     (c .before .before .before .before .before .before .pre .2)
     (c .before .before .before .before .loop-test .taken)
     (sym (c .before .no-return .ensures) ∙ c .if1 .taken))
-
-add-t : tie.Need-add-t Inv-loop μ-loop
-add-t c = search needs
-
-loop-less : tie.Need-loop-less Inv-loop μ-loop
-loop-less c = search needs
 
 loop-again : tie.Need-loop-again Inv-loop μ-loop
 loop-again c = (
@@ -81,20 +48,6 @@ pub returns-all-spec : {M : Type 1} → statement M
 returns-all-spec =
     tie.close
     (tie.spec
-    Inv-loop
-    μ-loop
-    loop-holds
-    mul-no-return
-    array-read-no-return
-    mul-no-return-2
-    add-no-return
-    element-copy-out-no-return
-    mul-no-return-3
-    add-no-return-2
-    element-copy-out-no-return-2
-    no-return-requires
-    returns
-    add-t
-    loop-less
-    loop-again
-    returns-2)
+    Inv-loop μ-loop loop-holds (λ c. search needs) (λ c. search needs) (λ c. search needs) (λ c. search needs)
+    (λ c. search needs) (λ c. search needs) (λ c. search needs) (λ c. search needs) (λ c κs. search needs) returns
+    (λ c. search needs) (λ c. search needs) loop-again returns-2)

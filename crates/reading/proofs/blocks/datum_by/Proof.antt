@@ -42,23 +42,8 @@ edge-inside c = edge-small (run (start c)) (c .before .loop .inv .on) (c .loop-t
 next-inside : (c : tie.In-loop Inv-loop μ-loop) → nextOf (table (start c)) (edge c) < 128
 next-inside c = next-small (run (start c)) (c .before .loop .inv .on) (c .loop-test .taken)
 
-mul-k : tie.Need-mul-k Inv-loop μ-loop
-mul-k c = search needs
-
-element-copy-out-k : tie.Need-element-copy-out-k Inv-loop μ-loop
-element-copy-out-k c = search needs
-
 cast-k : tie.Need-cast-k Inv-loop μ-loop
 cast-k c = let s = c .before in omega (arith, run s .rising, run s .inside)
-
-add-end : tie.Need-add-end Inv-loop μ-loop
-add-end c = search needs
-
-mul-end : tie.Need-mul-end Inv-loop μ-loop
-mul-end c = search needs
-
-element-copy-out-end : tie.Need-element-copy-out-end Inv-loop μ-loop
-element-copy-out-end c = search needs
 
 cast-end : tie.Need-cast-end Inv-loop μ-loop
 cast-end c = omega (arith, run (c .before .before) .inside)
@@ -79,9 +64,6 @@ cast-e c = omega (arith, edge-inside (c .before))
 
 joins-requires : tie.Need-joins-requires Inv-loop μ-loop
 joins-requires c κs = (edge-inside (c .before), next-inside (c .before))
-
-cast-datum : tie.Need-cast-datum Inv-loop μ-loop
-cast-datum c = search needs
 
 add-k : tie.Need-add-k Inv-loop μ-loop
 add-k c = let i = c .before .before .before in omega (arith, run (start i) .inside, i .loop-test .taken)
@@ -123,22 +105,6 @@ pub datum-by-spec : {M : Type 1} → statement M
 datum-by-spec =
     tie.close
     (tie.spec
-    Inv-loop
-    μ-loop
-    mul-k
-    element-copy-out-k
-    cast-k
-    add-end
-    mul-end
-    element-copy-out-end
-    cast-end
-    loop-holds
-    mul-e
-    element-copy-out-e
-    cast-e
-    joins-requires
-    cast-datum
-    add-k
-    loop-less
-    loop-again
-    returns)
+    Inv-loop μ-loop (λ c. search needs) (λ c. search needs) cast-k (λ c. search needs) (λ c. search needs)
+    (λ c. search needs) cast-end loop-holds mul-e element-copy-out-e cast-e joins-requires (λ c. search needs) add-k
+    loop-less loop-again returns)

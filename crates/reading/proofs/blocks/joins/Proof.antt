@@ -9,12 +9,6 @@ use borrow.Author.Needs.{needs}
 use Rattle.reading.proofs.blocks.joins.Statement.{statement}
 use Rattle.reading.proofs.blocks.joins.Tie as tie
 
-element-copy-out-if1 : tie.Need-element-copy-out-if1
-element-copy-out-if1 c = search needs
-
-element-copy-out-result : tie.Need-element-copy-out-result
-element-copy-out-result c = search needs
-
 cast-result : tie.Need-cast-result
 cast-result c = omega (arith, c .before .before .before .pre .1)
 
@@ -35,9 +29,4 @@ pub joins-spec : {M : Type 1} → statement M
 joins-spec =
     tie.close
     (tie.spec
-    element-copy-out-if1
-    element-copy-out-result
-    cast-result
-    element-copy-out-result-2
-    returns
-    returns-2)
+    (λ c. search needs) (λ c. search needs) cast-result element-copy-out-result-2 returns returns-2)

@@ -12,15 +12,6 @@ use borrow.Author.Needs.{needs}
 use Rattle.reading.proofs.blocks.past_set.Statement.{statement}
 use Rattle.reading.proofs.blocks.past_set.Tie as tie
 
-less-requires : tie.Need-less-requires
-less-requires c κs = search needs
-
-array-write-one : tie.Need-array-write-one
-array-write-one c = search needs
-
-step-all-requires : tie.Need-step-all-requires
-step-all-requires c κs = search needs
-
 returns : tie.Need-returns
 returns c =
     let i = c .before .before .before in
@@ -32,9 +23,6 @@ returns c =
     ∙ ap₂ (λ S k. alongAll (rowsOf u) S (slice k (a .i) ws))
     (states-one (a .states) 128 (rowsOf u) (length-rows u) (s .pre .0 .fits .few) (lit< tt)) (i .before .less .ensures)
     ∙ past-start (rowsOf u) (a .m) 0 ws (a .i) (i .if1 .taken)
-
-step-all-requires-2 : tie.Need-step-all-requires-2
-step-all-requires-2 c κs = search needs
 
 returns-2 : tie.Need-returns-2
 returns-2 c =
@@ -50,4 +38,4 @@ returns-2 c =
 
 pub past-set-spec : {M : Type 1} → statement M
 past-set-spec =
-    tie.close (tie.spec less-requires array-write-one step-all-requires returns step-all-requires-2 returns-2)
+    tie.close (tie.spec (λ c κs. search needs) (λ c. search needs) (λ c κs. search needs) returns (λ c κs. search needs) returns-2)

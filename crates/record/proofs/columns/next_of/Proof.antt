@@ -6,21 +6,12 @@ use borrow.Author.Needs.{needs}
 use Rattle.record.proofs.columns.next_of.Statement.{statement}
 use Rattle.record.proofs.columns.next_of.Tie as tie
 
-get-requires : tie.Need-get-requires
-get-requires c κs = search needs
-
 returns : tie.Need-returns
 returns c = rw (← c .before .get .ensures, eq-eqb (c .before .get .result) 0 (c .if1 .taken))
-
-add-get : tie.Need-add-get
-add-get c = search needs
-
-get-requires-2 : tie.Need-get-requires-2
-get-requires-2 c κs = search needs
 
 returns-2 : tie.Need-returns-2
 returns-2 c = rw (← c .before .before .get .ensures, ne-eqb (c .before .before .get .result) 0 (λ e. omega arith))
     (c .get2 .ensures)
 
 pub next-of-spec : {M : Type 1} → statement M
-next-of-spec = tie.close (tie.spec get-requires returns add-get get-requires-2 returns-2)
+next-of-spec = tie.close (tie.spec (λ c κs. search needs) returns (λ c. search needs) (λ c κs. search needs) returns-2)

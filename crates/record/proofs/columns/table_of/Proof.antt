@@ -10,9 +10,6 @@ use Rattle.record.proofs.RecordTables.{code-is}
 use Rattle.record.proofs.columns.table_of.Statement.{statement}
 use Rattle.record.proofs.columns.table_of.Tie as tie
 
-power-requires : tie.Need-power-requires
-power-requires c κs = search needs
-
 mul-edges : tie.Need-mul-edges
 mul-edges c =
     let b = c .before .before .before in
@@ -24,27 +21,12 @@ mul-edges c =
       );
     }
 
-mul-first : tie.Need-mul-first
-mul-first c = search needs
-
-add-first : tie.Need-add-first
-add-first c = search needs
-
-add-step : tie.Need-add-step
-add-step c = search needs
-
-states-of-requires : tie.Need-states-of-requires
-states-of-requires c κs = search needs
-
 column-requires : tie.Need-column-requires
 column-requires c κs =
     let b = c .before .before .before .before in
     let a = b .before .before in
     reach-words (a .args .f) (b .power .result) (length (now (a .args .bytes))) (a .pre .0)
     (b .power .ensures) (a .pre .1)
-
-add-column : tie.Need-add-column
-add-column c = search needs
 
 column-requires-2 : tie.Need-column-requires-2
 column-requires-2 c κs =
@@ -66,13 +48,5 @@ pub table-of-spec : {M : Type 1} → statement M
 table-of-spec =
     tie.close
     (tie.spec
-    power-requires
-    mul-edges
-    mul-first
-    add-first
-    add-step
-    states-of-requires
-    column-requires
-    add-column
-    column-requires-2
-    returns)
+    (λ c κs. search needs) mul-edges (λ c. search needs) (λ c. search needs) (λ c. search needs)
+    (λ c κs. search needs) column-requires (λ c. search needs) column-requires-2 returns)

@@ -9,18 +9,6 @@ use Rattle.record.proofs.Sizes.{row-le, edges-le}
 use Rattle.record.proofs.numbers.bit_count.Statement.{statement}
 use Rattle.record.proofs.numbers.bit_count.Tie as tie
 
-power-requires : tie.Need-power-requires
-power-requires c κs = search needs
-
-mul-result : tie.Need-mul-result
-mul-result c = search needs
-
-add-result : tie.Need-add-result
-add-result c = search needs
-
-add-result-2 : tie.Need-add-result-2
-add-result-2 c = search needs
-
 mul-result-2 : tie.Need-mul-result-2
 mul-result-2 c =
     let f = c .before .before .before .args .f in
@@ -56,11 +44,5 @@ pub bit-count-spec : {M : Type 1} → statement M
 bit-count-spec =
     tie.close
     (tie.spec
-    power-requires
-    mul-result
-    add-result
-    add-result-2
-    mul-result-2
-    mul-result-3
-    add-result-3
-    returns)
+    (λ c κs. search needs) (λ c. search needs) (λ c. search needs) (λ c. search needs) mul-result-2 mul-result-3
+    add-result-3 returns)

@@ -5,14 +5,8 @@ use borrow.Author.Needs.{needs}
 use Rattle.record.proofs.numbers.good_front.Statement.{statement}
 use Rattle.record.proofs.numbers.good_front.Tie as tie
 
-between-requires : tie.Need-between-requires
-between-requires c κs = search needs
-
 returns : tie.Need-returns
 returns c = rw (← c .before .between .ensures, not-true (c .before .between .result) (c .if1 .taken))
-
-between-requires-2 : tie.Need-between-requires-2
-between-requires-2 c κs = search needs
 
 returns-2 : tie.Need-returns-2
 returns-2 c =
@@ -36,4 +30,4 @@ returns-3 c =
 
 pub good-front-spec : {M : Type 1} → statement M
 good-front-spec =
-    tie.close (tie.spec between-requires returns between-requires-2 returns-2 returns-3)
+    tie.close (tie.spec (λ c κs. search needs) returns (λ c κs. search needs) returns-2 returns-3)

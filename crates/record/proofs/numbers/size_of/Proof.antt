@@ -6,17 +6,11 @@ use Rattle.record.proofs.Sizes.{bitCount-le}
 use Rattle.record.proofs.numbers.size_of.Statement.{statement}
 use Rattle.record.proofs.numbers.size_of.Tie as tie
 
-bit-count-requires : tie.Need-bit-count-requires
-bit-count-requires c κs = search needs
-
 add-result : tie.Need-add-result
 add-result c = record {
   fits = omega
       (arith, c .bit-count .ensures, bitCount-le (c .before .args .f) (c .before .pre));
 }
 
-returns : tie.Need-returns
-returns c = search needs
-
 pub size-of-spec : {M : Type 1} → statement M
-size-of-spec = tie.close (tie.spec bit-count-requires add-result returns)
+size-of-spec = tie.close (tie.spec (λ c κs. search needs) add-result (λ c. search needs))

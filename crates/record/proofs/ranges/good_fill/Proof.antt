@@ -11,19 +11,10 @@ use Rattle.record.proofs.Sizes.{bitCount-le}
 use Rattle.record.proofs.ranges.good_fill.Statement.{statement}
 use Rattle.record.proofs.ranges.good_fill.Tie as tie
 
-bit-count-requires : tie.Need-bit-count-requires
-bit-count-requires c κs = search needs
-
 mul-get : tie.Need-mul-get
 mul-get c =
     let a = c .before .before in
     record { fits = omega (arith, bitCount-le (a .args .f) (a .pre .0), a .pre .1) }
-
-sub-get : tie.Need-sub-get
-sub-get c = search needs
-
-get-requires : tie.Need-get-requires
-get-requires c κs = search needs
 
 returns : tie.Need-returns
 returns c =
@@ -33,4 +24,4 @@ returns c =
     (c .before .bit-count .ensures) (a .pre .1))
 
 pub good-fill-spec : {M : Type 1} → statement M
-good-fill-spec = tie.close (tie.spec bit-count-requires mul-get sub-get get-requires returns)
+good-fill-spec = tie.close (tie.spec (λ c κs. search needs) mul-get (λ c. search needs) (λ c κs. search needs) returns)

@@ -6,18 +6,6 @@ use borrow.Author.Needs.{needs}
 use Rattle.record.proofs.ranges.good_next.Statement.{statement}
 use Rattle.record.proofs.ranges.good_next.Tie as tie
 
-add-get : tie.Need-add-get
-add-get c = search needs
-
-get-requires : tie.Need-get-requires
-get-requires c κs = search needs
-
-cast-next : tie.Need-cast-next
-cast-next c = search needs
-
-get-requires-2 : tie.Need-get-requires-2
-get-requires-2 c κs = search needs
-
 returns : tie.Need-returns
 returns c = rw (
   ← c .before .before .get .ensures,
@@ -36,4 +24,4 @@ returns-2 c = rw (
 
 pub good-next-spec : {M : Type 1} → statement M
 good-next-spec =
-    tie.close (tie.spec add-get get-requires cast-next get-requires-2 returns returns-2)
+    tie.close (tie.spec (λ c. search needs) (λ c κs. search needs) (λ c. search needs) (λ c κs. search needs) returns returns-2)

@@ -15,9 +15,6 @@ use Rattle.record.proofs.RecordChecks.{rest-checked}
 use Rattle.record.proofs.ranges.good_rest.Statement.{statement}
 use Rattle.record.proofs.ranges.good_rest.Tie as tie
 
-good-states-requires : tie.Need-good-states-requires
-good-states-requires c κs = search needs
-
 returns : tie.Need-returns
 returns c =
     let a = c .before .before .before .args in
@@ -27,9 +24,6 @@ returns c =
       not-true
           (c .before .good-states .result) (c .if1 .taken),
     )
-
-power-requires : tie.Need-power-requires
-power-requires c κs = search needs
 
 mul-edges : tie.Need-mul-edges
 mul-edges c =
@@ -67,9 +61,6 @@ returns-2 c =
       not-true (c .before .good-targets .result) (c .if2 .taken),
     )
 
-good-fill-requires : tie.Need-good-fill-requires
-good-fill-requires c κs = search needs
-
 returns-3 : tie.Need-returns-3
 returns-3 c =
     let d = c .before .before .before .before in
@@ -90,11 +81,5 @@ pub good-rest-spec : {M : Type 1} → statement M
 good-rest-spec =
     tie.close
     (tie.spec
-    good-states-requires
-    returns
-    power-requires
-    mul-edges
-    good-targets-requires
-    returns-2
-    good-fill-requires
-    returns-3)
+    (λ c κs. search needs) returns (λ c κs. search needs) mul-edges good-targets-requires returns-2
+    (λ c κs. search needs) returns-3)

@@ -26,18 +26,6 @@ Inv-loop bytes edges first step states e₀ e =
 abbrev μ-loop : tie.MeasureT-loop
 μ-loop bytes edges first step states e₀ e = edges - e
 
-mul-first : tie.Need-mul-first Inv-loop μ-loop
-mul-first c = search needs
-
-add-first : tie.Need-add-first Inv-loop μ-loop
-add-first c = search needs
-
-add-first-2 : tie.Need-add-first-2 Inv-loop μ-loop
-add-first-2 c = search needs
-
-add-step : tie.Need-add-step Inv-loop μ-loop
-add-step c = search needs
-
 loop-holds : tie.Need-loop-holds Inv-loop μ-loop
 loop-holds c = (omega arith, λ k h. absurd (omega arith))
 
@@ -75,9 +63,6 @@ get-requires c κs =
           (c .before .loop .e) (omega arith) (omega (arith, a .pre .2)),
     )
 
-cast-if1 : tie.Need-cast-if1 Inv-loop μ-loop
-cast-if1 c = search needs
-
 returns : tie.Need-returns Inv-loop μ-loop
 returns c =
     let a = c .before .before .before .before .before .before .before .before .args in
@@ -109,19 +94,5 @@ pub good-targets-spec : {M : Type 1} → statement M
 good-targets-spec =
     tie.close
     (tie.spec
-    Inv-loop
-    μ-loop
-    mul-first
-    add-first
-    add-first-2
-    add-step
-    loop-holds
-    mul-get
-    add-get
-    get-requires
-    cast-if1
-    returns
-    add-e
-    loop-less
-    loop-again
-    returns-2)
+    Inv-loop μ-loop (λ c. search needs) (λ c. search needs) (λ c. search needs) (λ c. search needs) loop-holds
+    mul-get add-get get-requires (λ c. search needs) returns add-e loop-less loop-again returns-2)

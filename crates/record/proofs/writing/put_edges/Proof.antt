@@ -82,9 +82,6 @@ target c =
     div-lt-iff-lt-mul {k = n} {x = e} {y = t .args .t2 .states} (some c) .1 (c .loop-test .taken) in
     t .pre .0 .inside (e / n) (e % n) s (rw (← n-is c) (mod-lt e {m = n} (some c)))
 
-power-requires : tie.Need-power-requires Inv-loop μ-loop
-power-requires c κs = search needs
-
 mul-edges : tie.Need-mul-edges Inv-loop μ-loop
 mul-edges c =
     let t = c .before .before in
@@ -109,9 +106,6 @@ rem-i c = some c
 add-i : tie.Need-add-i Inv-loop μ-loop
 add-i c = record { fits = omega (arith, within c) }
 
-add-at : tie.Need-add-at Inv-loop μ-loop
-add-at c = search needs
-
 mul-at : tie.Need-mul-at Inv-loop μ-loop
 mul-at c = record { fits = omega (arith, small c) }
 
@@ -120,9 +114,6 @@ add-at-2 c = record { fits = omega (arith, small c, c .before .before .before .b
 
 element-copy-out-put-low : tie.Need-element-copy-out-put-low Inv-loop μ-loop
 element-copy-out-put-low c = within (c .before)
-
-cast-put-low : tie.Need-cast-put-low Inv-loop μ-loop
-cast-put-low c = search needs
 
 put-low-requires : tie.Need-put-low-requires Inv-loop μ-loop
 put-low-requires c κs = (
@@ -154,9 +145,6 @@ add-e : tie.Need-add-e Inv-loop μ-loop
 add-e c =
     let l = c .before .before .before .before .before .before .before .before .before .before in
     record { fits = omega (arith, l .loop-test .taken, small l) }
-
-loop-less : tie.Need-loop-less Inv-loop μ-loop
-loop-less c = search needs
 
 loop-again : tie.Need-loop-again Inv-loop μ-loop
 loop-again c =
@@ -196,27 +184,6 @@ pub put-edges-spec : {M : Type 1} → statement M
 put-edges-spec =
     tie.close
     (tie.spec
-    Inv-loop
-    μ-loop
-    power-requires
-    mul-edges
-    loop-holds
-    div-i
-    mul-i
-    rem-i
-    add-i
-    add-at
-    mul-at
-    add-at-2
-    element-copy-out-put-low
-    cast-put-low
-    put-low-requires
-    add-put-low
-    element-copy-out-put-low-2
-    cast-put-low-2
-    put-low-requires-2
-    add-e
-    loop-less
-    loop-again
-    same-length
-    returns)
+    Inv-loop μ-loop (λ c κs. search needs) mul-edges loop-holds div-i mul-i rem-i add-i (λ c. search needs) mul-at
+    add-at-2 element-copy-out-put-low (λ c. search needs) put-low-requires add-put-low element-copy-out-put-low-2
+    cast-put-low-2 put-low-requires-2 add-e (λ c. search needs) loop-again same-length returns)

@@ -10,36 +10,6 @@ use Rattle.record.proofs.RecordParts.{front-spliced}
 use Rattle.record.proofs.writing.put_front.Statement.{statement}
 use Rattle.record.proofs.writing.put_front.Tie as tie
 
-put-low-requires : tie.Need-put-low-requires
-put-low-requires c κs = search needs
-
-put-low-requires-2 : tie.Need-put-low-requires-2
-put-low-requires-2 c κs = search needs
-
-less-one-requires : tie.Need-less-one-requires
-less-one-requires c κs = search needs
-
-put-low-requires-3 : tie.Need-put-low-requires-3
-put-low-requires-3 c κs = search needs
-
-put-low-requires-4 : tie.Need-put-low-requires-4
-put-low-requires-4 c κs = search needs
-
-put-low-requires-5 : tie.Need-put-low-requires-5
-put-low-requires-5 c κs = search needs
-
-less-one-requires-2 : tie.Need-less-one-requires-2
-less-one-requires-2 c κs = search needs
-
-put-low-requires-6 : tie.Need-put-low-requires-6
-put-low-requires-6 c κs = search needs
-
-put-low-requires-7 : tie.Need-put-low-requires-7
-put-low-requires-7 c κs = search needs
-
-same-length : tie.Need-same-length
-same-length c = search needs
-
 returns : tie.Need-returns
 returns c =
     let p7 = c .before .before in
@@ -85,14 +55,6 @@ pub put-front-spec : {M : Type 1} → statement M
 put-front-spec =
     tie.close
     (tie.spec
-    put-low-requires
-    put-low-requires-2
-    less-one-requires
-    put-low-requires-3
-    put-low-requires-4
-    put-low-requires-5
-    less-one-requires-2
-    put-low-requires-6
-    put-low-requires-7
-    same-length
-    returns)
+    (λ c κs. search needs) (λ c κs. search needs) (λ c κs. search needs) (λ c κs. search needs)
+    (λ c κs. search needs) (λ c κs. search needs) (λ c κs. search needs) (λ c κs. search needs)
+    (λ c κs. search needs) (λ c. search needs) returns)

@@ -10,16 +10,10 @@ use Rattle.record.proofs.RecordParts.{put-low-is}
 use Rattle.record.proofs.writing.put_low.Statement.{statement}
 use Rattle.record.proofs.writing.put_low.Tie as tie
 
-low-bits-requires : tie.Need-low-bits-requires
-low-bits-requires c κs = search needs
-
 put-requires : tie.Need-put-requires
 put-requires c κs =
     let b = c .before .before .before in
     (b .pre .0, b .pre .1, rw (c .low-bits .ensures) (mod-lt _ (pow-pos (b .args .width))))
-
-same-length : tie.Need-same-length
-same-length c = search needs
 
 returns : tie.Need-returns
 returns c =
@@ -31,4 +25,4 @@ returns c =
     )
 
 pub put-low-spec : {M : Type 1} → statement M
-put-low-spec = tie.close (tie.spec low-bits-requires put-requires same-length returns)
+put-low-spec = tie.close (tie.spec (λ c κs. search needs) put-requires (λ c. search needs) returns)

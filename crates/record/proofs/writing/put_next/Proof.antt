@@ -8,30 +8,12 @@ use Rattle.record.proofs.RecordParts.{put-absent, put-present}
 use Rattle.record.proofs.writing.put_next.Statement.{statement}
 use Rattle.record.proofs.writing.put_next.Tie as tie
 
-put-requires : tie.Need-put-requires
-put-requires c κs = search needs
-
-same-length : tie.Need-same-length
-same-length c = search needs
-
 returns : tie.Need-returns
 returns c =
     let b = c .before .before in
     let t = b .before .before in
     let a = t .before .before .args in
     (b .put .ensures .0 ∙ put-absent (bitsOf (now (a .out))) (a .at) (a .next) (t .if1 .taken), b .put .ensures .1)
-
-low-bits-requires : tie.Need-low-bits-requires
-low-bits-requires c κs = search needs
-
-add-put : tie.Need-add-put
-add-put c = search needs
-
-put-requires-2 : tie.Need-put-requires-2
-put-requires-2 c κs = search needs
-
-same-length-2 : tie.Need-same-length-2
-same-length-2 c = search needs
 
 returns-2 : tie.Need-returns-2
 returns-2 c =
@@ -47,11 +29,5 @@ pub put-next-spec : {M : Type 1} → statement M
 put-next-spec =
     tie.close
     (tie.spec
-    put-requires
-    same-length
-    returns
-    low-bits-requires
-    add-put
-    put-requires-2
-    same-length-2
-    returns-2)
+    (λ c κs. search needs) (λ c. search needs) returns (λ c κs. search needs) (λ c. search needs)
+    (λ c κs. search needs) (λ c. search needs) returns-2)

@@ -41,18 +41,6 @@ place c = (counted c) .bit-count .ensures ∙ ap bitCount (start c .pre .1)
 bit-count-requires : tie.Need-bit-count-requires
 bit-count-requires c κs = subst Small (sym (c .before .pre .1)) (small-in (c .before .args .t) (c .before .pre .0))
 
-put-front-requires : tie.Need-put-front-requires
-put-front-requires c κs = search needs
-
-put-states-requires : tie.Need-put-states-requires
-put-states-requires c κs = search needs
-
-mul-put-edges : tie.Need-mul-put-edges
-mul-put-edges c = search needs
-
-add-put-edges : tie.Need-add-put-edges
-add-put-edges c = search needs
-
 put-edges-requires : tie.Need-put-edges-requires
 put-edges-requires c κs =
     let b = c .before .before .before .before in
@@ -90,9 +78,6 @@ put-requires c κs =
       pow-pos _,
     )
 
-same-length : tie.Need-same-length
-same-length c = search needs
-
 returns : tie.Need-returns
 returns c =
     let d = c .before .before in
@@ -124,14 +109,5 @@ pub put-record-spec : {M : Type 1} → statement M
 put-record-spec =
     tie.close
     (tie.spec
-    bit-count-requires
-    put-front-requires
-    put-states-requires
-    mul-put-edges
-    add-put-edges
-    put-edges-requires
-    mul-put
-    sub-put
-    put-requires
-    same-length
-    returns)
+    bit-count-requires (λ c κs. search needs) (λ c κs. search needs) (λ c. search needs) (λ c. search needs)
+    put-edges-requires mul-put sub-put put-requires (λ c. search needs) returns)

@@ -32,26 +32,11 @@ loop-holds c =
     let a = c .before .args in
     (omega arith, refl, states-begin (a .t2) (bitsOf (now (a .out))) headerBits)
 
-mul-put-next : tie.Need-mul-put-next Inv-loop μ-loop
-mul-put-next c = search needs
-
-add-put-next : tie.Need-add-put-next Inv-loop μ-loop
-add-put-next c = search needs
-
 element-copy-out-put-next : tie.Need-element-copy-out-put-next Inv-loop μ-loop
 element-copy-out-put-next c = omega arith
 
 put-next-requires : tie.Need-put-next-requires Inv-loop μ-loop
 put-next-requires c κs = omega arith
-
-add-put-next-2 : tie.Need-add-put-next-2 Inv-loop μ-loop
-add-put-next-2 c = search needs
-
-mul-put-next-2 : tie.Need-mul-put-next-2 Inv-loop μ-loop
-mul-put-next-2 c = search needs
-
-add-put-next-3 : tie.Need-add-put-next-3 Inv-loop μ-loop
-add-put-next-3 c = search needs
 
 element-copy-out-put-next-2 : tie.Need-element-copy-out-put-next-2 Inv-loop μ-loop
 element-copy-out-put-next-2 c = omega arith
@@ -60,12 +45,6 @@ put-next-requires-2 : tie.Need-put-next-requires-2 Inv-loop μ-loop
 put-next-requires-2 c κs =
     let b = c .before .before .before .before in
     omega (arith, b .put-next .ensures .1)
-
-add-s : tie.Need-add-s Inv-loop μ-loop
-add-s c = search needs
-
-loop-less : tie.Need-loop-less Inv-loop μ-loop
-loop-less c = search needs
 
 loop-again : tie.Need-loop-again Inv-loop μ-loop
 loop-again c =
@@ -99,20 +78,6 @@ pub put-states-spec : {M : Type 1} → statement M
 put-states-spec =
     tie.close
     (tie.spec
-    Inv-loop
-    μ-loop
-    loop-holds
-    mul-put-next
-    add-put-next
-    element-copy-out-put-next
-    put-next-requires
-    add-put-next-2
-    mul-put-next-2
-    add-put-next-3
-    element-copy-out-put-next-2
-    put-next-requires-2
-    add-s
-    loop-less
-    loop-again
-    same-length
-    returns)
+    Inv-loop μ-loop loop-holds (λ c. search needs) (λ c. search needs) element-copy-out-put-next put-next-requires
+    (λ c. search needs) (λ c. search needs) (λ c. search needs) element-copy-out-put-next-2 put-next-requires-2
+    (λ c. search needs) (λ c. search needs) loop-again same-length returns)

@@ -46,14 +46,8 @@ lay-word-requires c κs =
     let i = c .before in
     (i .before .before .pre, i .loop-test .taken, room i, i .before .loop .inv .3)
 
-add-w : tie.Need-add-w Inv-loop μ-loop
-add-w c = search needs
-
 cast-start : tie.Need-cast-start Inv-loop μ-loop
 cast-start c = omega (arith, c .lay-word .ensures .0, room (c .before .before))
-
-mul-start : tie.Need-mul-start Inv-loop μ-loop
-mul-start c = search needs
 
 array-write-start : tie.Need-array-write-start Inv-loop μ-loop
 array-write-start c = omega (arith, c .before .before .loop-test .taken)
@@ -90,14 +84,5 @@ pub lay-all-spec : {M : Type 1} → statement M
 lay-all-spec =
     tie.close
     (tie.spec
-    Inv-loop
-    μ-loop
-    loop-holds
-    lay-word-requires
-    add-w
-    cast-start
-    mul-start
-    array-write-start
-    loop-less
-    loop-again
-    returns)
+    Inv-loop μ-loop loop-holds lay-word-requires (λ c. search needs) cast-start (λ c. search needs)
+    array-write-start loop-less loop-again returns)

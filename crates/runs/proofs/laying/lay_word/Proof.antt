@@ -68,12 +68,6 @@ one-less c =
 room : (c : tie.In-loop Inv-loop μ-loop) → c .before .loop .k < 2048
 room c = omega (arith, one-less c, c .before .loop .inv .3, start c .pre .2)
 
-mul-cur : tie.Need-mul-cur Inv-loop μ-loop
-mul-cur c = search needs
-
-element-copy-out-cur : tie.Need-element-copy-out-cur Inv-loop μ-loop
-element-copy-out-cur c = search needs
-
 cast-cur : tie.Need-cast-cur Inv-loop μ-loop
 cast-cur c =
     let s = c .before in
@@ -96,9 +90,6 @@ loop-holds c =
       λ j h. refl,
     )
 
-sub-e : tie.Need-sub-e Inv-loop μ-loop
-sub-e c = search needs
-
 cast-order : tie.Need-cast-order Inv-loop μ-loop
 cast-order c = omega (arith, c .before .loop .inv .0, start c .pre .0 .fits .few)
 
@@ -107,9 +98,6 @@ mul-order c = omega (arith, room c)
 
 element-write-order : tie.Need-element-write-order Inv-loop μ-loop
 element-write-order c = room c
-
-mul-cur-2 : tie.Need-mul-cur-2 Inv-loop μ-loop
-mul-cur-2 c = search needs
 
 element-copy-out-cur-2 : tie.Need-element-copy-out-cur-2 Inv-loop μ-loop
 element-copy-out-cur-2 c = omega (arith, c .before .loop .inv .0, start c .pre .0 .fits .few)
@@ -156,20 +144,6 @@ pub lay-word-spec : {M : Type 1} → statement M
 lay-word-spec =
     tie.close
     (tie.spec
-    Inv-loop
-    μ-loop
-    mul-cur
-    element-copy-out-cur
-    cast-cur
-    loop-holds
-    sub-e
-    cast-order
-    mul-order
-    element-write-order
-    mul-cur-2
-    element-copy-out-cur-2
-    cast-cur-2
-    add-k
-    loop-less
-    loop-again
+    Inv-loop μ-loop (λ c. search needs) (λ c. search needs) cast-cur loop-holds (λ c. search needs) cast-order
+    mul-order element-write-order (λ c. search needs) element-copy-out-cur-2 cast-cur-2 add-k loop-less loop-again
     returns)

@@ -19,9 +19,6 @@ abbrev μ-loop : tie.MeasureT-loop
 returns : tie.Need-returns Inv-loop μ-loop
 returns c = set-empty (now (c .before .before .args .set)) (c .if1 .taken)
 
-shared-slice-read-count : tie.Need-shared-slice-read-count Inv-loop μ-loop
-shared-slice-read-count c = search needs
-
 cast-count : tie.Need-cast-count Inv-loop μ-loop
 cast-count c = omega (arith, c .shared-slice-known2 .given 0)
 
@@ -30,12 +27,6 @@ loop-holds c =
     let s = now (c .before .before .before .args .set) in
     (omega arith, omega (arith, c .shared-slice-known2 .given 0), walking-start s (omega arith))
 
-step-at-requires : tie.Need-step-at-requires Inv-loop μ-loop
-step-at-requires c κs = search needs
-
-enum-known-refusal : tie.Need-enum-known-refusal Inv-loop μ-loop
-enum-known-refusal c = search needs
-
 returns-2 : tie.Need-returns-2 Inv-loop μ-loop
 returns-2 c =
     let r = c .before .before .before in
@@ -43,9 +34,6 @@ returns-2 c =
     let s = now (l .before .before .before .before .args .set) in
     walking-stop s _ (l .loop .number) (l .loop .at) _ (omega arith) (l .loop .inv .2)
     (sym (r .step-at .ensures) ∙ c .before .refusal .given .1)
-
-enum-known-end : tie.Need-enum-known-end Inv-loop μ-loop
-enum-known-end c = search needs
 
 add-number : tie.Need-add-number Inv-loop μ-loop
 add-number c = omega arith
@@ -79,18 +67,5 @@ pub check-set-spec : {M : Type 1} → statement M
 check-set-spec =
     tie.close
     (tie.spec
-    Inv-loop
-    μ-loop
-    returns
-    shared-slice-read-count
-    cast-count
-    loop-holds
-    step-at-requires
-    enum-known-refusal
-    returns-2
-    enum-known-end
-    add-number
-    loop-less
-    loop-again
-    returns-3
-    returns-4)
+    Inv-loop μ-loop returns (λ c. search needs) cast-count loop-holds (λ c κs. search needs) (λ c. search needs)
+    returns-2 (λ c. search needs) add-number loop-less loop-again returns-3 returns-4)

@@ -36,12 +36,6 @@ returns-2 c =
 loop-holds : tie.Need-loop-holds Inv-loop μ-loop
 loop-holds c = (omega arith, c .if2 .left, refl)
 
-read-requires : tie.Need-read-requires Inv-loop μ-loop
-read-requires c κs = search needs
-
-enum-told : tie.Need-enum-told Inv-loop μ-loop
-enum-told c = search needs
-
 returns-3 : tie.Need-returns-3 Inv-loop μ-loop
 returns-3 c =
     let r = c .before .before in
@@ -50,9 +44,6 @@ returns-3 c =
     let s = now (a .set) in
     sym (record-cut s (l .loop .passed) (a .i) (omega arith) (l .loop .inv .1)
     (sym (ap (placeAt s) (l .loop .inv .2)) ∙ sym (r .read .ensures) ∙ c .enum-told .given .1))
-
-enum-known-start : tie.Need-enum-known-start Inv-loop μ-loop
-enum-known-start c = search needs
 
 -- the next offset is that of the next record, within the set
 onward : (c : tie.After-known-told Inv-loop μ-loop)
@@ -82,9 +73,6 @@ loop-again c =
     let l = c .before .before .before .before .before in
     (omega arith, l .loop .inv .1, onward c .0)
 
-read-requires-2 : tie.Need-read-requires-2 Inv-loop μ-loop
-read-requires-2 c κs = search needs
-
 returns-4 : tie.Need-returns-4 Inv-loop μ-loop
 returns-4 c =
     let l = c .before .before in
@@ -98,20 +86,6 @@ pub find-spec : {M : Type 1} → statement M
 find-spec =
     tie.close
     (tie.spec
-    Inv-loop
-    μ-loop
-    returns
-    shared-slice-read-if2
-    cast-if2
-    returns-2
-    loop-holds
-    read-requires
-    enum-told
-    returns-3
-    enum-known-start
-    add-at
-    add-passed
-    loop-less
-    loop-again
-    read-requires-2
+    Inv-loop μ-loop returns shared-slice-read-if2 cast-if2 returns-2 loop-holds (λ c κs. search needs)
+    (λ c. search needs) returns-3 (λ c. search needs) add-at add-passed loop-less loop-again (λ c κs. search needs)
     returns-4)

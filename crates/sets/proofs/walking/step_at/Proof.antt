@@ -11,15 +11,6 @@ use Rattle.sets.proofs.Walks.{step-cut, step-stop, step-on}
 use Rattle.sets.proofs.walking.step_at.Statement.{statement}
 use Rattle.sets.proofs.walking.step_at.Tie as tie
 
-read-requires : tie.Need-read-requires
-read-requires c κs = search needs
-
-enum-told : tie.Need-enum-told
-enum-told c = search needs
-
-enum-known-start : tie.Need-enum-known-start
-enum-known-start c = search needs
-
 -- the record that was found lies within the set
 within : (c : tie.After-known-told)
     → c .before .start .given .0 .0 + c .before .start .given .0 .1 .0
@@ -34,23 +25,8 @@ within c =
 add-end : tie.Need-add-end
 add-end c = omega (arith, within c)
 
-sub-check : tie.Need-sub-check
-sub-check c = search needs
-
-part-check-start : tie.Need-part-check-start
-part-check-start c = search needs
-
 part-check-end : tie.Need-part-check-end
 part-check-end c = within c
-
-check-requires : tie.Need-check-requires
-check-requires c κs = search needs
-
-enum-known-r : tie.Need-enum-known-r
-enum-known-r c = search needs
-
-enum-told-2 : tie.Need-enum-told-2
-enum-told-2 c = search needs
 
 returns : tie.Need-returns
 returns c =
@@ -81,16 +57,5 @@ pub step-at-spec : {M : Type 1} → statement M
 step-at-spec =
     tie.close
     (tie.spec
-    read-requires
-    enum-told
-    enum-known-start
-    add-end
-    sub-check
-    part-check-start
-    part-check-end
-    check-requires
-    enum-known-r
-    enum-told-2
-    returns
-    returns-2
-    returns-3)
+    (λ c κs. search needs) (λ c. search needs) (λ c. search needs) add-end (λ c. search needs) (λ c. search needs)
+    part-check-end (λ c κs. search needs) (λ c. search needs) (λ c. search needs) returns returns-2 returns-3)

@@ -24,21 +24,6 @@ abbrev μ-loop : tie.MeasureT-loop
 loop-holds : tie.Need-loop-holds Inv-loop μ-loop
 loop-holds c = (omega arith, omega arith, λ i h. absurd (not-suc-le-zero h))
 
-element-copy-out-is-alike : tie.Need-element-copy-out-is-alike Inv-loop μ-loop
-element-copy-out-is-alike c = search needs
-
-element-copy-out-is-alike-2 : tie.Need-element-copy-out-is-alike-2 Inv-loop μ-loop
-element-copy-out-is-alike-2 c = search needs
-
-element-copy-out-is-alike-3 : tie.Need-element-copy-out-is-alike-3 Inv-loop μ-loop
-element-copy-out-is-alike-3 c = search needs
-
-element-copy-out-is-alike-4 : tie.Need-element-copy-out-is-alike-4 Inv-loop μ-loop
-element-copy-out-is-alike-4 c = search needs
-
-is-alike-requires : tie.Need-is-alike-requires Inv-loop μ-loop
-is-alike-requires c κs = search needs
-
 returns : tie.Need-returns Inv-loop μ-loop
 returns c =
     let l = c .before .before .before .before .before .before .before in
@@ -46,12 +31,6 @@ returns c =
     let b = l .before .args .t2 in
     all-failed (λ j. alike (nextStatesAt a j) (nextStatesAt b j)) (a .states) (l .loop .i) (omega arith)
     (sym (c .before .is-alike .ensures) ∙ not-true _ (c .if1 .taken))
-
-add-i : tie.Need-add-i Inv-loop μ-loop
-add-i c = search needs
-
-loop-less : tie.Need-loop-less Inv-loop μ-loop
-loop-less c = search needs
 
 loop-again : tie.Need-loop-again Inv-loop μ-loop
 loop-again c =
@@ -72,16 +51,5 @@ pub is-same-spec : {M : Type 1} → statement M
 is-same-spec =
     tie.close
     (tie.spec
-    Inv-loop
-    μ-loop
-    loop-holds
-    element-copy-out-is-alike
-    element-copy-out-is-alike-2
-    element-copy-out-is-alike-3
-    element-copy-out-is-alike-4
-    is-alike-requires
-    returns
-    add-i
-    loop-less
-    loop-again
-    returns-2)
+    Inv-loop μ-loop loop-holds (λ c. search needs) (λ c. search needs) (λ c. search needs) (λ c. search needs)
+    (λ c κs. search needs) returns (λ c. search needs) (λ c. search needs) loop-again returns-2)

@@ -6,18 +6,6 @@ use borrow.Author.Needs.{needs}
 use Rattle.showing.proofs.limits.put_constraint.Statement.{statement}
 use Rattle.showing.proofs.limits.put_constraint.Tie as tie
 
-least-run-requires : tie.Need-least-run-requires
-least-run-requires c κs = search needs
-
-sub-put-runs : tie.Need-sub-put-runs
-sub-put-runs c = search needs
-
-put-runs-requires : tie.Need-put-runs-requires
-put-runs-requires c κs = search needs
-
-same-length : tie.Need-same-length
-same-length c = search needs
-
 returns : tie.Need-returns
 returns c =
     let x = c .before .before in
@@ -25,15 +13,6 @@ returns c =
     let run = test .before .before in
     added-same (runs-told (run .before .before .args .c) _ _ (run .least-run .ensures) (test .if1 .taken))
     (x .put-runs .ensures)
-
-put-states-count-requires : tie.Need-put-states-count-requires
-put-states-count-requires c κs = search needs
-
-put-states-requires : tie.Need-put-states-requires
-put-states-requires c κs = search needs
-
-same-length-2 : tie.Need-same-length-2
-same-length-2 c = search needs
 
 returns-2 : tie.Need-returns-2
 returns-2 c =
@@ -48,12 +27,5 @@ pub put-constraint-spec : {M : Type 1} → statement M
 put-constraint-spec =
     tie.close
     (tie.spec
-    least-run-requires
-    sub-put-runs
-    put-runs-requires
-    same-length
-    returns
-    put-states-count-requires
-    put-states-requires
-    same-length-2
-    returns-2)
+    (λ c κs. search needs) (λ c. search needs) (λ c κs. search needs) (λ c. search needs) returns
+    (λ c κs. search needs) (λ c κs. search needs) (λ c. search needs) returns-2)

@@ -20,12 +20,6 @@ Inv-loop out₀ first c count at₀ s₀ out at s =
 abbrev μ-loop : tie.MeasureT-loop
 μ-loop out₀ first c count at₀ s₀ out at s = c .states - s
 
-slice-aggregate-put : tie.Need-slice-aggregate-put Inv-loop μ-loop
-slice-aggregate-put c = search needs
-
-put-requires : tie.Need-put-requires Inv-loop μ-loop
-put-requires c κs = search needs
-
 loop-holds : tie.Need-loop-holds Inv-loop μ-loop
 loop-holds c =
     let x = c .before .before in
@@ -41,9 +35,6 @@ add-s : tie.Need-add-s Inv-loop μ-loop
 add-s c =
     let test = c .before .before .before .before in
     omega (arith, test .loop-test .taken, test .before .loop .inv .1)
-
-loop-less : tie.Need-loop-less Inv-loop μ-loop
-loop-less c = search needs
 
 loop-again : tie.Need-loop-again Inv-loop μ-loop
 loop-again c =
@@ -71,14 +62,5 @@ pub put-states-spec : {M : Type 1} → statement M
 put-states-spec =
     tie.close
     (tie.spec
-    Inv-loop
-    μ-loop
-    slice-aggregate-put
-    put-requires
-    loop-holds
-    put-state-requires
-    add-s
-    loop-less
-    loop-again
-    same-length
-    returns)
+    Inv-loop μ-loop (λ c. search needs) (λ c κs. search needs) loop-holds put-state-requires add-s
+    (λ c. search needs) loop-again same-length returns)

@@ -17,24 +17,12 @@ Inv-loop s g h₀ n fresh m₀ i₀ h m i =
 abbrev μ-loop : tie.MeasureT-loop
 μ-loop s g h₀ n fresh m₀ i₀ h m i = n - i
 
-cast-fresh : tie.Need-cast-fresh Inv-loop μ-loop
-cast-fresh c = search needs
-
 loop-holds : tie.Need-loop-holds Inv-loop μ-loop
 loop-holds c =
     let a : length (c .args .t1 .source) ≡ 2048 = search needs in
     let b : length (c .args .t1 .word) ≡ 2048 = search needs in
     let d : length (c .args .t1 .target) ≡ 2048 = search needs in
     (omega arith, refl, omega arith, refl, appended-none _ a b d)
-
-element-copy-out-if1 : tie.Need-element-copy-out-if1 Inv-loop μ-loop
-element-copy-out-if1 c = search needs
-
-cast-if1 : tie.Need-cast-if1 Inv-loop μ-loop
-cast-if1 c = search needs
-
-element-copy-out-h : tie.Need-element-copy-out-h Inv-loop μ-loop
-element-copy-out-h c = search needs
 
 element-write-h : tie.Need-element-write-h Inv-loop μ-loop
 element-write-h c =
@@ -45,9 +33,6 @@ element-write-h c =
           (c .before .before .before .before .before .args .s) (l .h) (l .m) (l .i) (l .inv .4) (omega arith)
           (c .before .if1 .taken),
     )
-
-element-copy-out-h-2 : tie.Need-element-copy-out-h-2 Inv-loop μ-loop
-element-copy-out-h-2 c = search needs
 
 element-write-h-2 : tie.Need-element-write-h-2 Inv-loop μ-loop
 element-write-h-2 c =
@@ -68,15 +53,6 @@ element-write-h-3 c =
           (c .before .before .before .before .before .before .args .s) (l .h) (l .m) (l .i) (l .inv .4) (omega arith)
           (c .before .before .if1 .taken),
     )
-
-add-m : tie.Need-add-m Inv-loop μ-loop
-add-m c = search needs
-
-add-i : tie.Need-add-i Inv-loop μ-loop
-add-i c = search needs
-
-loop-less : tie.Need-loop-less Inv-loop μ-loop
-loop-less c = search needs
 
 loop-again : tie.Need-loop-again Inv-loop μ-loop
 loop-again c =
@@ -112,19 +88,6 @@ pub double-edges-spec : {M : Type 1} → statement M
 double-edges-spec =
     tie.close
     (tie.spec
-    Inv-loop
-    μ-loop
-    cast-fresh
-    loop-holds
-    element-copy-out-if1
-    cast-if1
-    element-copy-out-h
-    element-write-h
-    element-copy-out-h-2
-    element-write-h-2
-    element-write-h-3
-    add-m
-    add-i
-    loop-less
-    loop-again
-    returns)
+    Inv-loop μ-loop (λ c. search needs) loop-holds (λ c. search needs) (λ c. search needs) (λ c. search needs)
+    element-write-h (λ c. search needs) element-write-h-2 element-write-h-3 (λ c. search needs) (λ c. search needs)
+    (λ c. search needs) loop-again returns)

@@ -32,25 +32,10 @@ Inv-loop s list g h₀ n from count fresh i₀ h i =
 abbrev μ-loop : tie.MeasureT-loop
 μ-loop s list g h₀ n from count fresh i₀ h i = n - i
 
-cast-fresh : tie.Need-cast-fresh Inv-loop μ-loop
-cast-fresh c = search needs
-
 loop-holds : tie.Need-loop-holds Inv-loop μ-loop
 loop-holds c =
     let a : length (c .args .t1 .source) ≡ 2048 = search needs in
     (omega arith, refl, c .pre .0 .room, refl, resource-none _ _ a)
-
-element-copy-out-if1 : tie.Need-element-copy-out-if1 Inv-loop μ-loop
-element-copy-out-if1 c = search needs
-
-cast-if1 : tie.Need-cast-if1 Inv-loop μ-loop
-cast-if1 c = search needs
-
-element-copy-out-key : tie.Need-element-copy-out-key Inv-loop μ-loop
-element-copy-out-key c = search needs
-
-cast-key : tie.Need-cast-key Inv-loop μ-loop
-cast-key c = search needs
 
 mul-key : tie.Need-mul-key Inv-loop μ-loop
 mul-key c =
@@ -59,12 +44,6 @@ mul-key c =
       c .before .before .before .before .before .pre .0 .word (c .before .before .before .before .loop .i)
           (omega arith),
     )
-
-element-copy-out-key-2 : tie.Need-element-copy-out-key-2 Inv-loop μ-loop
-element-copy-out-key-2 c = search needs
-
-cast-key-2 : tie.Need-cast-key-2 Inv-loop μ-loop
-cast-key-2 c = search needs
 
 add-key : tie.Need-add-key Inv-loop μ-loop
 add-key c =
@@ -76,18 +55,6 @@ add-key c =
       c .before .before .before .before .before .before .pre .0 .target
           (c .before .before .before .before .before .loop .i) (omega arith),
     )
-
-among-keys-requires : tie.Need-among-keys-requires Inv-loop μ-loop
-among-keys-requires c κs = search needs
-
-element-write-h : tie.Need-element-write-h Inv-loop μ-loop
-element-write-h c = search needs
-
-add-i : tie.Need-add-i Inv-loop μ-loop
-add-i c = search needs
-
-loop-less : tie.Need-loop-less Inv-loop μ-loop
-loop-less c = search needs
 
 loop-again : tie.Need-loop-again Inv-loop μ-loop
 loop-again c =
@@ -142,21 +109,6 @@ pub move-edges-spec : {M : Type 1} → statement M
 move-edges-spec =
     tie.close
     (tie.spec
-    Inv-loop
-    μ-loop
-    cast-fresh
-    loop-holds
-    element-copy-out-if1
-    cast-if1
-    element-copy-out-key
-    cast-key
-    mul-key
-    element-copy-out-key-2
-    cast-key-2
-    add-key
-    among-keys-requires
-    element-write-h
-    add-i
-    loop-less
-    loop-again
-    returns)
+    Inv-loop μ-loop (λ c. search needs) loop-holds (λ c. search needs) (λ c. search needs) (λ c. search needs)
+    (λ c. search needs) mul-key (λ c. search needs) (λ c. search needs) add-key (λ c κs. search needs)
+    (λ c. search needs) (λ c. search needs) (λ c. search needs) loop-again returns)

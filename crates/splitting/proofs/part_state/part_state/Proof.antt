@@ -30,12 +30,6 @@ keyed c = record {
   keys = c .candidate-keys .ensures .0;
 }
 
-candidate-keys-requires : tie.Need-candidate-keys-requires
-candidate-keys-requires c κs = search needs
-
-key-weights-requires : tie.Need-key-weights-requires
-key-weights-requires c κs = search needs
-
 first-run-requires : tie.Need-first-run-requires
 first-run-requires c κs =
     let a : length (c .before .candidate-keys .result .key) ≡ 16 = keys-long (c .before) in (
@@ -50,9 +44,6 @@ share : (c : tie.After-first-run) → c .first-run .result .total / c .before .b
 share c =
     share-le (keyed (c .before .before)) (c .before .key-weights .result) (c .before .key-weights .ensures)
     (c .first-run .result) (c .first-run .ensures)
-
-div-w : tie.Need-div-w
-div-w c = search needs
 
 cast-w : tie.Need-cast-w
 cast-w c =
@@ -104,12 +95,5 @@ pub part-state-spec : {M : Type 1} → statement M
 part-state-spec =
     tie.close
     (tie.spec
-    candidate-keys-requires
-    key-weights-requires
-    first-run-requires
-    div-w
-    cast-w
-    move-edges-requires
-    double-edges-requires
-    weigh-requires
-    returns)
+    (λ c κs. search needs) (λ c κs. search needs) first-run-requires (λ c. search needs) cast-w move-edges-requires
+    double-edges-requires weigh-requires returns)

@@ -8,21 +8,6 @@ use borrow.Author.Needs.{needs}
 use Rattle.splitting.proofs.part_state.weigh.Statement.{statement}
 use Rattle.splitting.proofs.part_state.weigh.Tie as tie
 
-element-copy-out-rest : tie.Need-element-copy-out-rest
-element-copy-out-rest c = search needs
-
-sub-rest : tie.Need-sub-rest
-sub-rest c = search needs
-
-element-write-h : tie.Need-element-write-h
-element-write-h c = search needs
-
-element-write-h-2 : tie.Need-element-write-h-2
-element-write-h-2 c = search needs
-
-add-h : tie.Need-add-h
-add-h c = search needs
-
 returns : tie.Need-returns
 returns c =
     let p = c .before .args in
@@ -32,4 +17,4 @@ returns c =
 pub weigh-spec : {M : Type 1} → statement M
 weigh-spec =
     tie.close
-    (tie.spec element-copy-out-rest sub-rest element-write-h element-write-h-2 add-h returns)
+    (tie.spec (λ c. search needs) (λ c. search needs) (λ c. search needs) (λ c. search needs) (λ c. search needs) returns)

@@ -15,29 +15,14 @@ Inv-loop n count k s₀ s = (s ≤ k) × (k ≤ 128) × ((j : ℕ) → j < s →
 abbrev μ-loop : tie.MeasureT-loop
 μ-loop n count k s₀ s = k - s
 
-out-counts-requires : tie.Need-out-counts-requires Inv-loop μ-loop
-out-counts-requires c κs = search needs
-
 loop-holds : tie.Need-loop-holds Inv-loop μ-loop
 loop-holds c = (omega arith, c .before .pre .few, λ j h. absurd (omega arith))
-
-mul-if1 : tie.Need-mul-if1 Inv-loop μ-loop
-mul-if1 c = search needs
-
-array-read-if1 : tie.Need-array-read-if1 Inv-loop μ-loop
-array-read-if1 c = search needs
 
 returns : tie.Need-returns Inv-loop μ-loop
 returns c =
     let e = c .before .before .before .out-counts .ensures (c .before .before .loop .s) (omega arith) in
     sym (unfinished-yes (c .before .before .before .before .args .n) (c .before .before .before .before .args .g)
     (c .before .before .loop .s) (omega arith) (omega (arith, c .if1 .taken)))
-
-add-s : tie.Need-add-s Inv-loop μ-loop
-add-s c = search needs
-
-loop-less : tie.Need-loop-less Inv-loop μ-loop
-loop-less c = search needs
 
 loop-again : tie.Need-loop-again Inv-loop μ-loop
 loop-again c =
@@ -53,14 +38,5 @@ pub is-unfinished-spec : {M : Type 1} → statement M
 is-unfinished-spec =
     tie.close
     (tie.spec
-    Inv-loop
-    μ-loop
-    out-counts-requires
-    loop-holds
-    mul-if1
-    array-read-if1
-    returns
-    add-s
-    loop-less
-    loop-again
-    returns-2)
+    Inv-loop μ-loop (λ c κs. search needs) loop-holds (λ c. search needs) (λ c. search needs) returns
+    (λ c. search needs) (λ c. search needs) loop-again returns-2)

@@ -20,12 +20,6 @@ small c = omega (arith, c .before .before .pre .few, c .before .before .pre .sou
 loop-holds : tie.Need-loop-holds Inv-loop μ-loop
 loop-holds c = (omega arith, refl, c .pre .room, counted-none _)
 
-element-copy-out-s : tie.Need-element-copy-out-s Inv-loop μ-loop
-element-copy-out-s c = search needs
-
-cast-s : tie.Need-cast-s Inv-loop μ-loop
-cast-s c = search needs
-
 mul-r : tie.Need-mul-r Inv-loop μ-loop
 mul-r c = omega (arith, small (c .before))
 
@@ -45,12 +39,6 @@ mul-r-2 c = omega (arith, small (c .before))
 
 array-write-r : tie.Need-array-write-r Inv-loop μ-loop
 array-write-r c = small (c .before)
-
-add-i : tie.Need-add-i Inv-loop μ-loop
-add-i c = search needs
-
-loop-less : tie.Need-loop-less Inv-loop μ-loop
-loop-less c = search needs
 
 loop-again : tie.Need-loop-again Inv-loop μ-loop
 loop-again c =
@@ -73,17 +61,5 @@ pub out-counts-spec : {M : Type 1} → statement M
 out-counts-spec =
     tie.close
     (tie.spec
-    Inv-loop
-    μ-loop
-    loop-holds
-    element-copy-out-s
-    cast-s
-    mul-r
-    array-read-r
-    add-r
-    mul-r-2
-    array-write-r
-    add-i
-    loop-less
-    loop-again
-    returns)
+    Inv-loop μ-loop loop-holds (λ c. search needs) (λ c. search needs) mul-r array-read-r add-r mul-r-2
+    array-write-r (λ c. search needs) (λ c. search needs) loop-again returns)

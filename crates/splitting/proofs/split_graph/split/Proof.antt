@@ -6,15 +6,6 @@ use borrow.Author.Needs.{needs}
 use Rattle.splitting.proofs.split_graph.split.Statement.{statement}
 use Rattle.splitting.proofs.split_graph.split.Tie as tie
 
-greatest-weight-requires : tie.Need-greatest-weight-requires
-greatest-weight-requires c κs = search needs
-
-choose-requires : tie.Need-choose-requires
-choose-requires c κs = search needs
-
-enter-count-requires : tie.Need-enter-count-requires
-enter-count-requires c κs = search needs
-
 add-if1 : tie.Need-add-if1
 add-if1 c =
     omega (arith, c .before .before .before .before .pre .0 .room, c .before .enter-count .ensures .1)
@@ -56,10 +47,5 @@ pub split-spec : {M : Type 1} → statement M
 split-spec =
     tie.close
     (tie.spec
-    greatest-weight-requires
-    choose-requires
-    enter-count-requires
-    add-if1
-    returns
-    part-state-requires
+    (λ c κs. search needs) (λ c κs. search needs) (λ c κs. search needs) add-if1 returns part-state-requires
     returns-2)

@@ -14,9 +14,6 @@ use borrow.Author.Needs.{needs}
 use Rattle.stepping.proofs.backs.back_odd.Statement.{statement}
 use Rattle.stepping.proofs.backs.back_odd.Tie as tie
 
-sub-if1 : tie.Need-sub-if1
-sub-if1 c = search needs
-
 returns : tie.Need-returns
 returns c =
     let i = c .before in
@@ -27,18 +24,6 @@ returns c =
       states-every (a .states) 128 (rowsOf u) (length-rows u) (s .pre .0 .fits .few)
           ∙ sym (able-end (rowsOf u) (now (a .words)) (a .to)),
     )
-
-sub-back-by : tie.Need-sub-back-by
-sub-back-by c = search needs
-
-shared-slice-read-back-by : tie.Need-shared-slice-read-back-by
-shared-slice-read-back-by c = search needs
-
-back-by-requires : tie.Need-back-by-requires
-back-by-requires c κs = search needs
-
-sub-result : tie.Need-sub-result
-sub-result c = search needs
 
 returns-2 : tie.Need-returns-2
 returns-2 c =
@@ -61,10 +46,5 @@ pub back-odd-spec : {M : Type 1} → statement M
 back-odd-spec =
     tie.close
     (tie.spec
-    sub-if1
-    returns
-    sub-back-by
-    shared-slice-read-back-by
-    back-by-requires
-    sub-result
+    (λ c. search needs) returns (λ c. search needs) (λ c. search needs) (λ c κs. search needs) (λ c. search needs)
     returns-2)

@@ -32,22 +32,10 @@ rows s = rowsOf (arrays (s .args .states) (s .args .n) (now (s .args .word)) (no
 two : (c : tie.In-loop Inv-loop μ-loop) → start (c .before) .args .from + 1 < c .before .loop .j
 two c = omega (arith, c .loop-test .taken, c .before .loop .inv .2)
 
-back-odd-requires : tie.Need-back-odd-requires Inv-loop μ-loop
-back-odd-requires c κs = search needs
-
 loop-holds : tie.Need-loop-holds Inv-loop μ-loop
 loop-holds c =
     let e = c .back-odd .ensures in
     (e .0 .0, e .0 .1, e .0 .2, e .1)
-
-sub-back-by : tie.Need-sub-back-by Inv-loop μ-loop
-sub-back-by c = search needs
-
-shared-slice-read-back-by : tie.Need-shared-slice-read-back-by Inv-loop μ-loop
-shared-slice-read-back-by c = search needs
-
-back-by-requires : tie.Need-back-by-requires Inv-loop μ-loop
-back-by-requires c κs = search needs
 
 sub-back-by-2 : tie.Need-sub-back-by-2 Inv-loop μ-loop
 sub-back-by-2 c = omega (arith, two (c .before .before .before .before .before))
@@ -56,9 +44,6 @@ shared-slice-read-back-by-2 : tie.Need-shared-slice-read-back-by-2 Inv-loop μ-l
 shared-slice-read-back-by-2 c =
     let i = c .before .before .before .before .before .before in
     omega (arith, two i, i .before .loop .inv .1, start (i .before) .pre .2)
-
-back-by-requires-2 : tie.Need-back-by-requires-2 Inv-loop μ-loop
-back-by-requires-2 c κs = search needs
 
 abbrev in-turn : tie.After-back-by2 Inv-loop μ-loop → tie.In-loop Inv-loop μ-loop
 in-turn c = c .before .before .before .before .before .before .before .before
@@ -98,17 +83,5 @@ pub readers-spec : {M : Type 1} → statement M
 readers-spec =
     tie.close
     (tie.spec
-    Inv-loop
-    μ-loop
-    back-odd-requires
-    loop-holds
-    sub-back-by
-    shared-slice-read-back-by
-    back-by-requires
-    sub-back-by-2
-    shared-slice-read-back-by-2
-    back-by-requires-2
-    sub-j
-    loop-less
-    loop-again
-    returns)
+    Inv-loop μ-loop (λ c κs. search needs) loop-holds (λ c. search needs) (λ c. search needs) (λ c κs. search needs)
+    sub-back-by-2 shared-slice-read-back-by-2 (λ c κs. search needs) sub-j loop-less loop-again returns)

@@ -33,17 +33,8 @@ rows s = rowsOf (arrays (s .args .states) (s .args .n) (now (s .args .word)) (no
 two : (c : tie.In-loop Inv-loop μ-loop) → c .before .loop .j + 1 < start (c .before) .args .to
 two c = omega (arith, c .loop-test .taken, c .before .loop .inv .1)
 
-step-odd-requires : tie.Need-step-odd-requires Inv-loop μ-loop
-step-odd-requires c κs = search needs
-
 loop-holds : tie.Need-loop-holds Inv-loop μ-loop
 loop-holds c = (c .step-odd .ensures .0 .0, c .step-odd .ensures .0 .1, c .step-odd .ensures .1)
-
-shared-slice-read-step-by : tie.Need-shared-slice-read-step-by Inv-loop μ-loop
-shared-slice-read-step-by c = search needs
-
-step-by-requires : tie.Need-step-by-requires Inv-loop μ-loop
-step-by-requires c κs = search needs
 
 add-step-by : tie.Need-add-step-by Inv-loop μ-loop
 add-step-by c = omega (arith, two (c .before .before .before .before .before))
@@ -52,9 +43,6 @@ shared-slice-read-step-by-2 : tie.Need-shared-slice-read-step-by-2 Inv-loop μ-l
 shared-slice-read-step-by-2 c =
     let i = c .before .before .before .before .before .before in
     omega (arith, two i, start (i .before) .pre .2)
-
-step-by-requires-2 : tie.Need-step-by-requires-2 Inv-loop μ-loop
-step-by-requires-2 c κs = search needs
 
 abbrev in-turn : tie.After-step-by2 Inv-loop μ-loop → tie.In-loop Inv-loop μ-loop
 in-turn c = c .before .before .before .before .before .before .before .before
@@ -95,16 +83,5 @@ pub step-all-spec : {M : Type 1} → statement M
 step-all-spec =
     tie.close
     (tie.spec
-    Inv-loop
-    μ-loop
-    step-odd-requires
-    loop-holds
-    shared-slice-read-step-by
-    step-by-requires
-    add-step-by
-    shared-slice-read-step-by-2
-    step-by-requires-2
-    add-j
-    loop-less
-    loop-again
-    returns)
+    Inv-loop μ-loop (λ c κs. search needs) loop-holds (λ c. search needs) (λ c κs. search needs) add-step-by
+    shared-slice-read-step-by-2 (λ c κs. search needs) add-j loop-less loop-again returns)

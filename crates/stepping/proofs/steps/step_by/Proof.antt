@@ -41,23 +41,8 @@ edge-inside c = edge-small (run (start c)) (c .before .loop .inv .on) (c .loop-t
 next-inside : (c : tie.In-loop Inv-loop μ-loop) → nextOf (table (start c)) (edge c) < 128
 next-inside c = next-small (run (start c)) (c .before .loop .inv .on) (c .loop-test .taken)
 
-mul-k : tie.Need-mul-k Inv-loop μ-loop
-mul-k c = search needs
-
-element-copy-out-k : tie.Need-element-copy-out-k Inv-loop μ-loop
-element-copy-out-k c = search needs
-
 cast-k : tie.Need-cast-k Inv-loop μ-loop
 cast-k c = let s = c .before .before in omega (arith, run s .rising, run s .inside)
-
-add-end : tie.Need-add-end Inv-loop μ-loop
-add-end c = search needs
-
-mul-end : tie.Need-mul-end Inv-loop μ-loop
-mul-end c = search needs
-
-element-copy-out-end : tie.Need-element-copy-out-end Inv-loop μ-loop
-element-copy-out-end c = search needs
 
 cast-end : tie.Need-cast-end Inv-loop μ-loop
 cast-end c = omega (arith, run (c .before .before .before) .inside)
@@ -124,24 +109,6 @@ pub step-by-spec : {M : Type 1} → statement M
 step-by-spec =
     tie.close
     (tie.spec
-    Inv-loop
-    μ-loop
-    mul-k
-    element-copy-out-k
-    cast-k
-    add-end
-    mul-end
-    element-copy-out-end
-    cast-end
-    loop-holds
-    mul-e
-    element-copy-out-e
-    cast-e
-    element-copy-out-if1
-    element-copy-out-y
-    cast-y
-    element-write-out
-    add-k
-    loop-less
-    loop-again
-    returns)
+    Inv-loop μ-loop (λ c. search needs) (λ c. search needs) cast-k (λ c. search needs) (λ c. search needs)
+    (λ c. search needs) cast-end loop-holds mul-e element-copy-out-e cast-e element-copy-out-if1 element-copy-out-y
+    cast-y element-write-out add-k loop-less loop-again returns)

@@ -12,21 +12,6 @@ use borrow.Author.Needs.{needs}
 use Rattle.stepping.proofs.steps.step_odd.Statement.{statement}
 use Rattle.stepping.proofs.steps.step_odd.Tie as tie
 
-sub-if1 : tie.Need-sub-if1
-sub-if1 c = search needs
-
-returns : tie.Need-returns
-returns c = search needs
-
-shared-slice-read-step-by : tie.Need-shared-slice-read-step-by
-shared-slice-read-step-by c = search needs
-
-step-by-requires : tie.Need-step-by-requires
-step-by-requires c κs = search needs
-
-add-result : tie.Need-add-result
-add-result c = search needs
-
 returns-2 : tie.Need-returns-2
 returns-2 c =
     let i = c .before .before .before in
@@ -42,4 +27,4 @@ returns-2 c =
 pub step-odd-spec : {M : Type 1} → statement M
 step-odd-spec =
     tie.close
-    (tie.spec sub-if1 returns shared-slice-read-step-by step-by-requires add-result returns-2)
+    (tie.spec (λ c. search needs) (λ c. search needs) (λ c. search needs) (λ c κs. search needs) (λ c. search needs) returns-2)

@@ -4,14 +4,8 @@ use borrow.Author.Needs.{needs}
 use Rattle.table.proofs.ready.good_head.Statement.{statement}
 use Rattle.table.proofs.ready.good_head.Tie as tie
 
-between-requires : tie.Need-between-requires
-between-requires c κs = search needs
-
 returns : tie.Need-returns
 returns c = rw (← c .before .between .ensures, not-true (c .before .between .result) (c .if1 .taken))
-
-between-requires-2 : tie.Need-between-requires-2
-between-requires-2 c κs = search needs
 
 returns-2 : tie.Need-returns-2
 returns-2 c =
@@ -22,9 +16,6 @@ returns-2 c =
       ← c .before .between2 .ensures,
       not-true (c .before .between2 .result) (c .if2 .taken),
     )
-
-between-requires-3 : tie.Need-between-requires-3
-between-requires-3 c κs = search needs
 
 returns-3 : tie.Need-returns-3
 returns-3 c =
@@ -71,9 +62,6 @@ returns-5 c =
       le-ltb _ 16 (c .if5 .taken),
     )
 
-between-requires-4 : tie.Need-between-requires-4
-between-requires-4 c κs = search needs
-
 returns-6 : tie.Need-returns-6
 returns-6 c =
     let a = c .before .before in
@@ -119,14 +107,5 @@ pub good-head-spec : {M : Type 1} → statement M
 good-head-spec =
     tie.close
     (tie.spec
-    between-requires
-    returns
-    between-requires-2
-    returns-2
-    between-requires-3
-    returns-3
-    returns-4
-    returns-5
-    between-requires-4
-    returns-6
-    returns-7)
+    (λ c κs. search needs) returns (λ c κs. search needs) returns-2 (λ c κs. search needs) returns-3 returns-4
+    returns-5 (λ c κs. search needs) returns-6 returns-7)

@@ -7,18 +7,12 @@ use Rattle.table.specs.Formed.{goodState}
 use Rattle.table.proofs.ready.good_next.Statement.{statement}
 use Rattle.table.proofs.ready.good_next.Tie as tie
 
-good-state-requires : tie.Need-good-state-requires
-good-state-requires c κs = search needs
-
 returns : tie.Need-returns
 returns c =
     let g = c .before in
     let a = g .before .args in
     sym (ap (λ b. b && goodState (a .k) (a .one))
     (sym (g .good-state .ensures) ∙ not-true (g .good-state .result) (c .if1 .taken)))
-
-good-state-requires-2 : tie.Need-good-state-requires-2
-good-state-requires-2 c κs = search needs
 
 returns-2 : tie.Need-returns-2
 returns-2 c =
@@ -28,4 +22,4 @@ returns-2 c =
     (sym (g .good-state .ensures) ∙ not-false (g .good-state .result) (c .before .if1 .left)))
 
 pub good-next-spec : {M : Type 1} → statement M
-good-next-spec = tie.close (tie.spec good-state-requires returns good-state-requires-2 returns-2)
+good-next-spec = tie.close (tie.spec (λ c κs. search needs) returns (λ c κs. search needs) returns-2)

@@ -22,27 +22,12 @@ abbrev μ-loop : tie.MeasureT-loop
 loop-holds : tie.Need-loop-holds Inv-loop μ-loop
 loop-holds c = (omega arith, omega arith, λ i h. absurd (not-suc-le-zero h))
 
-element-copy-out-good-next : tie.Need-element-copy-out-good-next Inv-loop μ-loop
-element-copy-out-good-next c = search needs
-
-element-copy-out-good-next-2 : tie.Need-element-copy-out-good-next-2 Inv-loop μ-loop
-element-copy-out-good-next-2 c = search needs
-
-good-next-requires : tie.Need-good-next-requires Inv-loop μ-loop
-good-next-requires c κs = search needs
-
 returns : tie.Need-returns Inv-loop μ-loop
 returns c =
     let l = c .before .before .before .before .before in
     let k = l .before .args .t1 in
     all-failed (goodNextAt k) (k .states) (l .loop .s) (omega arith)
     (sym (c .before .good-next .ensures) ∙ not-true _ (c .if1 .taken))
-
-add-s : tie.Need-add-s Inv-loop μ-loop
-add-s c = search needs
-
-loop-less : tie.Need-loop-less Inv-loop μ-loop
-loop-less c = search needs
 
 loop-again : tie.Need-loop-again Inv-loop μ-loop
 loop-again c =
@@ -62,14 +47,5 @@ pub good-nexts-spec : {M : Type 1} → statement M
 good-nexts-spec =
     tie.close
     (tie.spec
-    Inv-loop
-    μ-loop
-    loop-holds
-    element-copy-out-good-next
-    element-copy-out-good-next-2
-    good-next-requires
-    returns
-    add-s
-    loop-less
-    loop-again
-    returns-2)
+    Inv-loop μ-loop loop-holds (λ c. search needs) (λ c. search needs) (λ c κs. search needs) returns
+    (λ c. search needs) (λ c. search needs) loop-again returns-2)

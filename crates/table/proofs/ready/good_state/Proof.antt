@@ -13,13 +13,10 @@ returns c =
     let a = c .before .args in
     sym (ap (λ b. b || ltb (a .next) (a .k)) (eq-eqb (a .next) none (c .if1 .taken)))
 
-wide-requires : tie.Need-wide-requires
-wide-requires c κs = search needs
-
 returns-2 : tie.Need-returns-2
 returns-2 c =
     let a = c .before .before .args in
     sym (ap₂ (λ b m. b || ltb m (a .k)) (ne-eqb (a .next) none (c .before .if1 .left)) (sym (c .wide .ensures .0)))
 
 pub good-state-spec : {M : Type 1} → statement M
-good-state-spec = tie.close (tie.spec returns wide-requires returns-2)
+good-state-spec = tie.close (tie.spec returns (λ c κs. search needs) returns-2)

@@ -11,12 +11,6 @@ use Rattle.trace.proofs.choices.next_choice.Tie as tie
 keys-long : (c : tie.After-candidate-keys) → length (c .candidate-keys .result .key) ≡ 16
 keys-long c = search needs
 
-greatest-weight-requires : tie.Need-greatest-weight-requires
-greatest-weight-requires c κs = search needs
-
-choose-requires : tie.Need-choose-requires
-choose-requires c κs = search needs
-
 candidate-keys-requires : tie.Need-candidate-keys-requires
 candidate-keys-requires c κs =
     let b = c .before .before in
@@ -28,9 +22,6 @@ candidate-keys-requires c κs =
       light (b .args .n) (b .args .g) (s .result) (m .result) (b .pre .0) (b .pre .1) (b .pre .2) (b .pre .3)
           (b .pre .4) (m .ensures) (s .ensures .0) (s .ensures .1),
     )
-
-key-weights-requires : tie.Need-key-weights-requires
-key-weights-requires c κs = search needs
 
 first-run-requires : tie.Need-first-run-requires
 first-run-requires c κs =
@@ -45,12 +36,6 @@ first-run-requires c κs =
           (k .result) (keys-long (c .before)) (k .ensures .1) (k .ensures .0) (c .key-weights .result)
           (c .key-weights .ensures),
     )
-
-cast-t9 : tie.Need-cast-t9
-cast-t9 c = search needs
-
-div-t10 : tie.Need-div-t10
-div-t10 c = search needs
 
 returns : tie.Need-returns
 returns c =
@@ -69,11 +54,5 @@ pub next-choice-spec : {M : Type 1} → statement M
 next-choice-spec =
     tie.close
     (tie.spec
-    greatest-weight-requires
-    choose-requires
-    candidate-keys-requires
-    key-weights-requires
-    first-run-requires
-    cast-t9
-    div-t10
-    returns)
+    (λ c κs. search needs) (λ c κs. search needs) candidate-keys-requires (λ c κs. search needs) first-run-requires
+    (λ c. search needs) (λ c. search needs) returns)

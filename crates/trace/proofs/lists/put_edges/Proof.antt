@@ -26,12 +26,6 @@ keys-long : (c : tie.In-loop Inv-loop μ-loop) → length
     (c .before .before .before .before .before .before .before .before .before .args .list .key) ≡ 16
 keys-long c = search needs
 
-slice-aggregate-put : tie.Need-slice-aggregate-put Inv-loop μ-loop
-slice-aggregate-put c = search needs
-
-put-requires : tie.Need-put-requires Inv-loop μ-loop
-put-requires c κs = search needs
-
 loop-holds : tie.Need-loop-holds Inv-loop μ-loop
 loop-holds c =
     (omega arith, begun (c .before .before .put .ensures))
@@ -60,12 +54,6 @@ array-read-key c = omega (
 
 put-edge-requires : tie.Need-put-edge-requires Inv-loop μ-loop
 put-edge-requires c κs = c .before .before .before .before .before .before .before .before .before .before .pre .0
-
-add-i : tie.Need-add-i Inv-loop μ-loop
-add-i c = search needs
-
-loop-less : tie.Need-loop-less Inv-loop μ-loop
-loop-less c = search needs
 
 loop-again : tie.Need-loop-again Inv-loop μ-loop
 loop-again c =
@@ -102,17 +90,5 @@ pub put-edges-spec : {M : Type 1} → statement M
 put-edges-spec =
     tie.close
     (tie.spec
-    Inv-loop
-    μ-loop
-    slice-aggregate-put
-    put-requires
-    loop-holds
-    add-key
-    mul-key
-    array-read-key
-    put-edge-requires
-    add-i
-    loop-less
-    loop-again
-    same-length
-    returns)
+    Inv-loop μ-loop (λ c. search needs) (λ c κs. search needs) loop-holds add-key mul-key array-read-key
+    put-edge-requires (λ c. search needs) (λ c. search needs) loop-again same-length returns)

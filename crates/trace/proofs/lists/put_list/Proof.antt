@@ -23,12 +23,6 @@ long : (c : tie.In-loop Inv-loop μ-loop) → length
     (c .before .before .before .before .before .before .before .before .args .t3) ≡ 16
 long c = search needs
 
-slice-aggregate-put : tie.Need-slice-aggregate-put Inv-loop μ-loop
-slice-aggregate-put c = search needs
-
-put-requires : tie.Need-put-requires Inv-loop μ-loop
-put-requires c κs = search needs
-
 loop-holds : tie.Need-loop-holds Inv-loop μ-loop
 loop-holds c = (
   omega arith,
@@ -52,15 +46,6 @@ array-read-put-item c = omega (
   c .before .before .before .before .before .before .before .before .before .pre,
   c .before .loop-test .taken,
 )
-
-put-item-requires : tie.Need-put-item-requires Inv-loop μ-loop
-put-item-requires c κs = search needs
-
-add-i : tie.Need-add-i Inv-loop μ-loop
-add-i c = search needs
-
-loop-less : tie.Need-loop-less Inv-loop μ-loop
-loop-less c = search needs
 
 loop-again : tie.Need-loop-again Inv-loop μ-loop
 loop-again c =
@@ -95,16 +80,5 @@ pub put-list-spec : {M : Type 1} → statement M
 put-list-spec =
     tie.close
     (tie.spec
-    Inv-loop
-    μ-loop
-    slice-aggregate-put
-    put-requires
-    loop-holds
-    mul-put-item
-    array-read-put-item
-    put-item-requires
-    add-i
-    loop-less
-    loop-again
-    same-length
-    returns)
+    Inv-loop μ-loop (λ c. search needs) (λ c κs. search needs) loop-holds mul-put-item array-read-put-item
+    (λ c κs. search needs) (λ c. search needs) (λ c. search needs) loop-again same-length returns)

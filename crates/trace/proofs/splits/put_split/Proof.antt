@@ -6,15 +6,6 @@ use borrow.Author.Needs.{needs}
 use Rattle.trace.proofs.splits.put_split.Statement.{statement}
 use Rattle.trace.proofs.splits.put_split.Tie as tie
 
-next-choice-requires : tie.Need-next-choice-requires
-next-choice-requires c κs = search needs
-
-put-choice-requires : tie.Need-put-choice-requires
-put-choice-requires c κs = search needs
-
-same-length : tie.Need-same-length
-same-length c = search needs
-
 returns : tie.Need-returns
 returns c =
     let a = c .before .before .before .before .before .before .args in
@@ -22,4 +13,4 @@ returns c =
     (c .before .before .put-choice .ensures)
 
 pub put-split-spec : {M : Type 1} → statement M
-put-split-spec = tie.close (tie.spec next-choice-requires put-choice-requires same-length returns)
+put-split-spec = tie.close (tie.spec (λ c κs. search needs) (λ c κs. search needs) (λ c. search needs) returns)

@@ -21,12 +21,6 @@ Inv-loop out₀ first n q at₀ h₀ more₀ out at h more =
 abbrev μ-loop : tie.MeasureT-loop
 μ-loop out₀ first n q at₀ h₀ more₀ out at h more = 128 - h .states
 
-slice-aggregate-put : tie.Need-slice-aggregate-put Inv-loop μ-loop
-slice-aggregate-put c = search needs
-
-put-requires : tie.Need-put-requires Inv-loop μ-loop
-put-requires c κs = search needs
-
 is-unfinished-requires : tie.Need-is-unfinished-requires Inv-loop μ-loop
 is-unfinished-requires c κs = c .before .before .before .before .before .before .pre .1 .fits
 
@@ -148,18 +142,5 @@ pub put-splits-spec : {M : Type 1} → statement M
 put-splits-spec =
     tie.close
     (tie.spec
-    Inv-loop
-    μ-loop
-    slice-aggregate-put
-    put-requires
-    is-unfinished-requires
-    loop-holds
-    put-split-requires
-    split-requires
-    same-length
-    returns
-    is-unfinished-requires-2
-    loop-less
-    loop-again
-    same-length-2
-    returns-2)
+    Inv-loop μ-loop (λ c. search needs) (λ c κs. search needs) is-unfinished-requires loop-holds put-split-requires
+    split-requires same-length returns is-unfinished-requires-2 loop-less loop-again same-length-2 returns-2)

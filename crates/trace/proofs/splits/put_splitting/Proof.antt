@@ -10,12 +10,6 @@ use borrow.Author.Needs.{needs}
 use Rattle.trace.proofs.splits.put_splitting.Statement.{statement}
 use Rattle.trace.proofs.splits.put_splitting.Tie as tie
 
-slice-aggregate-put-graph : tie.Need-slice-aggregate-put-graph
-slice-aggregate-put-graph c = search needs
-
-put-graph-requires : tie.Need-put-graph-requires
-put-graph-requires c κs = search needs
-
 put-splits-requires : tie.Need-put-splits-requires
 put-splits-requires c κs =
     let b = c .before .before .before .before .before .before .before in
@@ -28,9 +22,6 @@ split-all-requires c κs =
     let a = b .args in
     begun-splits (jobIn (a .j)) (b .pre .0 .allowed) (a .n) (a .g) (a .start) (b .pre .1)
 
-same-length : tie.Need-same-length
-same-length c = search needs
-
 returns : tie.Need-returns
 returns c =
     let all = c .before .split-all in
@@ -41,12 +32,6 @@ returns c =
     (c .before .before .before .before .before .before .before .before .put-graph .ensures) then
     c .before .before .before .before .put-splits .ensures)
 
-slice-aggregate-put-graph-2 : tie.Need-slice-aggregate-put-graph-2
-slice-aggregate-put-graph-2 c = search needs
-
-put-graph-requires-2 : tie.Need-put-graph-requires-2
-put-graph-requires-2 c κs = search needs
-
 finish-table-requires : tie.Need-finish-table-requires
 finish-table-requires c κs =
     let b = c .before .before .before .before .before .before .before .before .before .before .before .before
@@ -56,12 +41,6 @@ finish-table-requires c κs =
     begun-finished (jobIn (a .j)) (b .pre .0 .allowed) (a .n) (a .g) (a .start) (b .pre .1) (all .result)
     (all .ensures)
     (c .before .before .before .before .before .before .if1 .left)
-
-put-table-requires : tie.Need-put-table-requires
-put-table-requires c κs = search needs
-
-same-length-2 : tie.Need-same-length-2
-same-length-2 c = search needs
 
 returns-2 : tie.Need-returns-2
 returns-2 c =
@@ -86,15 +65,6 @@ pub put-splitting-spec : {M : Type 1} → statement M
 put-splitting-spec =
     tie.close
     (tie.spec
-    slice-aggregate-put-graph
-    put-graph-requires
-    put-splits-requires
-    split-all-requires
-    same-length
-    returns
-    slice-aggregate-put-graph-2
-    put-graph-requires-2
-    finish-table-requires
-    put-table-requires
-    same-length-2
+    (λ c. search needs) (λ c κs. search needs) put-splits-requires split-all-requires (λ c. search needs) returns
+    (λ c. search needs) (λ c κs. search needs) finish-table-requires (λ c κs. search needs) (λ c. search needs)
     returns-2)

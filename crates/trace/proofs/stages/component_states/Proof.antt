@@ -15,18 +15,6 @@ weights-long : (c : tie.After-list-members) → length
     (c .before .before .before .before .before .before .before .before .before .args .v) ≡ 16
 weights-long c = search needs
 
-word-counts-requires : tie.Need-word-counts-requires
-word-counts-requires c κs = search needs
-
-live-edges-requires : tie.Need-live-edges-requires
-live-edges-requires c κs = search needs
-
-reach-all-requires : tie.Need-reach-all-requires
-reach-all-requires c κs = search needs
-
-first-returning-requires : tie.Need-first-returning-requires
-first-returning-requires c κs = search needs
-
 list-members-requires : tie.Need-list-members-requires
 list-members-requires c κs =
     let b = c .before .before .before .before .before .before .before .before in
@@ -56,9 +44,5 @@ pub component-states-spec : {M : Type 1} → statement M
 component-states-spec =
     tie.close
     (tie.spec
-    word-counts-requires
-    live-edges-requires
-    reach-all-requires
-    first-returning-requires
-    list-members-requires
-    returns)
+    (λ c κs. search needs) (λ c κs. search needs) (λ c κs. search needs) (λ c κs. search needs)
+    list-members-requires returns)

@@ -17,9 +17,6 @@ put-stages-requires c κs = (c .before .before .before .pre, c .ways .ensures .0
 compile-requires : tie.Need-compile-requires
 compile-requires c κs = c .before .before .before .before .before .before .pre
 
-put-ending-requires : tie.Need-put-ending-requires
-put-ending-requires c κs = search needs
-
 same-length : tie.Need-same-length
 same-length c = c .before .before .put-ending .ensures .kept ∙
     c .before .before .before .before .before .before .before .put-stages .ensures .kept
@@ -35,9 +32,4 @@ pub trace-spec : {M : Type 1} → statement M
 trace-spec =
     tie.close
     (tie.spec
-    ways-requires
-    put-stages-requires
-    compile-requires
-    put-ending-requires
-    same-length
-    returns)
+    ways-requires put-stages-requires compile-requires (λ c κs. search needs) same-length returns)

@@ -9,18 +9,6 @@ use borrow.Author.Needs.{needs}
 use Rattle.trace.proofs.tracing.trace_job.Statement.{statement}
 use Rattle.trace.proofs.tracing.trace_job.Tie as tie
 
-read-job-requires : tie.Need-read-job-requires
-read-job-requires c κs = search needs
-
-enum-known-v : tie.Need-enum-known-v
-enum-known-v c = search needs
-
-put-refusal-line-requires : tie.Need-put-refusal-line-requires
-put-refusal-line-requires c κs = search needs
-
-enum-told : tie.Need-enum-told
-enum-told c = search needs
-
 trace-requires : tie.Need-trace-requires
 trace-requires c κs = c .before .before .before .before .read-job .ensures .1 (c .before .enum-told .given .1)
 
@@ -48,12 +36,5 @@ pub trace-job-spec : {M : Type 1} → statement M
 trace-job-spec =
     tie.close
     (tie.spec
-    read-job-requires
-    enum-known-v
-    put-refusal-line-requires
-    enum-told
-    trace-requires
-    same-length
-    returns
-    same-length-2
-    returns-2)
+    (λ c κs. search needs) (λ c. search needs) (λ c κs. search needs) (λ c. search needs) trace-requires same-length
+    returns same-length-2 returns-2)

@@ -9,9 +9,6 @@ use borrow.Author.Needs.{needs}
 use Rattle.vectors.proofs.calls.expected.Statement.{statement}
 use Rattle.vectors.proofs.calls.expected.Tie as tie
 
-shared-slice-read-result : tie.Need-shared-slice-read-result
-shared-slice-read-result c = search needs
-
 returns : tie.Need-returns
 returns c =
     let a = c .before .before .args in
@@ -26,6 +23,4 @@ pub expected-spec : {M : Type 1} → statement M
 expected-spec =
     tie.close
     (tie.spec
-    shared-slice-read-result
-    returns
-    returns-2)
+    (λ c. search needs) returns returns-2)

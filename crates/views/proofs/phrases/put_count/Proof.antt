@@ -5,18 +5,6 @@ use borrow.Author.Needs.{needs}
 use Rattle.views.proofs.phrases.put_count.Statement.{statement}
 use Rattle.views.proofs.phrases.put_count.Tie as tie
 
-put-decimal-requires : tie.Need-put-decimal-requires
-put-decimal-requires c κs = search needs
-
-put-requires : tie.Need-put-requires
-put-requires c κs = search needs
-
-put-plural-requires : tie.Need-put-plural-requires
-put-plural-requires c κs = search needs
-
-same-length : tie.Need-same-length
-same-length c = search needs
-
 returns : tie.Need-returns
 returns c =
     let x3 = c .before .before in
@@ -26,4 +14,4 @@ returns c =
 
 pub put-count-spec : {M : Type 1} → statement M
 put-count-spec =
-    tie.close (tie.spec put-decimal-requires put-requires put-plural-requires same-length returns)
+    tie.close (tie.spec (λ c κs. search needs) (λ c κs. search needs) (λ c κs. search needs) (λ c. search needs) returns)

@@ -27,18 +27,6 @@ lower-weight-requires c κs = (
   c .before .before .pre .4,
 )
 
-mul-r : tie.Need-mul-r Inv-loop μ-loop
-mul-r c = search needs
-
-array-write-r : tie.Need-array-write-r Inv-loop μ-loop
-array-write-r c = search needs
-
-add-s : tie.Need-add-s Inv-loop μ-loop
-add-s c = search needs
-
-loop-less : tie.Need-loop-less Inv-loop μ-loop
-loop-less c = search needs
-
 loop-again : tie.Need-loop-again Inv-loop μ-loop
 loop-again c =
     let l = c .before .before .loop in
@@ -55,13 +43,5 @@ pub lower-weights-spec : {M : Type 1} → statement M
 lower-weights-spec =
     tie.close
     (tie.spec
-    Inv-loop
-    μ-loop
-    loop-holds
-    lower-weight-requires
-    mul-r
-    array-write-r
-    add-s
-    loop-less
-    loop-again
-    returns)
+    Inv-loop μ-loop loop-holds lower-weight-requires (λ c. search needs) (λ c. search needs) (λ c. search needs)
+    (λ c. search needs) loop-again returns)

@@ -41,9 +41,6 @@ lower-weights-requires c κs = (
   λ t h. omega (arith, c .before .before .loop .inv .3 .low t h, c .before .before .before .before .pre .2),
 )
 
-same-weights-requires : tie.Need-same-weights-requires Inv-loop μ-loop
-same-weights-requires c κs = search needs
-
 returns : tie.Need-returns Inv-loop μ-loop
 returns c =
     let l = c .before .before .before .before .before .loop in
@@ -68,9 +65,6 @@ add-i c =
     mul-le-mul (c .before .before .before .before .before .before .before .pre .0 .states)
     (c .before .before .before .before .before .before .before .pre .2) in
     omega arith
-
-loop-less : tie.Need-loop-less Inv-loop μ-loop
-loop-less c = search needs
 
 loop-again : tie.Need-loop-again Inv-loop μ-loop
 loop-again c =
@@ -107,15 +101,5 @@ pub state-weights-spec : {M : Type 1} → statement M
 state-weights-spec =
     tie.close
     (tie.spec
-    Inv-loop
-    μ-loop
-    word-counts-requires
-    mul-rounds
-    loop-holds
-    lower-weights-requires
-    same-weights-requires
-    returns
-    add-i
-    loop-less
-    loop-again
-    returns-2)
+    Inv-loop μ-loop word-counts-requires mul-rounds loop-holds lower-weights-requires (λ c κs. search needs) returns
+    add-i (λ c. search needs) loop-again returns-2)

@@ -18,9 +18,6 @@ Inv-loop power words k r₀ n x₀ r x =
 abbrev μ-loop : tie.MeasureT-loop
 μ-loop power words k r₀ n x₀ r x = n - x
 
-mul-n : tie.Need-mul-n Inv-loop μ-loop
-mul-n c = search needs
-
 loop-holds : tie.Need-loop-holds Inv-loop μ-loop
 loop-holds c = (omega arith, omega arith, fill-none 0 _ 256 0)
 
@@ -34,18 +31,6 @@ words-between-requires c κs = (
   div-lt-iff-lt-mul {k = 16} {y = 16} (lit< tt) .1
       (omega arith),
 )
-
-mul-r : tie.Need-mul-r Inv-loop μ-loop
-mul-r c = search needs
-
-array-write-r : tie.Need-array-write-r Inv-loop μ-loop
-array-write-r c = search needs
-
-add-x : tie.Need-add-x Inv-loop μ-loop
-add-x c = search needs
-
-loop-less : tie.Need-loop-less Inv-loop μ-loop
-loop-less c = search needs
 
 loop-again : tie.Need-loop-again Inv-loop μ-loop
 loop-again c =
@@ -76,15 +61,5 @@ pub word-counts-spec : {M : Type 1} → statement M
 word-counts-spec =
     tie.close
     (tie.spec
-    Inv-loop
-    μ-loop
-    mul-n
-    loop-holds
-    cast-words-between
-    words-between-requires
-    mul-r
-    array-write-r
-    add-x
-    loop-less
-    loop-again
-    returns)
+    Inv-loop μ-loop (λ c. search needs) loop-holds cast-words-between words-between-requires (λ c. search needs)
+    (λ c. search needs) (λ c. search needs) (λ c. search needs) loop-again returns)

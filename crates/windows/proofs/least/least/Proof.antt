@@ -34,9 +34,6 @@ abbrev μ-loop : tie.MeasureT-loop
 abbrev table : tie.Start Inv-loop μ-loop → Arrays
 table s = arrays (s .args .states) (s .args .n) (now (s .args .word)) (now (s .args .next))
 
-no-window-requires : tie.Need-no-window-requires Inv-loop μ-loop
-no-window-requires c κs = search needs
-
 loop-holds : tie.Need-loop-holds Inv-loop μ-loop
 loop-holds c =
     let s = c .before in
@@ -62,9 +59,6 @@ try-memory-requires c κs =
     let k = v .2 (i .loop-test .taken) in
     (i .before .before .before .pre, omega arith, k .0, k .1, k .2, v .5, v .6)
 
-add-m : tie.Need-add-m Inv-loop μ-loop
-add-m c = search needs
-
 stop-of-requires : tie.Need-stop-of-requires Inv-loop μ-loop
 stop-of-requires c κs =
     let a = c .before .before .before .before .before in
@@ -75,9 +69,6 @@ stop-at-requires c κs =
     let b = c .before .before .before in
     let a = b .before .before .before .before .before in
     (a .before .before .pre, a .loop .inv .4, b .try-memory .ensures .1 .1)
-
-loop-less : tie.Need-loop-less Inv-loop μ-loop
-loop-less c = search needs
 
 loop-again : tie.Need-loop-again Inv-loop μ-loop
 loop-again c =
@@ -109,14 +100,5 @@ pub least-spec : {M : Type 1} → statement M
 least-spec =
     tie.close
     (tie.spec
-    Inv-loop
-    μ-loop
-    no-window-requires
-    loop-holds
-    try-memory-requires
-    add-m
-    stop-of-requires
-    stop-at-requires
-    loop-less
-    loop-again
-    returns)
+    Inv-loop μ-loop (λ c κs. search needs) loop-holds try-memory-requires (λ c. search needs) stop-of-requires
+    stop-at-requires (λ c. search needs) loop-again returns)

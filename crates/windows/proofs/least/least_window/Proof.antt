@@ -20,9 +20,6 @@ found c =
     sym (ap (λ n. window (rowsOf (arrays (t .states) n (t .word) (t .next)))) (w .ways .ensures .0))
     ∙ c .least .ensures
 
-ways-requires : tie.Need-ways-requires
-ways-requires c κs = search needs
-
 chain-requires : tie.Need-chain-requires
 chain-requires c κs =
     let w = c .before .before .before .before in
@@ -45,4 +42,4 @@ returns-2 c = sym (found (c .before .before))
 
 pub least-window-spec : {M : Type 1} → statement M
 least-window-spec =
-    tie.close (tie.spec ways-requires chain-requires least-requires returns returns-2)
+    tie.close (tie.spec (λ c κs. search needs) chain-requires least-requires returns returns-2)

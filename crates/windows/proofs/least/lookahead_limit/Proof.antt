@@ -6,12 +6,6 @@ use borrow.Author.Needs.{needs}
 use Rattle.windows.proofs.least.lookahead_limit.Statement.{statement}
 use Rattle.windows.proofs.least.lookahead_limit.Tie as tie
 
-add-left : tie.Need-add-left
-add-left c = search needs
-
-sub-left : tie.Need-sub-left
-sub-left c = search needs
-
 returns : tie.Need-returns
 returns c = record { small = omega arith; fits = omega arith; most = inr (omega arith) }
 
@@ -19,4 +13,4 @@ returns-2 : tie.Need-returns-2
 returns-2 c = record { small = omega arith; fits = omega arith; most = inl refl }
 
 pub lookahead-limit-spec : {M : Type 1} → statement M
-lookahead-limit-spec = tie.close (tie.spec add-left sub-left returns returns-2)
+lookahead-limit-spec = tie.close (tie.spec (λ c. search needs) (λ c. search needs) returns returns-2)

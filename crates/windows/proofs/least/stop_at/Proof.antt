@@ -9,9 +9,6 @@ use Rattle.windows.proofs.least.stop_at.Tie as tie
 returns : tie.Need-returns
 returns c = (inl refl, ((λ l. absurd (omega (arith, c .if1 .taken))), (c .before .pre .1, c .before .pre .2)))
 
-extend-memory-requires : tie.Need-extend-memory-requires
-extend-memory-requires c κs = search needs
-
 returns-2 : tie.Need-returns-2
 returns-2 c =
     let m = c .before in
@@ -24,4 +21,4 @@ returns-3 c =
     (inl refl, ((λ l. e .1 .0), e .1 .1))
 
 pub stop-at-spec : {M : Type 1} → statement M
-stop-at-spec = tie.close (tie.spec returns extend-memory-requires returns-2 returns-3)
+stop-at-spec = tie.close (tie.spec returns (λ c κs. search needs) returns-2 returns-3)

@@ -6,12 +6,6 @@ use borrow.Author.Needs.{needs}
 use Rattle.windows.proofs.least.stop_of.Statement.{statement}
 use Rattle.windows.proofs.least.stop_of.Tie as tie
 
-add-sum : tie.Need-add-sum
-add-sum c = search needs
-
-add-result : tie.Need-add-result
-add-result c = search needs
-
 returns : tie.Need-returns
 returns c = (omega arith, omega arith, inr refl)
 
@@ -19,4 +13,4 @@ returns-2 : tie.Need-returns-2
 returns-2 c = (omega arith, omega arith, inl refl)
 
 pub stop-of-spec : {M : Type 1} → statement M
-stop-of-spec = tie.close (tie.spec add-sum add-result returns returns-2)
+stop-of-spec = tie.close (tie.spec (λ c. search needs) (λ c. search needs) returns returns-2)

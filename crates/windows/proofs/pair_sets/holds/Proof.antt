@@ -9,9 +9,6 @@ use borrow.Author.Needs.{needs}
 use Rattle.windows.proofs.pair_sets.holds.Statement.{statement}
 use Rattle.windows.proofs.pair_sets.holds.Tie as tie
 
-element-copy-out-result : tie.Need-element-copy-out-result
-element-copy-out-result c = search needs
-
 returns : tie.Need-returns
 returns c =
     let a = c .before .before .args in
@@ -23,4 +20,4 @@ returns-2 c =
     sym (ap (λ b. b && member (now (a .pairs)) (a .z)) (le-ltb (a .z % 128) (a .states) (c .if1 .left)))
 
 pub holds-spec : {M : Type 1} → statement M
-holds-spec = tie.close (tie.spec element-copy-out-result returns returns-2)
+holds-spec = tie.close (tie.spec (λ c. search needs) returns returns-2)

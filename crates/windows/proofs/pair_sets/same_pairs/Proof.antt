@@ -20,30 +20,12 @@ abbrev μ-loop : tie.MeasureT-loop
 loop-holds : tie.Need-loop-holds Inv-loop μ-loop
 loop-holds c = (omega arith, none-start _)
 
-mul-loop : tie.Need-mul-loop Inv-loop μ-loop
-mul-loop c = search needs
-
-element-copy-out-differ : tie.Need-element-copy-out-differ Inv-loop μ-loop
-element-copy-out-differ c = search needs
-
-element-copy-out-differ-2 : tie.Need-element-copy-out-differ-2 Inv-loop μ-loop
-element-copy-out-differ-2 c = search needs
-
-differ-requires : tie.Need-differ-requires Inv-loop μ-loop
-differ-requires c κs = search needs
-
 returns : tie.Need-returns Inv-loop μ-loop
 returns c =
     let i = c .before .before .before .before in
     let a = i .before .before .args in
     sym (ap not (some-stop (differsAt (now (a .a)) (now (a .b))) (a .states * 128) (i .before .loop .z)
     (i .loop-test .taken) (sym (c .before .differ .ensures) ∙ c .if1 .taken)))
-
-add-z : tie.Need-add-z Inv-loop μ-loop
-add-z c = search needs
-
-loop-less : tie.Need-loop-less Inv-loop μ-loop
-loop-less c = search needs
 
 loop-again : tie.Need-loop-again Inv-loop μ-loop
 loop-again c =
@@ -65,15 +47,5 @@ pub same-pairs-spec : {M : Type 1} → statement M
 same-pairs-spec =
     tie.close
     (tie.spec
-    Inv-loop
-    μ-loop
-    loop-holds
-    mul-loop
-    element-copy-out-differ
-    element-copy-out-differ-2
-    differ-requires
-    returns
-    add-z
-    loop-less
-    loop-again
-    returns-2)
+    Inv-loop μ-loop loop-holds (λ c. search needs) (λ c. search needs) (λ c. search needs) (λ c κs. search needs)
+    returns (λ c. search needs) (λ c. search needs) loop-again returns-2)

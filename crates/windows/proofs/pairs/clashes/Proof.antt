@@ -6,9 +6,6 @@ use borrow.Author.Needs.{needs}
 use Rattle.windows.proofs.pairs.clashes.Statement.{statement}
 use Rattle.windows.proofs.pairs.clashes.Tie as tie
 
-step-pairs-requires : tie.Need-step-pairs-requires
-step-pairs-requires c κs = search needs
-
 returns : tie.Need-returns
 returns c =
     let s = c .before .before in
@@ -19,4 +16,4 @@ returns c =
     )
 
 pub clashes-spec : {M : Type 1} → statement M
-clashes-spec = tie.close (tie.spec step-pairs-requires returns)
+clashes-spec = tie.close (tie.spec (λ c κs. search needs) returns)

@@ -11,19 +11,10 @@ returns c =
     let a = c .before .args in
     sym (count-same (now (a .pairs)) (a .x) (a .k) (a .j) (c .if1 .taken))
 
-mul-result : tie.Need-mul-result
-mul-result c = search needs
-
-add-result : tie.Need-add-result
-add-result c = search needs
-
-element-copy-out-result : tie.Need-element-copy-out-result
-element-copy-out-result c = search needs
-
 returns-2 : tie.Need-returns-2
 returns-2 c =
     let a = c .before .before .args in
     sym (count-other (now (a .pairs)) (a .x) (a .k) (a .j) (c .before .if1 .left))
 
 pub counted-spec : {M : Type 1} → statement M
-counted-spec = tie.close (tie.spec returns mul-result add-result element-copy-out-result returns-2)
+counted-spec = tie.close (tie.spec returns (λ c. search needs) (λ c. search needs) (λ c. search needs) returns-2)

@@ -64,23 +64,8 @@ link-on c =
     link-below (table s) _ (c .before .loop .cur - 1) (edge-on c) (s .args .states * 16) (now (s .args .head))
     (now (s .args .link)) (s .pre .0 .chained) (omega arith)
 
-element-copy-out-u : tie.Need-element-copy-out-u Inv-loop μ-loop
-element-copy-out-u c = search needs
-
 cast-u : tie.Need-cast-u Inv-loop μ-loop
 cast-u c = omega (arith, first-small (c .before))
-
-element-copy-out-wide : tie.Need-element-copy-out-wide Inv-loop μ-loop
-element-copy-out-wide c = search needs
-
-wide-requires : tie.Need-wide-requires Inv-loop μ-loop
-wide-requires c κs = search needs
-
-mul-cur : tie.Need-mul-cur Inv-loop μ-loop
-mul-cur c = search needs
-
-element-copy-out-cur : tie.Need-element-copy-out-cur Inv-loop μ-loop
-element-copy-out-cur c = search needs
 
 cast-cur : tie.Need-cast-cur Inv-loop μ-loop
 cast-cur c =
@@ -102,16 +87,10 @@ loop-holds c =
           (λ x. on-some t v n k q (f x) (λ e. join-only t (now (s .args .pairs)) (s .args .k) (s .args .i) x e)),
     )
 
-sub-j : tie.Need-sub-j Inv-loop μ-loop
-sub-j c = search needs
-
 counted-requires : tie.Need-counted-requires Inv-loop μ-loop
 counted-requires c κs =
     let s = start c in
     (omega (arith, s .pre .0 .fits .few), omega (arith, s .pre .0 .fits .few))
-
-element-copy-out-v : tie.Need-element-copy-out-v Inv-loop μ-loop
-element-copy-out-v c = search needs
 
 cast-v : tie.Need-cast-v Inv-loop μ-loop
 cast-v c = omega (arith, next-small (c .before .before .before))
@@ -127,12 +106,6 @@ add-out c =
 element-write-out : tie.Need-element-write-out Inv-loop μ-loop
 element-write-out c =
     omega (arith, first-small (start (c .before .before .before)), next-small (c .before .before .before))
-
-mul-cur-2 : tie.Need-mul-cur-2 Inv-loop μ-loop
-mul-cur-2 c = search needs
-
-element-copy-out-cur-2 : tie.Need-element-copy-out-cur-2 Inv-loop μ-loop
-element-copy-out-cur-2 c = search needs
 
 cast-cur-2 : tie.Need-cast-cur-2 Inv-loop μ-loop
 cast-cur-2 c =
@@ -184,26 +157,6 @@ pub mark-edge-spec : {M : Type 1} → statement M
 mark-edge-spec =
     tie.close
     (tie.spec
-    Inv-loop
-    μ-loop
-    element-copy-out-u
-    cast-u
-    element-copy-out-wide
-    wide-requires
-    mul-cur
-    element-copy-out-cur
-    cast-cur
-    loop-holds
-    sub-j
-    counted-requires
-    element-copy-out-v
-    cast-v
-    mul-out
-    add-out
-    element-write-out
-    mul-cur-2
-    element-copy-out-cur-2
-    cast-cur-2
-    loop-less
-    loop-again
-    returns)
+    Inv-loop μ-loop (λ c. search needs) cast-u (λ c. search needs) (λ c κs. search needs) (λ c. search needs)
+    (λ c. search needs) cast-cur loop-holds (λ c. search needs) counted-requires (λ c. search needs) cast-v mul-out
+    add-out element-write-out (λ c. search needs) (λ c. search needs) cast-cur-2 loop-less loop-again returns)

@@ -31,23 +31,11 @@ loop-holds : tie.Need-loop-holds Inv-loop μ-loop
 loop-holds c =
     (c .before .before .pre .0 .fits .few, omega arith, c .clear .ensures .0, c .clear .ensures .1, mark-none _ _)
 
-mul-loop : tie.Need-mul-loop Inv-loop μ-loop
-mul-loop c = search needs
-
-left-out-requires : tie.Need-left-out-requires Inv-loop μ-loop
-left-out-requires c κs = search needs
-
 mark-edge-requires : tie.Need-mark-edge-requires Inv-loop μ-loop
 mark-edge-requires c κs =
     let l = c .before .before .before .before .loop in
     let s = c .before .before .before .before .before .before .before in
     (s .pre .0, omega arith, lt-ltb _ _ (c .before .before .if1 .taken), l .inv .4 .long ∙ l .inv .2)
-
-add-i : tie.Need-add-i Inv-loop μ-loop
-add-i c = search needs
-
-loop-less : tie.Need-loop-less Inv-loop μ-loop
-loop-less c = search needs
 
 loop-again : tie.Need-loop-again Inv-loop μ-loop
 loop-again c =
@@ -90,14 +78,5 @@ pub step-pairs-spec : {M : Type 1} → statement M
 step-pairs-spec =
     tie.close
     (tie.spec
-    Inv-loop
-    μ-loop
-    clear-requires
-    loop-holds
-    mul-loop
-    left-out-requires
-    mark-edge-requires
-    add-i
-    loop-less
-    loop-again
-    returns)
+    Inv-loop μ-loop clear-requires loop-holds (λ c. search needs) (λ c κs. search needs) mark-edge-requires
+    (λ c. search needs) (λ c. search needs) loop-again returns)
