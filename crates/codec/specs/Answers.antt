@@ -1,6 +1,6 @@
 -- Encoding and decoding with their refusals: "Encode: record, 13, 11. Decode: record, 12, 13, 11."
--- In order: encoded and decoded, under a loaded code; encodeUnder and decodeUnder, under a record's bytes; encodeChecked
--- and decodeChecked, under those of a record that was accepted before.
+-- In order: encoded and decoded, under a loaded code; encodeUnder and decodeUnder, under a record's bytes;
+-- encodeChecked and decodeChecked, under those of a record that was accepted before.
 -- `room` is the length of the output that was lent.
 -- Assumes nothing.
 use mathlib.Core.List.{List}

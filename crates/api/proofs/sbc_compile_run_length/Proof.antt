@@ -13,4 +13,5 @@ returns c =
     (c .word .ensures ∙ ap wordOf (call .compile-run-length .ensures .0), call .compile-run-length .ensures .1)
 
 pub sbc-compile-run-length-spec : {M : Type 1} → statement M
-sbc-compile-run-length-spec = tie.close (tie.spec (λ c κs. search needs) (λ c κs. search needs) (λ c. search needs) returns)
+sbc-compile-run-length-spec = tie.close (tie.spec (λ c κs. search needs) (λ c κs. search needs) (λ c. search needs)
+    returns)

@@ -31,7 +31,8 @@ returns-2 c =
     let room = length (now (a .out)) in
     handed (encodedWith (x .table) room (now (a .blocks))) (encodeChecked (now (a .bytes)) room (now (a .blocks))) _
     (now (a .out)) _
-    (encode-read (fieldsChecked (now (a .bytes))) x (r .read .ensures .0) room (now (a .blocks)) (v .enum-told .given .1)
+    (encode-read (fieldsChecked (now (a .bytes))) x (r .read .ensures .0) room (now (a .blocks))
+    (v .enum-told .given .1)
     (r .read .ensures .1 .0 (v .enum-told .given .1)))
     (c .before .before .encode-with .ensures .0) (c .before .before .encode-with .ensures .1)
 

@@ -36,4 +36,5 @@ returns-2 c =
 pub compile-into-spec : {M : Type 1} → statement M
 compile-into-spec =
     tie.close
-    (tie.spec compile-requires (λ c. search needs) (λ c. search needs) (λ c κs. search needs) returns (λ c. search needs) returns-2)
+    (tie.spec compile-requires (λ c. search needs) (λ c. search needs) (λ c κs. search needs) returns
+    (λ c. search needs) returns-2)

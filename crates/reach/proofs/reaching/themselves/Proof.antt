@@ -34,4 +34,5 @@ returns c = λ x h. c .before .loop .inv .2 .holds x (omega arith)
 pub themselves-spec : {M : Type 1} → statement M
 themselves-spec =
     tie.close
-    (tie.spec Inv-loop μ-loop (λ c. search needs) loop-holds (λ c. search needs) (λ c. search needs) (λ c. search needs) loop-again returns)
+    (tie.spec Inv-loop μ-loop (λ c. search needs) loop-holds (λ c. search needs) (λ c. search needs)
+    (λ c. search needs) loop-again returns)

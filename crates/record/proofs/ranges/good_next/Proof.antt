@@ -24,4 +24,5 @@ returns-2 c = rw (
 
 pub good-next-spec : {M : Type 1} → statement M
 good-next-spec =
-    tie.close (tie.spec (λ c. search needs) (λ c κs. search needs) (λ c. search needs) (λ c κs. search needs) returns returns-2)
+    tie.close (tie.spec (λ c. search needs) (λ c κs. search needs) (λ c. search needs) (λ c κs. search needs)
+    returns returns-2)
