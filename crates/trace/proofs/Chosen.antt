@@ -1,5 +1,5 @@
 -- The choice that the code finds is the rule's.
--- In order: light; low, chosen-in; chosen-line.
+-- In order: light; keyed, low, chosen-in; chosen-line.
 -- Assumes nothing.
 use mathlib.Core.Path.{_≡_, sym, ap, ap₂, _∙_}
 use mathlib.Core.List.{List, map}
@@ -20,7 +20,7 @@ use Rattle.order.specs.EdgeKeys.{keysIn, arcOf, keyWeight}
 use Rattle.choice.specs.ChoiceParts.{FirstRun}
 use Rattle.splitting.specs.SplitParts.{keptArcs}
 use Rattle.splitting.proofs.OneSplit.{chosen-heavy, chosen-light}
-use Rattle.splitting.proofs.SplitState.{weights-low, inside-run, kept-is, kept-total, share-le}
+use Rattle.splitting.proofs.SplitState.{Keyed, weights-low, inside-run, kept-is, kept-total, share-le}
 use Rattle.trace.specs.declared.choices.Choice.{Choice}
 use Rattle.trace.specs.Lines.{partLine, splitLine}
 use Rattle.trace.specs.ChoiceParts.{ChosenIn}
@@ -37,8 +37,23 @@ module _ (n : ℕ) (g : Graph) (s M : ℕ) (fits : Fits g) (few : g .states < 12
   module _ (list : Keys) (la : length (list .key) ≡ 16) (few-keys : list .count ≤ n)
       (is-list : map (arcOf s) (keysIn list) ≡ candidates n (weightsIn g) M (sort (out (arcsIn g) s)))
       (w : List ℕ) (w-is : take (list .count) w ≡ map (keyWeight g) (keysIn list)) where
+    keyed : Keyed n g s M list
+    keyed = record {
+      fits = fits;
+      inside = hs;
+      few = few;
+      weighs = heavy;
+      most = eG;
+      some = light;
+      ways = hn;
+      long = la;
+      few-keys = few-keys;
+      narrow = h16;
+      keys = is-list;
+    }
+
     pub low : (i : ℕ) → i < list .count → getD w i 0 ≤ 128
-    low = weights-low n g s M fits hs few heavy eG light hn list la few-keys h16 is-list w w-is
+    low = weights-low keyed w w-is
 
     module _ (run : Run) (run-is : FirstRun n (take (list .count) w) run) where
       -- THEOREM: state, weight, run and shares are those of the rule
@@ -53,14 +68,13 @@ module _ (n : ℕ) (g : Graph) (s M : ℕ) (fits : Fits g) (few : g .states < 12
       chosen-in = record {
         state = is;
         weight = heavy;
-        edges = kept-is n g s M fits hs few heavy eG light hn list la few-keys h16 is-list w w-is run run-is;
-        share = ap (λ t. t / n)
-            (sym (kept-total n g s M fits hs few heavy eG light hn list la few-keys h16 is-list w w-is run run-is));
+        edges = kept-is keyed w w-is run run-is;
+        share = ap (λ t. t / n) (sym (kept-total keyed w w-is run run-is));
         fresh = sym (length-map-range (weightAt g) (g .states));
         orderly = record {
           few = omega arith;
-          inside = inside-run n g s M fits hs few heavy eG light hn list la few-keys h16 is-list w w-is run run-is;
-          less = share-le n g s M fits hs few heavy eG light hn list la few-keys h16 is-list w w-is run run-is;
+          inside = inside-run keyed w w-is run run-is;
+          less = share-le keyed w w-is run run-is;
         };
       }
 

@@ -4,12 +4,13 @@
 -- Assumes nothing.
 use mathlib.Core.Path.{_≡_, refl, sym, ap, _∙_}
 use mathlib.Core.List.{List, [], _∷_, _++_, map, append-assoc, append-nil}
-use Prim.Native.Nat.{ℕ, zero, suc, _+_, _≤_, _<_}
+use Prim.Native.Nat.{ℕ, zero, suc, _+_, _-_, _≤_, _<_}
 use native.Mathlib.Numerals.{add-one}
 use native.Mathlib.Omega.{arith}
 use lib.ListN.{length, getD, take, drop, length-drop}
 use lib.Seq.{length-take-le, getD-take, getD-drop, take-all, take-take}
 use Rattle.laws.specs.Lists.{concat}
+use Rattle.laws.proofs.Lists.{drop-take}
 use Rattle.laws.proofs.Maps.{map-map}
 use Rattle.order.specs.EdgeKeys.{arcOf}
 use Rattle.text.specs.Words.{told}
@@ -65,16 +66,12 @@ module _ (l : List ℕ) (o c : ℕ) (h : o + c ≤ length l) where
         → concat (map f (take i (take c (drop o l)))) ≡ concat (map f (take c (drop o l)))
     part-all i e = concat-all f (take c (drop o l)) i (omega (arith, part-long))
 
-take-none : (m : ℕ) → _≡_ {A = List ℕ} (take m []) []
-take-none zero = refl
-take-none (suc m) = refl
-
 -- the part lies in the first m elements
 pub part-within : (l : List ℕ) (m o c : ℕ) → o + c ≤ m → take c (drop o l) ≡ take c (drop o (take m l))
-part-within l m zero c h = sym (take-take c m l (omega arith))
-part-within [] m (suc o) c h = ap (λ x. take c (drop (suc o) x)) (sym (take-none m))
-part-within (x ∷ l) zero (suc o) c h = absurd (omega arith)
-part-within (x ∷ l) (suc m) (suc o) c h = part-within l m o c (omega arith)
+part-within l m o c h =
+    let e : m ≡ o + (m - o) = omega arith in
+    sym (ap (λ k. take c (drop o (take k l))) e ∙ ap (take c) (drop-take o (m - o) l)
+    ∙ take-take c (m - o) (drop o l) (omega arith))
 
 -- edges by their keys
 pub keys-arcs : (q s : ℕ) (ks : List ℕ) → concat (map (keyText q) ks) ≡ concat (map (arcText q) (map (arcOf s) ks))

@@ -3,13 +3,11 @@
 -- split-crowded, split-done.
 -- Assumes nothing.
 use mathlib.Core.Path.{_≡_, refl, sym, ap, ap₂, _∙_}
-use mathlib.Core.Bool.{Bool, true, false, not, _&&_}
+use mathlib.Core.Bool.{true, false, not, _&&_}
 use mathlib.Core.List.{List, [], _++_, append-assoc, append-nil}
 use Prim.Native.Nat.{ℕ, zero, suc, _+_, _≤_}
 use Prim.Native.String.{String}
 use native.Mathlib.Omega.{arith}
-use borrow.Author.Tests.{le-ltb}
-use lib.Dec.{T}
 use lib.ListN.{length, length-map}
 use Rattle.laws.specs.Lists.{range, sum}
 use Rattle.laws.proofs.Tests.{length-from}
@@ -18,12 +16,10 @@ use Rattle.graph.specs.declared.NextGraph.{NextGraph}
 use Rattle.graph.specs.Arcs.{Work}
 use Rattle.graph.specs.Splitting.{unfinished, crowded, goesOn, split}
 use Rattle.finish.specs.TableOf.{tableOf}
-use Rattle.graph.specs.Value.{arcAt, arcsIn, weightAt, weightsIn, workIn}
+use Rattle.graph.specs.Value.{arcAt, weightAt, weightsIn, workIn}
 use Rattle.laws.proofs.Ranges.{length-map-range}
-use Rattle.graph.proofs.Split.{split-inv, split-length}
-use Rattle.graph.proofs.Loop.{states-le}
 use Rattle.splitting.specs.SplitParts.{SplitInto, Splits, SplitAllInto}
-use Rattle.splitting.proofs.SplitLoop.{Going, going-grows}
+use Rattle.splitting.proofs.SplitLoop.{Going, goesOn-is, more-states, going-grows}
 use Rattle.finish.specs.declared.finish_table.TableRows.{TableRows}
 use Rattle.finish.specs.Finishing.{TableIn}
 use Rattle.text.specs.Texts.{bytes, Added}
@@ -61,40 +57,25 @@ told-start n q g at B C r a = record {
 
 module _ (n q : ℕ) (g h : Graph) (p : Splits n g) (c : Going n g h) (at r : ℕ) (B C : List ℕ)
     (t : Told n q g h at B C r) where
-  not-crowded : crowded (workIn h) ≡ false
-  not-crowded = le-ltb 2048 (length (arcsIn h)) (rw (length-map-range (arcAt h) (h .edges)) (c .fits .room))
-
-  goes : (b : Bool) → unfinished n (workIn h) ≡ b → goesOn n (workIn h) ≡ b
-  goes b u = ap₂ (λ x y. not x && y) not-crowded u
-
   -- THEOREM: nothing is left to split
   pub told-end : unfinished n (workIn h) ≡ false → Added (splitLines (sum (weightsIn g)) q n (workIn g)) at B C r
   told-end u =
       added-same (sym (append-nil (t .text)) ∙ ap (λ l. t .text ++ l) (sym (lines-off (t .fuel) q n (workIn h)
-      (goes false u))) ∙ t .left) (t .added)
+      (goesOn-is n g h p c false u))) ∙ t .left) (t .added)
 
   module _ (u : unfinished n (workIn h) ≡ true) (D : List ℕ) (e : ℕ)
       (line : Added (splitLine q n (workIn h)) r C D e)
     where
-      more : suc (h .states) ≤ sum (weightsIn g)
-      more =
-          let s : T (unfinished n (workIn h)) = rw u tt in
-          let k = split-length n (sum (weightsIn g)) (workIn h) (p .some) (c .inv) s in
-          let l = states-le n (sum (weightsIn g)) (p .some) (split n (workIn h))
-          (split-inv n (sum (weightsIn g)) (workIn h) (p .some) (c .inv) s) in
-          let m = length-map-range (weightAt h) (h .states) in
-          omega arith
-
       -- one line less left
       next : (k : ℕ) → t .fuel ≡ k → (j : ℕ) × (k ≡ suc j)
           × ((t .text ++ splitLine q n (workIn h)) ++ splitLines j q n (split n (workIn h))
           ≡ splitLines (sum (weightsIn g)) q n (workIn g))
-      next zero z = absurd (omega (arith, more, t .enough))
+      next zero z = absurd (omega (arith, more-states n g h p c u, t .enough))
       next (suc j) z = (
         j,
         refl,
         append-assoc (t .text) (splitLine q n (workIn h)) (splitLines j q n (split n (workIn h)))
-            ∙ ap (λ l. t .text ++ l) (sym (lines-on j q n (workIn h) (goes true u)))
+            ∙ ap (λ l. t .text ++ l) (sym (lines-on j q n (workIn h) (goesOn-is n g h p c true u)))
             ∙ ap (λ k. t .text ++ splitLines k q n (workIn h)) (sym z) ∙ t .left,
       )
 

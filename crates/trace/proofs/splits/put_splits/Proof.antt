@@ -3,7 +3,7 @@
 -- Assumes nothing.
 use mathlib.Core.Path.{_≡_, sym, _∙_}
 use mathlib.Core.Bool.{true}
-use Prim.Native.Nat.{_-_}
+use Prim.Native.Nat.{_-_, _<_}
 use native.Mathlib.Omega.{arith}
 use Rattle.graph.specs.Splitting.{unfinished}
 use Rattle.graph.specs.Value.{workIn}
@@ -32,56 +32,58 @@ loop-holds c =
       told-start (b .args .n) (b .args .q) (b .args .g) _ _ _ _ (begun (c .before .before .before .put .ensures)),
     )
 
+abbrev start : tie.In-loop Inv-loop μ-loop → tie.Start Inv-loop μ-loop
+start i = i .before .before .before .before .before .before .before .before .before
+
+-- a turn splits a state
+on : (i : tie.In-loop Inv-loop μ-loop) → unfinished (start i .args .n) (workIn (i .before .loop .h)) ≡ true
+on i = sym (i .before .loop .inv .1) ∙ i .loop-test .taken
+
+room : (i : tie.In-loop Inv-loop μ-loop) → i .before .loop .h .states < 128
+room i =
+    let l = i .before .loop in
+    going-room (start i .args .n) (start i .args .g) (l .h) (start i .pre .1) (l .inv .0) (on i)
+
 put-split-requires : tie.Need-put-split-requires Inv-loop μ-loop
 put-split-requires c κs =
-    let b = c .before .before .before .before .before .before .before .before .before .before in
-    let l = c .before .before .loop in
-    let a = b .args in
-    let u : unfinished (a .n) (workIn (l .h)) ≡ true = sym (l .inv .1) ∙ c .before .loop-test .taken in (
+    let i = c .before in
+    let b = start i in
+    let l = i .before .loop in (
       b .pre .0,
       l .inv .0 .fits,
-      going-room (a .n) (a .g) (l .h) (b .pre .1) (l .inv .0) u,
+      room i,
       b .pre .1 .some,
       b .pre .1 .few,
-      going-splits (a .n) (a .g) (l .h) (b .pre .1) (l .inv .0) u,
+      going-splits (b .args .n) (b .args .g) (l .h) (b .pre .1) (l .inv .0) (on i),
     )
 
 split-requires : tie.Need-split-requires Inv-loop μ-loop
 split-requires c κs =
-    let b = c .before .before .before .before .before .before .before .before .before .before .before .before
-    .before in
-    let l = c .before .before .before .before .before .loop in
-    let a = b .args in
-    let u : unfinished (a .n) (workIn (l .h)) ≡ true = sym (l .inv .1) ∙
-    c .before .before .before .before .loop-test .taken in (
+    let i = c .before .before .before .before in
+    let b = start i in
+    let l = i .before .loop in (
       l .inv .0 .fits,
-      going-room (a .n) (a .g) (l .h) (b .pre .1) (l .inv .0) u,
+      room i,
       b .pre .1 .some,
       b .pre .1 .few,
-      going-splits (a .n) (a .g) (l .h) (b .pre .1) (l .inv .0) u,
+      going-splits (b .args .n) (b .args .g) (l .h) (b .pre .1) (l .inv .0) (on i),
     )
 
 same-length : tie.Need-same-length Inv-loop μ-loop
 same-length c =
-    let l = c .before .before .before .before .before .before .before .loop in
-    c .before .before .before .before .put-split .ensures .kept ∙ l .inv .2 .added .kept ∙
-    c .before .before .before .before .before .before .before .before .before .before .before .put .ensures
-    .kept
+    let i = c .before .before .before .before .before .before in
+    c .before .before .before .before .put-split .ensures .kept ∙ i .before .loop .inv .2 .added .kept ∙
+    i .before .before .before .before .before .put .ensures .kept
 
 returns : tie.Need-returns Inv-loop μ-loop
 returns c =
-    let split = c .before .split in
-    let line = c .before .before .before .before .put-split in
-    let l = c .before .before .before .before .before .before .before .loop in
-    let first = c .before .before .before .before .before .before .before .before .before .before .before .put in
-    let b = c .before .before .before .before .before .before .before .before .before .before .before .before
-    .before .before .before in
-    let a = b .args in
-    let u : unfinished (a .n) (workIn (l .h)) ≡ true = sym (l .inv .1) ∙
-    c .before .before .before .before .before .before .loop-test .taken in
-    first .ensures then told-crowded (a .n) (a .q) (a .g) (l .h) (b .pre .1) (l .inv .0) _ _ _ _
-    (l .inv .2) u _ _
-    (line .ensures) (split .result) (split .ensures) (c .if1 .taken)
+    let i = c .before .before .before .before .before .before in
+    let a = start i .args in
+    let l = i .before .loop in
+    i .before .before .before .before .before .put .ensures then
+    told-crowded (a .n) (a .q) (a .g) (l .h) (start i .pre .1) (l .inv .0) _ _ _ _ (l .inv .2) (on i) _ _
+    (c .before .before .before .before .put-split .ensures) (c .before .split .result) (c .before .split .ensures)
+    (c .if1 .taken)
 
 is-unfinished-requires-2 : tie.Need-is-unfinished-requires-2 Inv-loop μ-loop
 is-unfinished-requires-2 c κs = c .before .before .split .ensures .fits (c .before .if1 .left)
@@ -89,40 +91,28 @@ is-unfinished-requires-2 c κs = c .before .before .split .ensures .fits (c .bef
 loop-less : tie.Need-loop-less Inv-loop μ-loop
 loop-less c =
     let split = c .before .before .before .split in
-    let line = c .before .before .before .before .before .before .put-split in
-    let l = c .before .before .before .before .before .before .before .before .before .loop in
-    let first = c .before .before .before .before .before .before .before .before .before .before .before .before
-    .before .put in
-    let b = c .before .before .before .before .before .before .before .before .before .before .before .before
-    .before .before .before .before .before in
-    let a = b .args in
-    let u : unfinished (a .n) (workIn (l .h)) ≡ true = sym (l .inv .1) ∙
-    c .before .before .before .before .before .before .before .before .loop-test .taken in
+    let i = c .before .before .before .before .before .before .before .before in
+    let a = start i .args in
+    let l = i .before .loop in
     omega (
       arith,
-      going-room (a .n) (a .g) (l .h) (b .pre .1) (l .inv .0) u,
-      going-grows (a .n) (a .g) (l .h) (b .pre .1) (l .inv .0) u (split .result) (split .ensures)
+      room i,
+      going-grows (a .n) (a .g) (l .h) (start i .pre .1) (l .inv .0) (on i) (split .result) (split .ensures)
           (c .before .before .if1 .left),
     )
 
 loop-again : tie.Need-loop-again Inv-loop μ-loop
 loop-again c =
     let split = c .before .before .before .split in
-    let line = c .before .before .before .before .before .before .put-split in
-    let l = c .before .before .before .before .before .before .before .before .before .loop in
-    let first = c .before .before .before .before .before .before .before .before .before .before .before .before
-    .before .put in
-    let b = c .before .before .before .before .before .before .before .before .before .before .before .before
-    .before .before .before .before .before in
-    let a = b .args in
-    let u : unfinished (a .n) (workIn (l .h)) ≡ true = sym (l .inv .1) ∙
-    c .before .before .before .before .before .before .before .before .loop-test .taken in (
-      going-on (a .n) (a .g) (l .h) (b .pre .1) (l .inv .0) u (split .result) (split .ensures)
+    let i = c .before .before .before .before .before .before .before .before in
+    let a = start i .args in
+    let l = i .before .loop in (
+      going-on (a .n) (a .g) (l .h) (start i .pre .1) (l .inv .0) (on i) (split .result) (split .ensures)
           (c .before .before .if1 .left),
       c .is-unfinished2 .ensures,
-      told-more (a .n) (a .q) (a .g) (l .h) (b .pre .1) (l .inv .0) _ _ _ _ (l .inv .2) u _ _ (line .ensures)
-          (split .result)
-          (split .ensures) (c .before .before .if1 .left),
+      told-more (a .n) (a .q) (a .g) (l .h) (start i .pre .1) (l .inv .0) _ _ _ _ (l .inv .2) (on i) _ _
+          (c .before .before .before .before .before .before .put-split .ensures) (split .result) (split .ensures)
+          (c .before .before .if1 .left),
     )
 
 same-length-2 : tie.Need-same-length-2 Inv-loop μ-loop
