@@ -12,11 +12,11 @@ use Rattle.answer.specs.declared.Refusal.the-variants.{NoWindow}
 use Rattle.answer.specs.Outcomes.{Outcome, done, refused, unless}
 use Rattle.answer.proofs.Outcomes.{unless-false}
 use Rattle.table.specs.declared.Table.{Table}
-use Rattle.windows.specs.declared.least.Found.{Found}
+use Rattle.search.specs.declared.Found.{Found}
 use Rattle.table.specs.Rows.{Size, Code, edge, at}
 use Rattle.windows.specs.Search.{window}
 use Rattle.table.specs.Edges.{lent}
-use Rattle.windows.specs.Steps.{foundSize}
+use Rattle.search.specs.Finding.{foundSize}
 use Rattle.table.specs.Value.{wordAt, nextAt, rowsIn, codeIn, Ready}
 use Rattle.table.proofs.RowsOf.{length-rows, edge-at}
 use Rattle.graph.specs.declared.Graph.{Graph}

@@ -1,6 +1,6 @@
 // A job compiled: weights, component, splits, table, window, with refusals "3, 4, 5, 6" in this order.
 ghost use mathlib.Core.Path.{_≡_};
-ghost use Rattle.windows.specs.Steps.{foundSize};
+ghost use Rattle.search.specs.Finding.{foundSize};
 ghost use Rattle.table.specs.Value.{codeIn, Ready};
 ghost use Rattle.answer.specs.declared.Verdict.the-variants.{Good};
 ghost use Rattle.record.specs.Checks.{outcomeIn};
@@ -18,12 +18,12 @@ use graph::Graph;
 use job::JobValue;
 use record::TableAnswer;
 use record::declined;
+use search::Found;
+use search::least_window;
 use splitting::split_graph::split_all;
 use table::Table;
 use table::chains::ways;
 use weights::state_weights::state_weights;
-use windows::least::Found;
-use windows::least::least_window;
 
 // The component of a job, with n ways out of each state to come.
 fn component_of(j: JobValue, n: usize) -> ComponentAnswer

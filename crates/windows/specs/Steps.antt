@@ -1,6 +1,6 @@
 -- What the search for a window keeps while it steps sets of pairs.
 -- In order: size; withWord, one word of memory more; Emptied, the number of steps until a set is empty; Leading, the
--- best window so far; foundSize; Room.
+-- best window so far; Room.
 -- Assumes nothing.
 use mathlib.Core.Path.{_≡_}
 use mathlib.Core.Bool.{true, false}
@@ -13,8 +13,6 @@ use Rattle.table.specs.Rows.{Rows, Size}
 use Rattle.windows.specs.Works.{into, reversed, startPair, works}
 use Rattle.windows.specs.Window.{NoLater}
 use Rattle.windows.specs.Search.{noSize, union, empty}
-use Rattle.windows.specs.declared.least.Found.{Found}
-use Rattle.windows.specs.declared.least.Found.the-variants.{None, Window}
 
 -- memory m and lookahead a
 abbrev pub size : ℕ → ℕ → Size
@@ -35,11 +33,6 @@ pub record Emptied (t : Rows) (H : Pairs) (most r : ℕ) : Type 0 where
 pub record Leading (t : Rows) (m : ℕ) (z : Size) : Type 0 where
   pub better : (w : Size) → w .memory < m → w .lookahead < 16 → T (works t w) → NoLater z w
   pub known : (z ≡ noSize) ⊎ ((z .memory < m) × (z .lookahead < 16) × T (works t z))
-
--- the size that the code's answer names, or the mark for none
-abbrev pub foundSize : Found → Size
-foundSize None = noSize
-foundSize (Window memory lookahead) = size memory lookahead
 
 -- r is the most lookahead with which memory m can be better than b
 pub record Room (b : Size) (m r : ℕ) : Type 0 where

@@ -17,12 +17,11 @@ use table::Table;
 use table::chains::chain;
 use table::chains::ways;
 
-pub mod least;
 mod pair_sets;
-mod pairs;
+pub mod pairs;
 
 // Steps the pairs whose next edges must agree by one word of memory more; whether they stay the same.
-fn extend_memory(
+pub fn extend_memory(
     states: usize,
     n: usize,
     word: &[u8; 2048],
@@ -81,7 +80,7 @@ fn pairs_after(
 
 // The number of words after which no pair of the set is left, or one more than `most`. A set that a word leads to
 // itself stays.
-fn lookahead_needed(
+pub fn lookahead_needed(
     states: usize,
     n: usize,
     word: &[u8; 2048],

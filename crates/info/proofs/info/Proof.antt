@@ -9,7 +9,7 @@ use Rattle.info.proofs.info.Statement.{statement}
 use Rattle.info.proofs.info.Tie as tie
 
 tell-numbers-requires : tie.Need-tell-numbers-requires
-tell-numbers-requires c κs = c .before .before .before .before .load .ensures .1 (c .before .enum-told .given .1)
+tell-numbers-requires c κs = c .before .before .before .before .load .ensures .1 .0 (c .before .enum-told .given .1)
 
 returns : tie.Need-returns
 returns c =

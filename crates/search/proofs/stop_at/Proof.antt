@@ -3,8 +3,8 @@ use mathlib.Core.Path.{refl}
 use mathlib.Core.Logic.{inl, inr}
 use native.Mathlib.Omega.{arith}
 use borrow.Author.Needs.{needs}
-use Rattle.windows.proofs.least.stop_at.Statement.{statement}
-use Rattle.windows.proofs.least.stop_at.Tie as tie
+use Rattle.search.proofs.stop_at.Statement.{statement}
+use Rattle.search.proofs.stop_at.Tie as tie
 
 returns : tie.Need-returns
 returns c = (inl refl, ((λ l. absurd (omega (arith, c .if1 .taken))), (c .before .pre .1, c .before .pre .2)))

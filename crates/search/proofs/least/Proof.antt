@@ -6,18 +6,18 @@ use Prim.Native.Nat.{_+_, _-_, _≤_, _<_}
 use native.Mathlib.Omega.{arith}
 use denote.Ref.{now}
 use lib.ListN.{length-replicate}
 use Rattle.windows.specs.Search.{window, pasts}
 use Rattle.table.specs.Edges.{Arrays, arrays, rowsOf}
 use Rattle.table.proofs.RowsOf.{length-rows, closed-rows}
 use Rattle.windows.specs.PairSets.{pairsIn, Long}
 use Rattle.windows.specs.Steps.{size, Leading}
 use Rattle.windows.proofs.SetLaws.{all-of}
 use Rattle.windows.proofs.PastSets.{pasts-none}
 use Rattle.windows.proofs.Leading.{lead-start, lead-small}
 use Rattle.windows.proofs.Turns.{turn}
 use borrow.Author.Needs.{needs}
-use Rattle.windows.proofs.least.least.Statement.{statement}
-use Rattle.windows.proofs.least.least.Tie as tie
+use Rattle.search.proofs.least.Statement.{statement}
+use Rattle.search.proofs.least.Tie as tie
 
 abbrev Inv-loop : tie.InvT-loop
 Inv-loop states n word next head link past₀ set₀ spare₀ best₀ stop₀ m₀ past set spare best stop m =

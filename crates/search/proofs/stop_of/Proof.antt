@@ -3,8 +3,8 @@ use mathlib.Core.Path.{refl}
 use mathlib.Core.Logic.{inl, inr}
 use native.Mathlib.Omega.{arith}
 use borrow.Author.Needs.{needs}
-use Rattle.windows.proofs.least.stop_of.Statement.{statement}
-use Rattle.windows.proofs.least.stop_of.Tie as tie
+use Rattle.search.proofs.stop_of.Statement.{statement}
+use Rattle.search.proofs.stop_of.Tie as tie
 
 returns : tie.Need-returns
 returns c = (omega arith, omega arith, inr refl)

@@ -1,14 +1,14 @@
 -- The chains of the table's edges serve the search; memory 16 is its mark for none.
 use mathlib.Core.Path.{_≡_, sym, ap, _∙_}
 use Rattle.windows.specs.Search.{window}
 use Rattle.table.specs.Value.{rowsIn}
 use Rattle.table.specs.Edges.{arrays, rowsOf}
 use Rattle.table.proofs.RowsOf.{fits-lent}
 use Rattle.windows.specs.Steps.{size}
 use Rattle.windows.proofs.Leading.{none-found}
 use borrow.Author.Needs.{needs}
-use Rattle.windows.proofs.least.least_window.Statement.{statement}
-use Rattle.windows.proofs.least.least_window.Tie as tie
+use Rattle.search.proofs.least_window.Statement.{statement}
+use Rattle.search.proofs.least_window.Tie as tie
 
 -- what the search says of the table
 found : (c : tie.After-least)

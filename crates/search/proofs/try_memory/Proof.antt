@@ -6,15 +6,15 @@ use denote.Ref.{now}
 use lib.ListN.{length}
 use Rattle.table.specs.Rows.{Size}
 use Rattle.table.specs.Paths.{Closed}
 use Rattle.windows.specs.Search.{hits, pasts}
 use Rattle.table.specs.Edges.{Arrays, arrays, rowsOf}
 use Rattle.table.proofs.RowsOf.{length-rows, closed-rows}
 use Rattle.windows.specs.Steps.{size, Emptied}
 use Rattle.windows.proofs.Lookahead.{fails-sooner, works-there}
 use Rattle.windows.proofs.Leading.{lead-small, lead-take, lead-skip}
 use borrow.Author.Needs.{needs}
-use Rattle.windows.proofs.least.try_memory.Statement.{statement}
-use Rattle.windows.proofs.least.try_memory.Tie as tie
+use Rattle.search.proofs.try_memory.Statement.{statement}
+use Rattle.search.proofs.try_memory.Tie as tie
 
 abbrev table : tie.Start → Arrays
 table s = arrays (s .args .states) (s .args .n) (now (s .args .word)) (now (s .args .next))

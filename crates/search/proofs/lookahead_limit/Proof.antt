@@ -3,8 +3,8 @@ use mathlib.Core.Path.{refl}
 use mathlib.Core.Logic.{inl, inr}
 use native.Mathlib.Omega.{arith}
 use borrow.Author.Needs.{needs}
-use Rattle.windows.proofs.least.lookahead_limit.Statement.{statement}
-use Rattle.windows.proofs.least.lookahead_limit.Tie as tie
+use Rattle.search.proofs.lookahead_limit.Statement.{statement}
+use Rattle.search.proofs.lookahead_limit.Tie as tie
 
 returns : tie.Need-returns
 returns c = record { small = omega arith; fits = omega arith; most = inr (omega arith) }

@@ -3,16 +3,17 @@ ghost use mathlib.Core.Path.{_≡_};
 ghost use mathlib.Core.Logic.{_⊎_};
 ghost use Prim.Native.Nat.{_+_, _≤_, _<_};
 ghost use Rattle.table.specs.Value.{Ready, rowsIn};
 ghost use Rattle.windows.specs.Search.{noSize, window, pasts};
 ghost use Rattle.table.specs.Edges.{borrowed, rowsOf, Linked};
 ghost use Rattle.windows.specs.PairSets.{pairsIn, Long};
-ghost use Rattle.windows.specs.Steps.{size, withWord, Leading, Room, foundSize};
-use crate::extend_memory;
-use crate::lookahead_needed;
-use crate::pairs::clashes;
+ghost use Rattle.windows.specs.Steps.{size, withWord, Leading, Room};
+ghost use Rattle.search.specs.Finding.{foundSize};
 use table::Table;
 use table::chains::chain;
 use table::chains::ways;
+use windows::extend_memory;
+use windows::lookahead_needed;
+use windows::pairs::clashes;
 
 // Memory and lookahead of a window; 16 and 16 for none.
 struct Best {
