@@ -10,7 +10,7 @@ use answer::Verdict;
 use job::JobValue;
 use job::reading::read_job;
 use job::reading::read_run_length;
-use record::write;
+use writer::write;
 
 // The record of a job in the output.
 fn compile_into(j: JobValue, out: &mut [u8]) -> Answer

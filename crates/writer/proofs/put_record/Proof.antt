@@ -12,16 +12,16 @@ use Rattle.bits.specs.Fields.{bitsOf}
 use Rattle.bits.proofs.Runs.{size-holds}
 use Rattle.table.specs.Formed.{head}
 use Rattle.table.specs.Value.{codeIn}
 use Rattle.record.specs.Layout.{headerBits, stateSize}
 use Rattle.record.specs.Layout.{bitCount, size}
 use Rattle.table.specs.Value.{tableHead}
 use Rattle.record.specs.Parts.{frontBits}
 use Rattle.record.specs.Places.{Small}
 use Rattle.table.proofs.ReadyTables.{head-in}
 use Rattle.record.proofs.Sizes.{bitCount-le, edges-end}
 use Rattle.record.proofs.RecordWriting.{small-in, below-all, even, whole-record}
-use Rattle.record.proofs.writing.put_record.Statement.{statement}
-use Rattle.record.proofs.writing.put_record.Tie as tie
+use Rattle.writer.proofs.put_record.Statement.{statement}
+use Rattle.writer.proofs.put_record.Tie as tie
 
 -- the call of `bit_count` and the entry, from the last call
 abbrev counted : (c : tie.After-put-arg) → tie.After-bit-count

@@ -7,14 +7,20 @@ ghost use Rattle.bits.specs.Bytes.{spliced};
 ghost use Rattle.bits.specs.Fields.{bits, bitsOf};
 ghost use Rattle.constraint.specs.Value.{constraintOf};
 ghost use Rattle.table.specs.Value.{codeIn, rowsIn, tableHead, Ready};
+ghost use Rattle.answer.specs.Outcomes.{answerOf, outputOf};
+ghost use Rattle.record.specs.Checks.{packWith};
 ghost use Rattle.record.specs.Layout.{headerBits, stateSize, size, pack};
 ghost use Rattle.record.specs.Parts.{frontBits, nextBits, statesBits, rowsBits};
-use crate::numbers;
-use crate::numbers::FRONT;
-use crate::numbers::STATE;
+use answer::Answer;
+use answer::Refusal;
 use constraint::Constraint;
+use record::numbers;
+use record::numbers::FRONT;
+use record::numbers::STATE;
 use table::Head;
 use table::Table;
+use table::head_of;
+use table::ready::is_ready;
 
 // The lowest `width` bits of x become the field at the bit place `at`.
 fn put_low(out: &mut [u8], at: usize, width: usize, x: usize)
@@ -36,7 +42,7 @@ fn less_one(x: usize) -> usize
 }
 
 // The numbers in front.
-pub fn put_front(out: &mut [u8], f: Head)
+fn put_front(out: &mut [u8], f: Head)
     requires { ⌜ 4 ≤ length (now out) ⌝ }
     ensures written { λ r. ⌜ bitsOf (now (out .exit)) ≡ spliced 0 (frontBits f)
         (bitsOf (now (out .entry))) ⌝ }
@@ -65,7 +71,7 @@ fn put_next(out: &mut [u8], at: usize, next: u8)
 }
 
 // The constraint, behind the numbers in front.
-pub fn put_states(out: &mut [u8], constraint: Constraint)
+fn put_states(out: &mut [u8], constraint: Constraint)
     requires { ⌜ (constraint .states ≤ 16) × (headerBits + constraint .states * stateSize ≤ 8 * length (now out)) ⌝ }
     ensures written { λ r. ⌜ bitsOf (now (out .exit)) ≡ spliced headerBits (statesBits (constraintOf constraint))
         (bitsOf (now (out .entry))) ⌝ }
@@ -81,7 +87,7 @@ pub fn put_states(out: &mut [u8], constraint: Constraint)
 }
 
 // The edges of all states, behind the constraint, the first at the bit place `first`.
-pub fn put_edges(out: &mut [u8], t: Table, first: usize)
+fn put_edges(out: &mut [u8], t: Table, first: usize)
     requires { ⌜ Ready t × (first ≤ 256) × (first + t .states * 2 ^ t .p * (t .q + 7) ≤ 8 * length (now out)) ⌝ }
     ensures written { λ r. ⌜ bitsOf (now (out .exit))
         ≡ spliced first (rowsBits (t .q) (rowsIn t)) (bitsOf (now (out .entry))) ⌝ }
@@ -101,7 +107,7 @@ pub fn put_edges(out: &mut [u8], t: Table, first: usize)
 }
 
 // The whole record of a table, with the numbers f in front and `long` bytes.
-pub fn put_record(out: &mut [u8], t: Table, f: Head, long: usize)
+fn put_record(out: &mut [u8], t: Table, f: Head, long: usize)
     requires { ⌜ Ready t × (f ≡ tableHead t) × (long ≡ size (tableHead t)) × (long ≤ length (now out)) ⌝ }
     ensures written { λ r. ⌜ now (out .exit) ≡ pack (codeIn t)
         ++ drop (length (pack (codeIn t))) (now (out .entry)) ⌝ }
@@ -111,4 +117,22 @@ pub fn put_record(out: &mut [u8], t: Table, f: Head, long: usize)
     put_states(out, t.constraint);
     put_edges(out, t, FRONT + f.count * STATE);
     bits::put(out, at, 8 * long - at, 0);
+}
+
+// The record of a table into lent bytes: refusal 7 where a field is out of range, and 13 where they are too few.
+pub fn write(t: Table, out: &mut [u8]) -> Answer
+    ensures answer { λ r. ⌜ r ≡ answerOf (packWith t (length (now (out .entry)))) ⌝ }
+    ensures written { λ r. ⌜ now (out .exit) ≡ outputOf (packWith t (length (now (out .entry))))
+        (now (out .entry)) ⌝ }
+{
+    if !is_ready(t) {
+        return Answer::Refused(Refusal::Field);
+    }
+    let f = head_of(t);
+    let long = numbers::size_of(f);
+    if out.len() < long {
+        return Answer::Refused(Refusal::ShortOutput);
+    }
+    put_record(out, t, f, long);
+    Answer::Done(long)
 }

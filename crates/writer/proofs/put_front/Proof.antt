@@ -6,9 +6,9 @@ use borrow.Author.Needs.{needs}
 use denote.Ref.{now}
 use Rattle.bits.specs.Fields.{bitsOf}
 use Rattle.bits.proofs.Puts.{length-bitsOf}
 use Rattle.record.proofs.RecordParts.{front-spliced}
-use Rattle.record.proofs.writing.put_front.Statement.{statement}
-use Rattle.record.proofs.writing.put_front.Tie as tie
+use Rattle.writer.proofs.put_front.Statement.{statement}
+use Rattle.writer.proofs.put_front.Tie as tie
 
 returns : tie.Need-returns
 returns c =

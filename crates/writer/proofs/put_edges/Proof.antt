@@ -12,12 +12,12 @@ use lib.Pow.{pow-pos, pow-mono}
 use Rattle.bits.specs.Bytes.{spliced}
 use Rattle.bits.specs.Fields.{bitsOf}
 use Rattle.bits.proofs.Puts.{length-bitsOf}
 use Rattle.record.specs.Places.{spot}
 use Rattle.record.proofs.Fills.{spot-lt}
 use Rattle.record.proofs.Sizes.{place-le, product-le}
 use Rattle.record.proofs.RecordRuns.{edgesBits, edges-begin, edges-next, edges-all}
-use Rattle.record.proofs.writing.put_edges.Statement.{statement}
-use Rattle.record.proofs.writing.put_edges.Tie as tie
+use Rattle.writer.proofs.put_edges.Statement.{statement}
+use Rattle.writer.proofs.put_edges.Tie as tie
 
 abbrev Inv-loop : tie.InvT-loop
 Inv-loop out₀ first t n q edges e₀ out e =

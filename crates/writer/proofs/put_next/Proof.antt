@@ -4,9 +4,9 @@ use mathlib.Core.Path.{_∙_}
 use borrow.Author.Needs.{needs}
 use denote.Ref.{now}
 use Rattle.bits.specs.Fields.{bitsOf}
 use Rattle.record.proofs.RecordParts.{put-absent, put-present}
-use Rattle.record.proofs.writing.put_next.Statement.{statement}
-use Rattle.record.proofs.writing.put_next.Tie as tie
+use Rattle.writer.proofs.put_next.Statement.{statement}
+use Rattle.writer.proofs.put_next.Tie as tie
 
 returns : tie.Need-returns
 returns c =

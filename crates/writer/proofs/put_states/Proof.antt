@@ -13,11 +13,11 @@ use Rattle.bits.specs.Bytes.{spliced}
 use Rattle.bits.specs.Fields.{bitsOf}
 use Rattle.bits.proofs.Puts.{length-bitsOf}
 use Rattle.constraint.specs.Value.{nextStatesAt}
 use Rattle.record.specs.Layout.{headerBits}
 use Rattle.record.specs.Parts.{statesBits}
 use Rattle.record.proofs.RecordRuns.{states-begin, states-next}
-use Rattle.record.proofs.writing.put_states.Statement.{statement}
-use Rattle.record.proofs.writing.put_states.Tie as tie
+use Rattle.writer.proofs.put_states.Statement.{statement}
+use Rattle.writer.proofs.put_states.Tie as tie
 
 abbrev Inv-loop : tie.InvT-loop
 Inv-loop out₀ constraint count s₀ out s =

@@ -6,9 +6,9 @@ use borrow.Author.Needs.{needs}
 use denote.Ref.{now}
 use lib.Pow.{pow-pos}
 use Rattle.bits.specs.Fields.{bitsOf}
 use Rattle.record.proofs.RecordParts.{put-low-is}
-use Rattle.record.proofs.writing.put_low.Statement.{statement}
-use Rattle.record.proofs.writing.put_low.Tie as tie
+use Rattle.writer.proofs.put_low.Statement.{statement}
+use Rattle.writer.proofs.put_low.Tie as tie
 
 put-requires : tie.Need-put-requires
 put-requires c κs =

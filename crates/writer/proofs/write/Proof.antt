@@ -11,11 +11,11 @@ use Rattle.answer.specs.declared.Answer.the-variants.{Done}
 use Rattle.answer.specs.Outcomes.{answerOf, outputOf}
 use Rattle.table.specs.Value.{tableHead, ready, Ready}
 use Rattle.table.proofs.ReadyTables.{ready→}
 use Rattle.record.specs.Layout.{size}
 use Rattle.record.specs.Places.{Small}
 use Rattle.record.proofs.RecordWriting.{small-in, pack-field, pack-long, pack-short, pack-fits}
-use Rattle.record.proofs.write.Statement.{statement}
-use Rattle.record.proofs.write.Tie as tie
+use Rattle.writer.proofs.write.Statement.{statement}
+use Rattle.writer.proofs.write.Tie as tie
 
 returns : tie.Need-returns
 returns c =
