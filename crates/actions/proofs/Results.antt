@@ -1,13 +1,8 @@
 -- A result lies within the bytes that were lent for it; and marks, block by block.
 -- In order: result-within, front-long; mark-on, mark-end.
 -- Assumes nothing.
-use mathlib.Core.Path.{_≡_, refl, sym, ap, subst, _∙_}
-use mathlib.Core.List.{List, [], _∷_, _++_}
-use Prim.Native.Nat.{ℕ, _+_, _≤_, _<_}
-use native.Mathlib.Numerals.{add-one}
-use native.Mathlib.Omega.{arith}
-use lib.ListN.{length, getD, drop, length-append}
-use lib.Seq.{drop-cons, drop-length}
+use Rattle.laws.proofs.All.{_≡_, refl, sym, ap, subst, _∙_, List, [], _∷_, _++_, ℕ, _+_, _≤_, _<_, add-one, arith}
+use Rattle.laws.proofs.All.{length, getD, drop, length-append, drop-cons, drop-length}
 use Rattle.answer.specs.declared.Answer.{Answer}
 use Rattle.answer.specs.declared.Answer.the-variants.{Done}
 use Rattle.answer.specs.Outcomes.{Outcome, done, refused, answerOf, outputOf}

@@ -1,13 +1,9 @@
 -- The cases of `Refusal`, by where they stand in the code's list of them.
 -- In order: tag; number-tag, number-most, most-fits, place-none; others.
 -- Assumes nothing.
-use mathlib.Core.Path.{_≡_, refl, sym, subst}
-use mathlib.Core.List.{List, _++_}
-use Prim.Native.Nat.{ℕ, suc, _-_, _≤_}
-use native.Mathlib.Omega.{arith}
+use Rattle.laws.proofs.All.{_≡_, refl, sym, subst, List, _++_, ℕ, suc, _-_, _≤_, arith, from}
 use denote.Enum.Declared.{tagOf}
 use borrow.Enum.Match.{tag-small}
-use Rattle.laws.specs.Lists.{from}
 use Rattle.answer.specs.declared.Refusal.{Refusal}
 use Rattle.answer.specs.declared.Refusal.the-variants.{Parameters, States, NoCode, TooHeavy, TooManyEdges}
 use Rattle.answer.specs.declared.Refusal.the-variants.{NoWindow, Field, Length, Disobeys, WindowFails}

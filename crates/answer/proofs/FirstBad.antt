@@ -2,18 +2,9 @@
 -- In order: bad-here, bad-later, bad-end, the first bad byte from a place on; bad-le; firstBad-below, below-firstBad;
 -- below-bad, below-done, allBelow-true, allBelow→.
 -- Assumes nothing.
-use mathlib.Core.Path.{_≡_, refl, ap, _∙_}
-use mathlib.Core.Bool.{Bool, true, false}
-use mathlib.Core.List.{List, [], _∷_}
-use Prim.Native.Nat.{ℕ, suc, _+_, _≤_, _<_}
-use native.Mathlib.Numerals.{add-one}
-use native.Mathlib.Omega.{arith}
-use borrow.Author.Tests.{lt-ltb, le-ltb, eq-eqb, ne-eqb}
-use lib.Dec.{ltb, eqb, ltb→lt, eqb→eq, eqb-refl}
-use lib.ListN.{length, drop, getD}
-use lib.Seq.{drop-cons, drop-length}
-use Rattle.laws.specs.Lists.{if_then_else_}
-use Rattle.laws.specs.Sums.{Below}
+use Rattle.laws.proofs.All.{_≡_, refl, ap, _∙_, Bool, true, false, List, [], _∷_, ℕ, suc, _+_, _≤_, _<_, add-one}
+use Rattle.laws.proofs.All.{arith, lt-ltb, le-ltb, eq-eqb, ne-eqb, ltb, eqb, ltb→lt, eqb→eq, eqb-refl, length, drop}
+use Rattle.laws.proofs.All.{getD, drop-cons, drop-length, if_then_else_, Below}
 use Rattle.answer.specs.declared.Refusal.the-variants.{BadByte}
 use Rattle.answer.specs.Outcomes.{done, refused, unless}
 use Rattle.answer.specs.FirstBad.{firstBad, allBelow}

@@ -2,12 +2,8 @@
 -- In order: done-inj, refused-not; unless-true, unless-false, unless→; onward→; said-good, said-bad; fitting-true,
 -- fitting→.
 -- Assumes nothing.
-use mathlib.Core.Path.{_≡_, refl, sym, ap, subst, _∙_}
-use mathlib.Core.Bool.{Bool, true, false}
-use mathlib.Core.List.{List}
-use Prim.Native.Nat.{ℕ, _≤_}
-use lib.Dec.{T, leb, leb→le, le→leb}
-use lib.ListN.{length}
+use Rattle.laws.proofs.All.{_≡_, refl, sym, ap, subst, _∙_, Bool, true, false, List, ℕ, _≤_, T, leb, leb→le, le→leb}
+use Rattle.laws.proofs.All.{length}
 use Rattle.answer.specs.declared.Refusal.{Refusal}
 use Rattle.answer.specs.declared.Refusal.the-variants.{ShortOutput}
 use Rattle.answer.specs.declared.Verdict.{Verdict}

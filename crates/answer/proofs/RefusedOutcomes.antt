@@ -1,14 +1,8 @@
 -- Laws of refused outcomes: which check the refusal comes from.
 -- In order: refused-inj; onward-refused; fitting-refused.
 -- Assumes nothing.
-use mathlib.Core.Path.{_≡_, refl, sym, ap}
-use mathlib.Core.Logic.{_⊎_, inl, inr}
-use mathlib.Core.Bool.{Bool, true, false}
-use mathlib.Core.List.{List}
-use Prim.Native.Nat.{ℕ, _<_}
-use lib.Dec.{leb}
-use lib.ListN.{length}
-use borrow.Author.Tests.{leb-false}
+use Rattle.laws.proofs.All.{_≡_, refl, sym, ap, _⊎_, inl, inr, Bool, true, false, List, ℕ, _<_, leb, length}
+use Rattle.laws.proofs.All.{leb-false}
 use Rattle.answer.specs.declared.Refusal.{Refusal}
 use Rattle.answer.specs.declared.Refusal.the-variants.{ShortOutput}
 use Rattle.answer.specs.Outcomes.{Outcome, done, refused, unless, onward, fitting}

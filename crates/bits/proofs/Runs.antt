@@ -1,15 +1,9 @@
 -- Parts put one behind the other among lent bits, and the bytes that they make.
 -- In order: spliced-next, run-next; same-bytes, bytes-in-front; size-holds.
 -- Assumes nothing.
-use mathlib.Core.Path.{_≡_, sym, ap, ap₂, _∙_}
-use mathlib.Core.List.{List, _++_, map}
-use Prim.Native.Nat.{ℕ, _+_, _*_, _/_, _≤_}
-use native.Mathlib.Omega.{arith}
-use lib.ListN.{length, drop, replicate, length-append, length-drop, length-replicate}
-use Rattle.laws.specs.Lists.{concat, range}
-use Rattle.laws.specs.Sums.{Below}
-use Rattle.laws.proofs.Lists.{sum-replicate, below-append, below-drop}
-use Rattle.laws.proofs.Ranges.{concat-more, length-run}
+use Rattle.laws.proofs.All.{_≡_, sym, ap, ap₂, _∙_, List, _++_, map, ℕ, _+_, _*_, _/_, _≤_, arith, length, drop}
+use Rattle.laws.proofs.All.{replicate, length-append, length-drop, length-replicate, concat, range, Below}
+use Rattle.laws.proofs.All.{sum-replicate, below-append, below-drop, concat-more, length-run}
 use Rattle.bits.specs.Fields.{read, write, bitsOf}
 use Rattle.bits.specs.Bytes.{spliced}
 use Rattle.bits.proofs.Fields.{write-read, read-back, length-read, fits-read, fits-bytes, fits-below}

@@ -1,12 +1,7 @@
 -- Bytes parse to a code exactly when they are the record of it, its fields are in range, and its table is accepted.
 -- In order: parse-exact; parse-canonical; check-exact.
 -- Assumes nothing.
-use mathlib.Core.Path.{_≡_, sym, ap, _∙_}
-use mathlib.Core.Logic.{_↔_}
-use mathlib.Core.List.{List, []}
-use Prim.Native.Nat.{ℕ}
-use lib.Dec.{T}
-use Rattle.laws.specs.Sums.{Below}
+use Rattle.laws.proofs.All.{_≡_, sym, ap, _∙_, _↔_, List, [], ℕ, T, Below}
 use Rattle.answer.specs.Outcomes.{done, onward}
 use Rattle.answer.proofs.Outcomes.{onward→}
 use Rattle.table.specs.Rows.{Code}

@@ -2,12 +2,7 @@
 -- In order: followable, near; judged-disobeys, judged-fails, judged-good; parse-read, parse-bad;
 -- check-bad, check-read.
 -- Assumes nothing.
-use mathlib.Core.Path.{_≡_, sym, _∙_, ap}
-use mathlib.Core.Bool.{true, false}
-use mathlib.Core.List.{List, []}
-use Prim.Native.Nat.{ℕ, _≤_}
-use native.Mathlib.Omega.{arith}
-use lib.Dec.{T}
+use Rattle.laws.proofs.All.{_≡_, sym, _∙_, ap, true, false, List, [], ℕ, _≤_, arith, T}
 use Rattle.answer.specs.declared.Refusal.{Refusal}
 use Rattle.answer.specs.declared.Refusal.the-variants.{Disobeys, WindowFails}
 use Rattle.answer.specs.declared.Answer.the-variants.{Done, Refused}

@@ -2,13 +2,7 @@
 -- constraint, or whose window fails.
 -- In order: fails; disobeys-exact, window-fails-exact; order.
 -- Assumes nothing.
-use mathlib.Core.Path.{_≡_, refl, sym, ap, subst, _∙_}
-use mathlib.Core.Logic.{_↔_}
-use mathlib.Core.Bool.{Bool, true, false}
-use mathlib.Core.List.{List}
-use Prim.Native.Nat.{ℕ}
-use lib.Dec.{T}
-use Rattle.laws.specs.Sums.{Below}
+use Rattle.laws.proofs.All.{_≡_, refl, sym, ap, subst, _∙_, _↔_, Bool, true, false, List, ℕ, T, Below}
 use Rattle.answer.specs.declared.Refusal.the-variants.{Disobeys, WindowFails}
 use Rattle.answer.specs.Outcomes.{done, refused, unless}
 use Rattle.answer.proofs.Outcomes.{unless-true, unless-false}

@@ -2,11 +2,7 @@
 -- are accepted hold.
 -- In order: parse-pack, parse-pack-good; parse-formed; Checked, parse-good.
 -- Assumes nothing.
-use mathlib.Core.Path.{_≡_, ap, subst, _∙_}
-use mathlib.Core.List.{List}
-use Prim.Native.Nat.{ℕ}
-use lib.Dec.{T}
-use Rattle.laws.specs.Sums.{Below}
+use Rattle.laws.proofs.All.{_≡_, ap, subst, _∙_, List, ℕ, T, Below}
 use Rattle.answer.specs.declared.Refusal.the-variants.{Disobeys, WindowFails}
 use Rattle.answer.specs.Outcomes.{done, unless, onward}
 use Rattle.answer.proofs.Outcomes.{done-inj, unless-true, unless→, onward→}

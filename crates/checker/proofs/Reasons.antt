@@ -1,13 +1,8 @@
 -- Every outcome of a record's bytes has its reason, in the order of the checks.
 -- In order: reason.
 -- Assumes nothing.
-use mathlib.Core.Path.{_≡_, refl, sym, subst}
-use mathlib.Core.Bool.{Bool, true, false}
-use mathlib.Core.List.{List}
-use Prim.Native.Nat.{ℕ}
-use lib.Dec.{T, leb, eqb}
-use lib.ListN.{length}
-use borrow.Author.Tests.{leb-true, leb-false, eqb-true, eqb-false}
+use Rattle.laws.proofs.All.{_≡_, refl, sym, subst, Bool, true, false, List, ℕ, T, leb, eqb, length, leb-true}
+use Rattle.laws.proofs.All.{leb-false, eqb-true, eqb-false}
 use Rattle.answer.specs.declared.Refusal.the-variants.{Field, Length, Disobeys, WindowFails}
 use Rattle.answer.specs.Outcomes.{done, unless, onward}
 use Rattle.bits.specs.Fields.{bitsOf}

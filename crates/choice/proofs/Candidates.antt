@@ -1,19 +1,10 @@
 -- The candidates of a split, as keys.
 -- In order: first-filter, same-key; light-at; others-keys; candidates-keys.
 -- Assumes nothing.
-use mathlib.Core.Path.{_≡_, refl, sym, ap, _∙_}
-use mathlib.Core.Bool.{Bool, true, false, not, _&&_, _||_}
-use mathlib.Core.List.{List, [], _∷_, map}
-use Prim.Native.Nat.{ℕ, zero, suc, _-_, _%_, _≤_, _<_}
-use native.Mathlib.Omega.{arith}
-use borrow.Author.Tests.{lt-ltb, ne-eqb}
-use lib.Dec.{T, ltb, eqb}
-use lib.ListN.{length, getD, take}
-use lib.Seq.{getD-take}
-use Rattle.laws.specs.Lists.{filter, any, first}
-use Rattle.laws.proofs.Sums.{each-map, each-always}
-use Rattle.laws.proofs.Tests.{T→true}
-use Rattle.laws.proofs.Anys.{any-map}
+use Rattle.laws.proofs.All.{_≡_, refl, sym, ap, _∙_, Bool, true, false, not, _&&_, _||_, List, [], _∷_, map, ℕ}
+use Rattle.laws.proofs.All.{zero, suc, _-_, _%_, _≤_, _<_, arith, lt-ltb, ne-eqb, T, ltb, eqb, length, getD, take}
+use Rattle.laws.proofs.All.{getD-take, filter, any, first, each-map, each-always, T→true, any-map, first-yes}
+use Rattle.laws.proofs.All.{first-no, map-take, filter-same, filter-map}
 use Rattle.graph.specs.declared.Graph.{Graph}
 use Rattle.order.specs.declared.keys.Keys.{Keys}
 use Rattle.graph.specs.Arcs.{arc, out}
@@ -23,8 +14,6 @@ use Rattle.order.specs.EdgeKeys.{arcOf, keysFrom, admitted, firstKeys, keysIn}
 use Rattle.graph.proofs.Candidates.{any-sort}
 use Rattle.order.proofs.KeptKeys.{same-arcs}
 use Rattle.order.proofs.EdgeOrder.{sort-keys, keys-small, weights-small}
-use Rattle.laws.proofs.Firsts.{first-yes, first-no}
-use Rattle.laws.proofs.Maps.{map-take, filter-same, filter-map}
 
 -- the first that passes, of a list with one that does
 first-filter : {A B : Type 0} (p : B → Bool) (d : B) (f : A → B) (e : A) (l : List A) → any (λ x. p (f x)) l ≡ true

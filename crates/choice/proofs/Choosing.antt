@@ -1,24 +1,14 @@
 -- The greatest weight and the state to split, each by one loop.
 -- In order: greatest-more; Lowest, the lowest source of an edge that passes; lowest-none, lowest-more; choose-is.
 -- Assumes nothing.
-use mathlib.Core.Path.{_≡_, refl, sym, ap, subst, _∙_}
-use mathlib.Core.Logic.{_⊎_, inl, inr}
-use mathlib.Core.Bool.{Bool, true, false, _&&_}
-use mathlib.Core.List.{List, [], _∷_, _++_, map}
-use Prim.Native.Nat.{ℕ, _+_, _≤_, _<_, max, min}
-use native.Mathlib.Omega.{arith}
-use native.Mathlib.Decide.{ℕ-discrete}
-use lib.Dec.{T, ltb, eqb, eqb→eq, eqb-refl}
-use lib.ListN.{length, getD}
-use Rattle.laws.specs.Lists.{if_then_else_, range, any}
-use Rattle.laws.proofs.Tests.{and→, →and, any→, →any, any-below→, T→true, map-range-at}
-use Rattle.laws.proofs.Anys.{any-filter}
+use Rattle.laws.proofs.All.{_≡_, refl, sym, ap, subst, _∙_, _⊎_, inl, inr, Bool, true, false, _&&_, List, [], _∷_}
+use Rattle.laws.proofs.All.{_++_, map, ℕ, _+_, _≤_, _<_, max, min, arith, ℕ-discrete, T, ltb, eqb, eqb→eq, eqb-refl}
+use Rattle.laws.proofs.All.{length, getD, if_then_else_, range, any, and→, →and, any→, →any, any-below→, T→true}
+use Rattle.laws.proofs.All.{map-range-at, any-filter, length-map-range, map-range-more, first-least}
 use Rattle.graph.specs.declared.Graph.{Graph}
 use Rattle.graph.specs.Arcs.{arc, leaves, out}
 use Rattle.graph.specs.Splitting.{greatest, lighter, splittable, chosen}
 use Rattle.graph.specs.Value.{arcAt, arcsIn, weightAt, weightsIn, Fits}
-use Rattle.laws.proofs.Ranges.{length-map-range, map-range-more}
-use Rattle.laws.proofs.Firsts.{first-least}
 
 greatest-snoc : (l : List ℕ) (x : ℕ) → greatest (l ++ (x ∷ [])) ≡ max (greatest l) x
 greatest-snoc [] x = omega arith

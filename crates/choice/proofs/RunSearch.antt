@@ -2,26 +2,15 @@
 -- In order: Summed, what holds after i places; summed-none, summed-more; run-found, run-none; first-found,
 -- first-nowhere.
 -- Assumes nothing.
-use mathlib.Core.Path.{_≡_, refl, sym, ap, ap₂, _∙_}
-use mathlib.Core.Bool.{false}
-use mathlib.Core.List.{List, [], _∷_, map}
-use Prim.Native.Nat.{ℕ, suc, _+_, _-_, _*_, _%_, _≤_, _<_}
-use native.Mathlib.Numerals.{add-one}
-use native.Mathlib.Omega.{arith}
-use borrow.Author.Count.{below-more}
-use borrow.Author.Tests.{eq-eqb, ne-eqb}
-use lib.ListN.{length, getD, take, drop, length-map}
-use lib.Seq.{drop-cons, getD-take, length-take-le}
-use Rattle.laws.specs.Lists.{sum, any}
-use Rattle.laws.proofs.Tests.{map-range-at}
+use Rattle.laws.proofs.All.{_≡_, refl, sym, ap, ap₂, _∙_, false, List, [], _∷_, map, ℕ, suc, _+_, _-_, _*_, _%_}
+use Rattle.laws.proofs.All.{_≤_, _<_, add-one, arith, below-more, eq-eqb, ne-eqb, length, getD, take, drop}
+use Rattle.laws.proofs.All.{length-map, drop-cons, getD-take, length-take-le, sum, any, map-range-at, any-false}
+use Rattle.laws.proofs.All.{length-map-range, first-at, first-part, first-none, map-take, map-drop}
 use Rattle.choice.specs.declared.find_run.Run.{Run}
 use Rattle.graph.specs.Arcs.{Arc}
 use Rattle.graph.specs.Weights.{weight, total}
 use Rattle.graph.specs.Splitting.{stretch, runsTo, divisible}
 use Rattle.choice.specs.ChoiceParts.{RunTo, FirstRun}
-use Rattle.laws.proofs.Ranges.{any-false, length-map-range}
-use Rattle.laws.proofs.Firsts.{first-at, first-part, first-none}
-use Rattle.laws.proofs.Maps.{map-take, map-drop}
 
 -- the sum of the run of i + 1 weights that ends at place j
 abbrev pub stretchSum : List ℕ → ℕ → ℕ → ℕ

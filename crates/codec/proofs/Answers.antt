@@ -1,14 +1,8 @@
 -- Demand 2, second half, of the outcomes of encoding and decoding under a code: round trip, and recordings recognised.
 -- In order: words-below; →encoded, encoded→, →decoded; returns; recognised-answers.
 -- Assumes nothing.
-use mathlib.Core.Path.{_≡_, sym, ap, subst, _∙_}
-use mathlib.Core.Logic.{_↔_}
-use mathlib.Core.List.{List, _++_}
-use Prim.Native.Nat.{ℕ, _+_, _-_, _^_, _≤_}
-use native.Mathlib.Omega.{arith}
-use lib.Dec.{leb, le→leb, leb→le}
-use lib.ListN.{length}
-use Rattle.laws.specs.Sums.{Below}
+use Rattle.laws.proofs.All.{_≡_, sym, ap, subst, _∙_, _↔_, List, _++_, ℕ, _+_, _-_, _^_, _≤_, arith, leb, le→leb}
+use Rattle.laws.proofs.All.{leb→le, length, Below}
 use Rattle.answer.specs.declared.Refusal.the-variants.{TooFewWords, ShortOutput}
 use Rattle.answer.specs.Outcomes.{done, unless}
 use Rattle.answer.specs.FirstBad.{allBelow}

@@ -1,30 +1,18 @@
 -- A block that stands clear is read as it was recorded, whatever the rest of the list holds.
 -- In order: same-reading, cut-before, cut-at, cut-ahead, closed-blocks, recovered.
 -- Assumes nothing.
-use mathlib.Core.Path.{_≡_, refl, sym, ap, subst, _∙_}
-use mathlib.Core.Logic.{inl, inr, _⊎_}
-use mathlib.Core.Bool.{Bool, true}
-use mathlib.Core.List.{List, [], _∷_, _++_}
-use Prim.Native.Nat.{ℕ, suc, _+_, _-_, _^_, _≤_, _<_}
-use native.Mathlib.Nat.{le-refl, sub-self}
-use native.Mathlib.Omega.{arith}
-use lib.Dec.{T}
-use borrow.Author.Tests.{lt-ltb, le-ltb}
-use lib.ListN.{length, getD, take, drop, length-drop, List·getD-append}
-use lib.Seq.{length-take-le, take-take, drop-drop, getD-take, getD-drop}
-use lib.Pow.{pow-pos}
-use Rattle.laws.specs.Lists.{if_then_else_}
-use Rattle.laws.proofs.Tests.{map-range-at, tab→, →tab}
+use Rattle.laws.proofs.All.{_≡_, refl, sym, ap, subst, _∙_, inl, inr, _⊎_, Bool, true, List, [], _∷_, _++_, ℕ, suc}
+use Rattle.laws.proofs.All.{_+_, _-_, _^_, _≤_, _<_, le-refl, sub-self, arith, T, lt-ltb, le-ltb, length, getD}
+use Rattle.laws.proofs.All.{take, drop, length-drop, List·getD-append, length-take-le, take-take, drop-drop}
+use Rattle.laws.proofs.All.{getD-take, getD-drop, pow-pos, if_then_else_, map-range-at, tab→, →tab, Below, member}
+use Rattle.laws.proofs.All.{below-zeros, drop-take, below-append}
 use Rattle.table.specs.Rows.{Rows, edges, at, Code}
-use Rattle.laws.specs.Sums.{Below}
 use Rattle.table.specs.Paths.{Blocks, spells, recording, ends, Closed, closing}
 use Rattle.stepping.specs.StateSets.{alongAll, oneState, everyState}
 use Rattle.reading.specs.Reading.{decode, block, reading}
-use Rattle.laws.specs.Sets.{member}
 use Rattle.windows.proofs.Same.{AgreeSame}
 use Rattle.codec.proofs.Reading.{Reads, reads-take, reads-drop, reads-end, one→, →one, at-place}
 use Rattle.codec.specs.Damage.{StandsClear}
-use Rattle.laws.proofs.Lists.{below-zeros, drop-take, below-append}
 use Rattle.checker.specs.Accepted.{Sound}
 use Rattle.windows.proofs.Window.{window→same}
 

@@ -1,12 +1,7 @@
 -- Decoding under a table by value, with the number of data that the code has computed.
 -- In order: length-decode, decoded-in.
 -- Assumes nothing.
-use mathlib.Core.Path.{_≡_, sym, ap, _∙_}
-use mathlib.Core.List.{List, _++_, map}
-use Prim.Native.Nat.{ℕ, _-_, _^_}
-use lib.ListN.{length, length-map}
-use Rattle.laws.specs.Lists.{range}
-use Rattle.laws.proofs.Tests.{length-from}
+use Rattle.laws.proofs.All.{_≡_, sym, ap, _∙_, List, _++_, map, ℕ, _-_, _^_, length, length-map, range, length-from}
 use Rattle.table.specs.declared.Table.{Table}
 use Rattle.table.specs.Rows.{Code}
 use Rattle.table.specs.Value.{codeIn}

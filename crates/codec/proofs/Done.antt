@@ -2,12 +2,7 @@
 -- the calls that do not look at 9 and 10 answer as those that do.
 -- In order: encodes, decodes; loaded; fields-too, checked.
 -- Assumes nothing.
-use mathlib.Core.Path.{_≡_, sym, ap, _∙_}
-use mathlib.Core.List.{List, []}
-use Prim.Native.Nat.{ℕ, _+_, _-_, _^_, _≤_}
-use lib.Dec.{T}
-use lib.ListN.{length}
-use Rattle.laws.specs.Sums.{Below}
+use Rattle.laws.proofs.All.{_≡_, sym, ap, _∙_, List, [], ℕ, _+_, _-_, _^_, _≤_, T, length, Below}
 use Rattle.answer.specs.declared.Refusal.the-variants.{Field, Disobeys, WindowFails}
 use Rattle.answer.specs.Outcomes.{done, unless, onward}
 use Rattle.answer.proofs.Outcomes.{unless-true, unless→, onward→}

@@ -1,11 +1,7 @@
 -- Encoding and decoding under the record in some bytes, once the record is read or loaded: o is what that came to.
 -- In order: handed; under-bad; encode-read, decode-read.
 -- Assumes nothing.
-use mathlib.Core.Path.{_≡_, sym, ap, _∙_}
-use mathlib.Core.List.{List}
-use Prim.Native.Nat.{ℕ}
-use lib.Dec.{T}
-use Rattle.laws.proofs.Tests.{T→true}
+use Rattle.laws.proofs.All.{_≡_, sym, ap, _∙_, List, ℕ, T, T→true}
 use Rattle.answer.specs.declared.Refusal.{Refusal}
 use Rattle.answer.specs.declared.Refusal.the-variants.{Field}
 use Rattle.answer.specs.declared.Answer.{Answer}

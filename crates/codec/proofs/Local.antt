@@ -1,14 +1,8 @@
 -- The reading of a block depends on its window of words alone.
 -- In order: readWindow; block-later, block-early; block-local, block-local-start.
 -- Assumes nothing.
-use mathlib.Core.Path.{_≡_, sym, ap, subst, _∙_}
-use mathlib.Core.Bool.{Bool}
-use mathlib.Core.List.{List}
-use Prim.Native.Nat.{ℕ, suc, _+_, _-_, _≤_, _<_}
-use native.Mathlib.Omega.{arith}
-use lib.ListN.{getD, take, drop}
-use borrow.Author.Tests.{lt-ltb, le-ltb}
-use Rattle.laws.specs.Lists.{if_then_else_}
+use Rattle.laws.proofs.All.{_≡_, sym, ap, subst, _∙_, Bool, List, ℕ, suc, _+_, _-_, _≤_, _<_, arith, getD, take}
+use Rattle.laws.proofs.All.{drop, lt-ltb, le-ltb, if_then_else_}
 use Rattle.table.specs.Rows.{Rows, Code}
 use Rattle.stepping.specs.StateSets.{everyState, oneState, alongAll}
 use Rattle.reading.specs.Reading.{reading, block}

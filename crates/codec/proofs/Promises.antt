@@ -1,12 +1,7 @@
 -- Demands 2 and 3 from bytes to bytes: of the record's bytes, the blocks and the words.
 -- In order: demand-2-returns; demand-2-recognised; demand-3; different-data.
 -- Assumes nothing.
-use mathlib.Core.Path.{_≡_, sym, ap, _∙_}
-use mathlib.Core.Logic.{_↔_}
-use mathlib.Core.List.{List}
-use Prim.Native.Nat.{ℕ, _-_, _^_, _≤_, _<_}
-use lib.ListN.{length, getD}
-use Rattle.laws.specs.Sums.{Below}
+use Rattle.laws.proofs.All.{_≡_, sym, ap, _∙_, _↔_, List, ℕ, _-_, _^_, _≤_, _<_, length, getD, Below}
 use Rattle.answer.specs.Outcomes.{done, onward}
 use Rattle.answer.proofs.Outcomes.{onward→}
 use Rattle.table.specs.Rows.{Code}

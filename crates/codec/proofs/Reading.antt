@@ -2,24 +2,16 @@
 -- In order: Reads, reads-length, reads-same, reads-append, reads-take, reads-drop, alongAll→, →alongAll, reads-end,
 -- able→, →able, one→, →one, stretch, at-place, one-reading.
 -- Assumes nothing.
-use mathlib.Core.Path.{_≡_, refl, sym, ap, subst, subst₂, _∙_}
-use mathlib.Core.Bool.{Bool, true, _&&_}
-use mathlib.Core.List.{List, [], _∷_, _++_}
-use Prim.Native.Nat.{ℕ, zero, suc, _-_, _<_}
-use native.Mathlib.Omega.{arith}
-use lib.Dec.{T, eqb, eqb→eq, eqb-refl}
-use lib.ListN.{length, getD, take, drop, length-drop}
-use lib.Seq.{drop-cons, length-take-le}
-use Rattle.laws.specs.Lists.{range, any, elem}
-use Rattle.laws.proofs.Tests.{and→, →and, →any, any→, any-below→, →any-below, →orL, tab→, →tab}
+use Rattle.laws.proofs.All.{_≡_, refl, sym, ap, subst, subst₂, _∙_, Bool, true, _&&_, List, [], _∷_, _++_, ℕ, zero}
+use Rattle.laws.proofs.All.{suc, _-_, _<_, arith, T, eqb, eqb→eq, eqb-refl, length, getD, take, drop, length-drop}
+use Rattle.laws.proofs.All.{drop-cons, length-take-le, range, any, elem, and→, →and, →any, any→, any-below→}
+use Rattle.laws.proofs.All.{→any-below, →orL, tab→, →tab, member, any-map, any-concat, elem-filter, →elem-filter}
+use Rattle.laws.proofs.All.{elem-range}
 use Rattle.table.specs.Rows.{edge, Rows, edges, at}
 use Rattle.table.specs.Paths.{ends, Closed}
 use Rattle.stepping.specs.StateSets.{leads, along, alongAll, oneState, able, enters}
 use Rattle.reading.specs.Reading.{readings, readingsOf, reading}
-use Rattle.laws.specs.Sets.{member}
-use Rattle.laws.proofs.Anys.{any-map, any-concat}
 use Rattle.windows.proofs.Same.{Same, AgreeSame}
-use Rattle.laws.proofs.Elems.{elem-filter, →elem-filter, elem-range}
 
 -- ---- a path by its data and its words
 abbrev pub Reads : Rows → ℕ → List ℕ → List ℕ → Type 0

@@ -1,17 +1,8 @@
 -- Under a sound table decoding a recording gives its data, and the lists that are recordings are recognised.
 -- In order: length-decode; clear-self; decode-recording; recognised; recording-inj.
 -- Assumes nothing.
-use mathlib.Core.Path.{_≡_, refl, sym, ap, _∙_}
-use mathlib.Core.Logic.{inl, inr, _↔_}
-use mathlib.Core.List.{List}
-use Prim.Native.Nat.{ℕ, _+_, _-_, _≤_, _<_}
-use native.Mathlib.Omega.{arith}
-use native.Mathlib.Decide.{decLt}
-use lib.ListN.{length, length-map}
-use lib.Seq.{ext-getD}
-use Rattle.laws.specs.Lists.{range}
-use Rattle.laws.proofs.Tests.{length-from}
-use Rattle.laws.proofs.Lists.{getD-any}
+use Rattle.laws.proofs.All.{_≡_, refl, sym, ap, _∙_, inl, inr, _↔_, List, ℕ, _+_, _-_, _≤_, _<_, arith, decLt}
+use Rattle.laws.proofs.All.{length, length-map, ext-getD, range, length-from, getD-any}
 use Rattle.table.specs.Rows.{Code}
 use Rattle.table.specs.Paths.{Blocks, recording}
 use Rattle.checker.specs.Accepted.{Sound}

@@ -2,14 +2,8 @@
 -- In order: declined, finished, an outcome as the code answers it; encode-7 to encode-done; decode-7 to
 -- decode-done.
 -- Assumes nothing.
-use mathlib.Core.Path.{_≡_, sym, ap, _∙_}
-use mathlib.Core.Bool.{true, false}
-use mathlib.Core.List.{List, _++_}
-use Prim.Native.Nat.{ℕ, _+_, _-_, _^_, _≤_, _<_}
-use native.Mathlib.Omega.{arith}
-use borrow.Author.Tests.{lt-leb, le-leb}
-use lib.Dec.{leb}
-use lib.ListN.{length, drop}
+use Rattle.laws.proofs.All.{_≡_, sym, ap, _∙_, true, false, List, _++_, ℕ, _+_, _-_, _^_, _≤_, _<_, arith, lt-leb}
+use Rattle.laws.proofs.All.{le-leb, leb, length, drop}
 use Rattle.answer.specs.declared.Refusal.{Refusal}
 use Rattle.answer.specs.declared.Refusal.the-variants.{Field, BadByte, TooFewWords, ShortOutput}
 use Rattle.answer.specs.declared.Answer.the-variants.{Done, Refused}

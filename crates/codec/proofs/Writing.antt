@@ -2,14 +2,10 @@
 -- In order: Writes, the words of a path written so far, with writes-start, writes-more, writes-end; recorded,
 -- recorded-in, blocks and closing words.
 -- Assumes nothing.
-use mathlib.Core.Path.{_≡_, refl, sym, ap, ap₂, _∙_}
-use mathlib.Core.List.{List, [], _∷_, _++_, append-assoc, append-nil}
-use Prim.Native.Nat.{ℕ, _+_, _-_, _*_, _^_, _≤_, _<_}
-use native.Mathlib.Numerals.{add-one}
-use native.Mathlib.Omega.{arith}
-use lib.ListN.{length, take, drop, getD, set, length-set, length-append}
-use lib.Seq.{take-suc, take-all, take-at, drop-at, drop-drop, length-take-le}
-use Rattle.laws.proofs.Arrays.{put-more}
+use Rattle.laws.proofs.All.{_≡_, refl, sym, ap, ap₂, _∙_, List, [], _∷_, _++_, append-assoc, append-nil, ℕ, _+_}
+use Rattle.laws.proofs.All.{_-_, _*_, _^_, _≤_, _<_, add-one, arith, length, take, drop, getD, set, length-set}
+use Rattle.laws.proofs.All.{length-append, take-suc, take-all, take-at, drop-at, drop-drop, length-take-le}
+use Rattle.laws.proofs.All.{put-more}
 use Rattle.table.specs.declared.Table.{Table}
 use Rattle.table.specs.Rows.{Rows, at}
 use Rattle.table.specs.Paths.{ends, spells, closing, recording}

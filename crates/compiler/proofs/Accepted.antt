@@ -1,19 +1,9 @@
 -- The compiler's code passes the checker: its fields are in range, every recording obeys, its window works.
 -- In order: Made, made; made-formed; made-obeys; window-found; compiled-code; compile-parses; compiled-ready.
 -- Assumes nothing.
-use mathlib.Core.Path.{_≡_, sym, ap, subst, _∙_}
-use mathlib.Core.Logic.{inl, inr}
-use mathlib.Core.Bool.{_&&_}
-use mathlib.Core.List.{[]}
-use Prim.Native.Nat.{ℕ, zero, _^_, _≤_, _<_}
-use native.Mathlib.Nat.{le-trans}
-use native.Mathlib.Omega.{arith}
-use lib.Dec.{T, ltb, leb, eqb, lt→ltb, le→leb, eqb-refl}
-use lib.ListN.{length, getD}
-use Rattle.laws.specs.Lists.{sum, all}
-use Rattle.laws.specs.Sums.{Each}
-use Rattle.laws.proofs.Tests.{→and, →orL, →orR, →all}
-use Rattle.laws.proofs.Elems.{each-at}
+use Rattle.laws.proofs.All.{_≡_, sym, ap, subst, _∙_, inl, inr, _&&_, [], ℕ, zero, _^_, _≤_, _<_, le-trans, arith}
+use Rattle.laws.proofs.All.{T, ltb, leb, eqb, lt→ltb, le→leb, eqb-refl, length, getD, sum, all, Each, →and, →orL}
+use Rattle.laws.proofs.All.{→orR, →all, each-at}
 use Rattle.answer.specs.Outcomes.{done}
 use Rattle.constraint.specs.Walking.{Constraint, none, nowhere, walk, Target}
 use Rattle.table.specs.Rows.{edge, Rows, edges, at, Code}

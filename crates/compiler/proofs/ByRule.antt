@@ -1,13 +1,7 @@
 -- The component that compiling takes and every split that it makes go by the rule.
 -- In order: component; component-inv; each-split, last-split, splits-by-rule.
 -- Assumes nothing.
-use mathlib.Core.Path.{_≡_}
-use mathlib.Core.Bool.{false}
-use Prim.Native.Nat.{ℕ, suc, _<_}
-use lib.Dec.{T}
-use lib.ListN.{length, getD}
-use Rattle.laws.specs.Lists.{sum}
-use Rattle.laws.proofs.Tests.{T→true, bool-eq}
+use Rattle.laws.proofs.All.{_≡_, false, ℕ, suc, _<_, T, length, getD, sum, T→true, bool-eq}
 use Rattle.graph.specs.Arcs.{out}
 use Rattle.graph.specs.Component.{within, live, componentStates}
 use Rattle.graph.specs.Splitting.{sort, chosen, candidates, kept, split, goesOn, splits}

@@ -2,20 +2,9 @@
 -- In order: Reason, reason; ways-pos; weighs-nothing, no-vector, vector-none; compile-none, no-code-exact;
 -- greatest-vector.
 -- Assumes nothing.
-use mathlib.Core.Path.{_≡_, refl, subst, _∙_}
-use mathlib.Core.Logic.{_↔_}
-use mathlib.Core.Bool.{Bool, true, false, not}
-use mathlib.Core.List.{List}
-use Prim.Native.Nat.{ℕ, _≤_, _<_}
-use native.Mathlib.Omega.{arith}
-use native.Mathlib.Decide.{decLt}
-use lib.Dec.{ltb, leb}
-use lib.Pow.{pow-pos}
-use native.Mathlib.Nat.{le-of-eq}
-use lib.ListN.{length, getD, List·getD-eq-default}
-use borrow.Author.Tests.{ltb-true, ltb-false, leb-true, leb-false}
-use Rattle.laws.specs.Lists.{sum}
-use Rattle.laws.proofs.Sums.{tot-zero, tot-eq, each-always}
+use Rattle.laws.proofs.All.{_≡_, refl, subst, _∙_, _↔_, Bool, true, false, not, List, ℕ, _≤_, _<_, arith, decLt}
+use Rattle.laws.proofs.All.{ltb, leb, pow-pos, le-of-eq, length, getD, List·getD-eq-default, ltb-true, ltb-false}
+use Rattle.laws.proofs.All.{leb-true, leb-false, sum, tot-zero, tot-eq, each-always}
 use Rattle.answer.specs.declared.Refusal.the-variants.{NoCode, TooHeavy, TooManyEdges, NoWindow}
 use Rattle.answer.specs.Outcomes.{Outcome, done, refused, unless}
 use Rattle.answer.proofs.Outcomes.{unless-false}

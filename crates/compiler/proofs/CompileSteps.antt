@@ -2,17 +2,9 @@
 -- In order: compile-heavy, compile-crowded, compile-table; crowded-stays; has-states, held-powers,
 -- held-component; begun-splits, begun-crowded, begun-room, begun-short, begun-work, begun-finished.
 -- Assumes nothing.
-use mathlib.Core.Path.{_≡_, sym, ap, ap₂, subst, _∙_}
-use mathlib.Core.Bool.{Bool, true, false, not, _&&_}
-use mathlib.Core.List.{List, [], _∷_}
-use Prim.Native.Nat.{ℕ, zero, suc, _+_, _*_, _^_, _≤_, _<_}
-use native.Mathlib.Omega.{arith}
-use borrow.Author.Tests.{lt-ltb, le-leb, lt-leb, ltb-false}
-use lib.Dec.{ltb, leb}
-use lib.ListN.{length, getD, length-map}
-use lib.Pow.{pow-mono}
-use Rattle.laws.specs.Lists.{sum, range}
-use Rattle.laws.proofs.Tests.{length-from}
+use Rattle.laws.proofs.All.{_≡_, sym, ap, ap₂, subst, _∙_, Bool, true, false, not, _&&_, List, [], _∷_, ℕ, zero}
+use Rattle.laws.proofs.All.{suc, _+_, _*_, _^_, _≤_, _<_, arith, lt-ltb, le-leb, lt-leb, ltb-false, ltb, leb}
+use Rattle.laws.proofs.All.{length, getD, length-map, pow-mono, sum, range, length-from, inl}
 use Rattle.answer.specs.declared.Refusal.{Refusal}
 use Rattle.answer.specs.declared.Refusal.the-variants.{NoCode, TooHeavy, TooManyEdges, NoWindow}
 use Rattle.answer.specs.Outcomes.{Outcome, done, refused, unless}
@@ -23,7 +15,6 @@ use Rattle.constraint.specs.PowerTable.{powerCodes, codeOf, powerTable}
 use Rattle.constraint.proofs.Walking.{walk-target}
 use Rattle.constraint.proofs.Values.{length-constraintOf}
 use Rattle.constraint.proofs.PowerTable.{codes-at, length-power}
-use mathlib.Core.Logic.{inl}
 use Rattle.table.specs.Rows.{at}
 use Rattle.windows.specs.Search.{window}
 use Rattle.graph.specs.declared.Graph.{Graph}

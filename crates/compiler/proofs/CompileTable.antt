@@ -1,13 +1,8 @@
 -- The table that compiling in code makes, and its window.
 -- In order: tableBy, table-rows, table-ready, table-code; windowed-none, windowed-found, whole-with.
 -- Assumes nothing.
-use mathlib.Core.Path.{_≡_, sym, ap, ap₂, subst, _∙_}
-use mathlib.Core.Bool.{Bool, true, false}
-use Prim.Native.Nat.{ℕ, _^_, _≤_, _<_}
-use native.Mathlib.Omega.{arith}
-use borrow.Author.Tests.{le-leb, lt-leb}
-use lib.Dec.{leb}
-use lib.ListN.{length}
+use Rattle.laws.proofs.All.{_≡_, sym, ap, ap₂, subst, _∙_, Bool, true, false, ℕ, _^_, _≤_, _<_, arith, le-leb}
+use Rattle.laws.proofs.All.{lt-leb, leb, length}
 use Rattle.answer.specs.declared.Refusal.the-variants.{NoWindow}
 use Rattle.answer.specs.Outcomes.{Outcome, done, refused, unless}
 use Rattle.answer.proofs.Outcomes.{unless-false}

@@ -2,17 +2,10 @@
 -- when all weights are 0.
 -- In order: live-some, first-inv, states-few, table-coded, none-weighs.
 -- Assumes nothing.
-use mathlib.Core.Path.{_≡_, refl, sym, ap, _∙_}
-use mathlib.Core.List.{List, [], _∷_}
-use Prim.Native.Nat.{ℕ, zero, suc, _≤_, _<_, zero-le, suc-le-suc}
-use native.Mathlib.Nat.{le-refl, le-trans, le-of-eq}
-use native.Mathlib.Omega.{arith}
-use lib.Dec.{T, lt→ltb}
-use lib.ListN.{length, getD, length-map}
-use Rattle.laws.specs.Lists.{from, range, sum, elem, indexOf}
-use Rattle.laws.proofs.Tests.{length-from}
-use Rattle.laws.specs.Sums.{Each}
-use Rattle.laws.proofs.Sums.{each-map, each-both, each-filter, each-image, tot-length, tot-some}
+use Rattle.laws.proofs.All.{_≡_, refl, sym, ap, _∙_, List, [], _∷_, ℕ, zero, suc, _≤_, _<_, zero-le, suc-le-suc}
+use Rattle.laws.proofs.All.{le-refl, le-trans, le-of-eq, arith, T, lt→ltb, length, getD, length-map, from, range}
+use Rattle.laws.proofs.All.{sum, elem, indexOf, length-from, Each, each-map, each-both, each-filter, each-image}
+use Rattle.laws.proofs.All.{tot-length, tot-some, each-elem, →elem-filter, elem-range, at-index, tot-filter-le}
 use Rattle.graph.specs.Invariant.{Inside, Inv}
 use Rattle.graph.specs.Arcs.{Arc, Work, power, Reads}
 use Rattle.graph.specs.Weights.{weights}
@@ -21,7 +14,6 @@ use Rattle.constraint.specs.Walking.{Constraint, Well}
 use Rattle.graph.specs.Component.{both, within, renamed, weighs, live, componentStates, componentGraph}
 use Rattle.finish.specs.TableOf.{tableStates, tableOf}
 use Rattle.graph.proofs.Weights.{weights-length, weights-enough, enough-total}
-use Rattle.laws.proofs.Elems.{each-elem, →elem-filter, elem-range, at-index, tot-filter-le}
 use Rattle.graph.proofs.Found.{started-inv, start-C, in-both, v′-length}
 use Rattle.graph.proofs.Power.{power-distinct, power-reads, power-inside}
 use Rattle.graph.proofs.Roots.{Rooted, splits-rooted}

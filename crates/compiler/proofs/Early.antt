@@ -1,15 +1,8 @@
 -- Reading a job of either kind is refused with 1, 2 or 8 only.
 -- In order: Early; unless-early, done-early; read-early, run-length-early.
 -- Assumes nothing.
-use mathlib.Core.Path.{_≡_, refl, sym, subst}
-use mathlib.Core.Logic.{_⊎_, inl, inr}
-use mathlib.Core.Bool.{Bool, true, false, _&&_}
-use mathlib.Core.List.{List}
-use Prim.Native.Nat.{ℕ, _+_, _*_, _<_}
-use native.Mathlib.Omega.{arith}
-use lib.Dec.{leb, eqb}
-use lib.ListN.{length, getD, drop}
-use Rattle.laws.specs.Lists.{all}
+use Rattle.laws.proofs.All.{_≡_, refl, sym, subst, _⊎_, inl, inr, Bool, true, false, _&&_, List, ℕ, _+_, _*_, _<_}
+use Rattle.laws.proofs.All.{arith, leb, eqb, length, getD, drop, all}
 use Rattle.answer.specs.declared.Refusal.{Refusal}
 use Rattle.answer.specs.declared.Refusal.the-variants.{Parameters, States, Length}
 use Rattle.answer.specs.Refusals.{numberOf}

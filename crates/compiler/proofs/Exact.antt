@@ -2,16 +2,8 @@
 -- In order: weighs-some; window-small, compile-done; not-none; heavy-exact, crowded-exact, window-exact; not-short;
 -- refusals.
 -- Assumes nothing.
-use mathlib.Core.Path.{_≡_, sym, ap, subst, _∙_}
-use mathlib.Core.Logic.{inl, inr, _↔_}
-use mathlib.Core.List.{List}
-use Prim.Native.Nat.{ℕ, _≤_, _<_}
-use native.Mathlib.Omega.{arith}
-use native.Mathlib.Decide.{decLt}
-use lib.Dec.{leb, le→leb}
-use borrow.Author.Tests.{le-ltb, lt-ltb}
-use lib.ListN.{length, getD}
-use Rattle.laws.specs.Lists.{sum}
+use Rattle.laws.proofs.All.{_≡_, sym, ap, subst, _∙_, inl, inr, _↔_, List, ℕ, _≤_, _<_, arith, decLt, leb, le→leb}
+use Rattle.laws.proofs.All.{le-ltb, lt-ltb, length, getD, sum}
 use Rattle.answer.specs.declared.Refusal.{Refusal}
 use Rattle.answer.specs.declared.Refusal.the-variants.{NoCode, TooHeavy, TooManyEdges, NoWindow, ShortOutput}
 use Rattle.answer.specs.Refusals.{numberOf}

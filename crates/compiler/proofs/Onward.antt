@@ -1,11 +1,7 @@
 -- A reading that goes on: what the next stage comes to after a verdict.
 -- In order: read-bad, read-done; ends-bad, goes-on, goes-packed.
 -- Assumes nothing.
-use mathlib.Core.Path.{_≡_, sym, ap, _∙_}
-use mathlib.Core.List.{List}
-use Prim.Native.Nat.{ℕ}
-use lib.Dec.{T}
-use lib.ListN.{length}
+use Rattle.laws.proofs.All.{_≡_, sym, ap, _∙_, List, ℕ, T, length}
 use Rattle.answer.specs.declared.Refusal.{Refusal}
 use Rattle.answer.specs.declared.Answer.{Answer}
 use Rattle.answer.specs.declared.Answer.the-variants.{Refused}

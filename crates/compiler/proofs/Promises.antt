@@ -1,14 +1,8 @@
 -- What compiling promises of its outcomes: where splitting ends, the least window, and records from bytes to bytes.
 -- In order: split-ends; made-closed; least-window; no-window-exact; packed; job-passes, run-length-passes.
 -- Assumes nothing.
-use mathlib.Core.Path.{_≡_, refl, sym, ap, subst, _∙_}
-use mathlib.Core.Logic.{inl, inr, _↔_}
-use mathlib.Core.List.{List, []}
-use Prim.Native.Nat.{ℕ, _≤_, _<_}
-use native.Mathlib.Omega.{arith}
-use native.Mathlib.Decide.{decLt}
-use lib.ListN.{length, List·getD-eq-default}
-use Rattle.laws.specs.Lists.{sum}
+use Rattle.laws.proofs.All.{_≡_, refl, sym, ap, subst, _∙_, inl, inr, _↔_, List, [], ℕ, _≤_, _<_, arith, decLt}
+use Rattle.laws.proofs.All.{length, List·getD-eq-default, sum}
 use Rattle.answer.specs.declared.Refusal.the-variants.{NoWindow}
 use Rattle.answer.specs.Outcomes.{Outcome, done, refused}
 use Rattle.answer.proofs.Outcomes.{onward→, fitting→}

@@ -2,15 +2,8 @@
 -- In order: written-from, refused-from, short-from, none-from; as-onward, as-early, as-allowed; written, calls, none,
 -- short, never-short; passes.
 -- Assumes nothing.
-use mathlib.Core.Path.{_≡_, refl, sym, ap, _∙_}
-use mathlib.Core.Logic.{_⊎_, inl, inr, _↔_}
-use mathlib.Core.List.{List}
-use Prim.Native.Nat.{ℕ, _≤_, _<_}
-use native.Mathlib.Omega.{arith}
-use lib.Dec.{leb}
-use borrow.Author.Tests.{lt-leb}
-use lib.ListN.{length, getD}
-use Rattle.laws.specs.Lists.{sum}
+use Rattle.laws.proofs.All.{_≡_, refl, sym, ap, _∙_, _⊎_, inl, inr, _↔_, List, ℕ, _≤_, _<_, arith, leb, lt-leb}
+use Rattle.laws.proofs.All.{length, getD, sum}
 use Rattle.answer.specs.declared.Refusal.{Refusal}
 use Rattle.answer.specs.declared.Refusal.the-variants.{NoCode, ShortOutput}
 use Rattle.answer.specs.Refusals.{numberOf}

@@ -2,22 +2,16 @@
 -- In order: row-yes, row-no, row-all; Rowed, rowed-yes, rowed-no, rowed-over, rowed-end; rows, rows-all; Done,
 -- done-none, done-more, done-over, done-end; added-none.
 -- Assumes nothing.
-use mathlib.Core.Path.{_≡_, refl, sym, ap, subst, _∙_}
-use mathlib.Core.Bool.{true, false}
-use mathlib.Core.List.{List, [], _∷_, _++_, map, append-assoc, append-nil}
-use Prim.Native.Nat.{ℕ, _+_, _≤_, _<_}
-use native.Mathlib.Omega.{arith}
-use borrow.Author.Tests.{lt-ltb, le-ltb, ltb-true, ltb-false}
-use lib.ListN.{length, getD, length-append}
-use Rattle.laws.specs.Lists.{if_then_else_, range, filter, concat}
+use Rattle.laws.proofs.All.{_≡_, refl, sym, ap, subst, _∙_, true, false, List, [], _∷_, _++_, map, append-assoc}
+use Rattle.laws.proofs.All.{append-nil, ℕ, _+_, _≤_, _<_, arith, lt-ltb, le-ltb, ltb-true, ltb-false, length, getD}
+use Rattle.laws.proofs.All.{length-append, if_then_else_, range, filter, concat, range-more, length-map-range}
+use Rattle.laws.proofs.All.{concat-more, map-append, filter-append}
 use Rattle.graph.specs.declared.Graph.{Graph}
 use Rattle.graph.specs.declared.NextGraph.{NextGraph}
 use Rattle.graph.specs.Arcs.{Arc, arc}
 use Rattle.graph.specs.Value.{arcAt, arcsIn}
 use Rattle.weights.specs.PowerTable.{entryAt}
 use Rattle.component.specs.ComponentParts.{placeOf, rowKeeps, rowArc, rowArcs, Added}
-use Rattle.laws.proofs.Ranges.{range-more, length-map-range, concat-more}
-use Rattle.laws.proofs.Maps.{map-append, filter-append}
 use Rattle.graph.proofs.Values.{withArc, Appended, appended-count, appended-more, climbs}
 
 module _ (P I : List ℕ) (s : ℕ) where

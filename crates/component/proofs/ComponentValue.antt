@@ -2,22 +2,13 @@
 -- In order: the module of one component: component-states, state-low, keep-is, place-is, row-is, arcs-are, bounded,
 -- graph-is, found-in.
 -- Assumes nothing.
-use mathlib.Core.Path.{_≡_, refl, sym, ap, ap₂, subst, _∙_}
-use mathlib.Core.Logic.{inl, inr}
-use mathlib.Core.Bool.{Bool, true, false, _&&_}
-use mathlib.Core.List.{List, [], _++_, map}
-use Prim.Native.Nat.{ℕ, _+_, _≤_, _<_}
-use native.Mathlib.Omega.{arith}
-use borrow.Author.Tests.{lt-ltb, le-ltb, ltb-false, ne-eqb}
-use lib.Dec.{T, ltb}
-use lib.ListN.{length, getD, take, length-take}
-use lib.Seq.{length-take-le, getD-take}
-use Rattle.laws.specs.Lists.{if_then_else_, range, filter, first, elem, indexOf, sum, concat}
-use Rattle.laws.specs.Sums.{Each}
-use Rattle.laws.proofs.Tests.{and→, T→true}
-use Rattle.laws.proofs.Sums.{each-map, each-always, each-filter, each-image}
-use Rattle.laws.proofs.Anys.{each-range, each-union}
-use Rattle.laws.proofs.Elems.{each-elem, elem-filter, index-lt, each-at}
+use Rattle.laws.proofs.All.{_≡_, refl, sym, ap, ap₂, subst, _∙_, inl, inr, Bool, true, false, _&&_, List, [], _++_}
+use Rattle.laws.proofs.All.{map, ℕ, _+_, _≤_, _<_, arith, lt-ltb, le-ltb, ltb-false, ne-eqb, T, ltb, length, getD}
+use Rattle.laws.proofs.All.{take, length-take, length-take-le, getD-take, if_then_else_, range, filter, first, elem}
+use Rattle.laws.proofs.All.{indexOf, sum, concat, Each, and→, T→true, each-map, each-always, each-filter}
+use Rattle.laws.proofs.All.{each-image, each-range, each-union, each-elem, elem-filter, index-lt, each-at}
+use Rattle.laws.proofs.All.{length-map-range, map-range-same, filter-same, filter-map, filter-both, filter-concat}
+use Rattle.laws.proofs.All.{filter-never, map-concat, map-each, map-map}
 use Rattle.constraint.specs.Walking.{Target}
 use Rattle.graph.specs.declared.Graph.{Graph}
 use Rattle.graph.specs.declared.NextGraph.{NextGraph}
@@ -41,9 +32,6 @@ use Rattle.graph.specs.Value.{arcAt, arcsIn, weightsIn, workIn}
 use Rattle.weights.specs.PowerTable.{entryAt, wordAt, wordsAt, tabled, Powers}
 use Rattle.reach.specs.ReachSets.{rowsOf, Listed}
 use Rattle.component.specs.ComponentParts.{placeOf, rowKeeps, rowArc, rowArcs, rowOfState, Added, FoundIn}
-use Rattle.laws.proofs.Ranges.{length-map-range, map-range-same}
-use Rattle.laws.proofs.Maps.{filter-same, filter-map, filter-both, filter-concat, filter-never}
-use Rattle.laws.proofs.Maps.{map-concat, map-each, map-map}
 use Rattle.graph.proofs.Values.{fits-from, Bounded, Low}
 use Rattle.component.proofs.LiveArcs.{live-lt}
 

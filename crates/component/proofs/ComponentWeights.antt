@@ -1,14 +1,8 @@
 -- The weights of the component's states.
 -- In order: weights-filled.
 -- Assumes nothing.
-use mathlib.Core.Path.{_≡_, sym, ap, _∙_}
-use mathlib.Core.List.{List, map}
-use Prim.Native.Nat.{ℕ, _≤_}
-use lib.ListN.{length, getD, take}
-use lib.Seq.{length-take-le, getD-take}
-use Rattle.laws.specs.Lists.{range}
-use Rattle.laws.proofs.Ranges.{map-places, map-range-same}
-use Rattle.laws.proofs.Arrays.{Filled}
+use Rattle.laws.proofs.All.{_≡_, sym, ap, _∙_, List, map, ℕ, _≤_, length, getD, take, length-take-le, getD-take}
+use Rattle.laws.proofs.All.{range, map-places, map-range-same, Filled}
 
 pub weights-filled : (v S : List ℕ) (n : ℕ) (W : List ℕ) → n ≤ length S
     → Filled 0 (λ i. getD v (getD S i 0) 0) 128 n W

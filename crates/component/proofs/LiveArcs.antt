@@ -1,28 +1,17 @@
 -- The edges among the states of weight above 0, by the counts of words.
 -- In order: live-elem, live-lt; any-tabled; linked-is.
 -- Assumes nothing.
-use mathlib.Core.Path.{_≡_, sym, ap, ap₂, subst, _∙_}
-use mathlib.Core.Bool.{Bool, false, _&&_}
-use mathlib.Core.List.{List, map}
-use Prim.Native.Nat.{ℕ, _+_, _*_, _/_, _%_, _≤_, _<_}
-use native.Mathlib.Omega.{arith}
-use borrow.Author.Tests.{ne-eqb}
-use lib.Dec.{T, ltb, eqb, eqb→eq, eqb-refl, ltb→lt, lt→ltb}
-use lib.ListN.{length, getD, take}
-use lib.Seq.{length-take-le, getD-take}
-use Rattle.laws.specs.Lists.{range, filter, any, elem, concat}
-use Rattle.laws.specs.Sets.{member}
-use Rattle.laws.proofs.Tests.{and→, →and, any-below→, →any-below, bool-eq}
-use Rattle.laws.proofs.Anys.{any-map, any-filter, any-concat, each-range}
-use Rattle.laws.proofs.Elems.{elem-filter, elem-each}
+use Rattle.laws.proofs.All.{_≡_, sym, ap, ap₂, subst, _∙_, Bool, false, _&&_, List, map, ℕ, _+_, _*_, _/_, _%_, _≤_}
+use Rattle.laws.proofs.All.{_<_, arith, ne-eqb, T, ltb, eqb, eqb→eq, eqb-refl, ltb→lt, lt→ltb, length, getD, take}
+use Rattle.laws.proofs.All.{length-take-le, getD-take, range, filter, any, elem, concat, member, and→, →and}
+use Rattle.laws.proofs.All.{any-below→, →any-below, bool-eq, any-map, any-filter, any-concat, each-range}
+use Rattle.laws.proofs.All.{elem-filter, elem-each, filter-pos, filter-some, any-range-same, quotient-of}
+use Rattle.laws.proofs.All.{remainder-of}
 use Rattle.graph.specs.Arcs.{Arc, leadsOn}
 use Rattle.graph.specs.Component.{leadsInto, both, within, weighs, live}
 use Rattle.weights.specs.PowerTable.{entryAt, wordAt, wordsAt, tabled, Powers, wordLeads, wordCount}
 use Rattle.reach.specs.ReachSets.{linksInto, Linked, liveEdge}
 use Rattle.graph.proofs.UpTo.{elem-kept}
-use Rattle.laws.proofs.Filters.{filter-pos, filter-some}
-use Rattle.laws.proofs.Ranges.{any-range-same}
-use Rattle.laws.proofs.Places.{quotient-of, remainder-of}
 
 pub any-tabled : (P : List ℕ) (words k : ℕ) (p : Arc → Bool) → any p (tabled P words k)
     ≡ any (λ s. any (λ w. leadsOn (wordAt P s w) && p (wordAt P s w)) (range words)) (range k)

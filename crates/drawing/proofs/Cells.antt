@@ -1,18 +1,13 @@
 -- The matrix of the code that a table stands for.
 -- In order: column-is, row-small, row-is; row-none, row-more; words-few, axes-are, matrix-is.
 -- Assumes nothing.
-use mathlib.Core.Path.{_≡_, refl, sym, ap, _∙_}
-use mathlib.Core.List.{List, [], _++_}
-use Prim.Native.Nat.{ℕ, _+_, _*_, _^_, _≤_}
-use native.Mathlib.Nat.{mul-le-mul}
-use native.Mathlib.Omega.{arith}
-use lib.Pow.{pow-mono}
+use Rattle.laws.proofs.All.{_≡_, refl, sym, ap, _∙_, List, [], _++_, ℕ, _+_, _*_, _^_, _≤_, mul-le-mul, arith}
+use Rattle.laws.proofs.All.{pow-mono, concat-more}
 use Rattle.table.specs.declared.Table.{Table}
 use Rattle.table.specs.Edges.{lent}
 use Rattle.table.specs.Value.{codeIn}
 use Rattle.table.proofs.RowsOf.{length-rows}
 use Rattle.text.specs.Texts.{bytes}
-use Rattle.laws.proofs.Ranges.{concat-more}
 use Rattle.views.specs.Edges.{linesTo}
 use Rattle.drawing.specs.Matrix.{columnX, rowY, columnText, rowText, cell, inRow, sizes, axes, matrix}
 use Rattle.views.proofs.Edges.{lines-are}

@@ -2,16 +2,9 @@
 -- In order: opens-so, opens-not; other-before, other-apart, other-joined, others-none, others-more; arrow-open,
 -- arrow-none; arrows-none, arrows-more; diagram-is, diagram-drawn, matrix-drawn, nothing-drawn.
 -- Assumes nothing.
-use mathlib.Core.Path.{_≡_, refl, sym, ap, ap₂, _∙_}
-use mathlib.Core.Bool.{Bool, true, false, not, and-false}
-use mathlib.Core.List.{List, [], _++_}
-use Prim.Native.Nat.{ℕ, _+_, _*_, _/_, _%_, _^_, _≤_, _<_}
-use native.Mathlib.Omega.{arith}
-use borrow.Author.Tests.{lt-ltb, le-ltb, lt-leb, le-leb}
-use lib.Dec.{eqb, ltb}
-use lib.ListN.{length}
-use Rattle.laws.specs.Lists.{if_then_else_, range, concat}
-use Rattle.laws.proofs.Ranges.{any-range-same}
+use Rattle.laws.proofs.All.{_≡_, refl, sym, ap, ap₂, _∙_, Bool, true, false, not, and-false, List, [], _++_, ℕ, _+_}
+use Rattle.laws.proofs.All.{_*_, _/_, _%_, _^_, _≤_, _<_, arith, lt-ltb, le-ltb, lt-leb, le-leb, eqb, ltb, length}
+use Rattle.laws.proofs.All.{if_then_else_, range, concat, any-range-same, concat-more}
 use Rattle.constraint.proofs.Values.{map-below}
 use Rattle.table.specs.declared.Table.{Table}
 use Rattle.table.specs.Edges.{lent}
@@ -21,7 +14,6 @@ use Rattle.table.specs.Value.{wordAt, nextAt, codeIn, ready}
 use Rattle.table.proofs.Marks.{some-stop}
 use Rattle.table.proofs.RowsOf.{length-rows, row-long, edge-at}
 use Rattle.text.specs.Texts.{bytes}
-use Rattle.laws.proofs.Ranges.{concat-more}
 use Rattle.drawing.specs.Drawn.{label, joined, opens, other, others, arrowHead, arrow, arrowOf}
 use Rattle.drawing.specs.Drawn.{tableArrow, arrowsTo, opening, diagram, drawn, drawText}
 use Rattle.drawing.specs.Matrix.{matrix}

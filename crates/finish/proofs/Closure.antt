@@ -2,24 +2,12 @@
 -- other.
 -- In order: row-keys, row-inside; Forward, forward-start, forward-step, forward-end; row-stays.
 -- Assumes nothing.
-use mathlib.Core.Path.{_≡_, refl, sym, ap, subst, _∙_}
-use mathlib.Core.Logic.{_⊎_, inl, inr}
-use mathlib.Core.Bool.{Bool, true, false, not, _&&_, _||_}
-use mathlib.Core.List.{List, [], _∷_, map}
-use Prim.Native.Nat.{ℕ, _-_, _%_, _<_}
-use native.Mathlib.Omega.{arith}
-use native.Mathlib.Decide.{ℕ-discrete}
-use borrow.Author.Tests.{lt-ltb, ne-eqb}
-use lib.Dec.{T, eqb, eqb→eq, eqb-refl}
-use lib.ListN.{length, getD, take, set, length-set}
-use lib.Seq.{getD-set-other}
-use Rattle.laws.specs.Lists.{range, filter, any, concat}
-use Rattle.laws.specs.Sets.{member}
-use Rattle.laws.specs.Sums.{Each}
-use Rattle.laws.proofs.Tests.{or→, →orL, →orR, bool-eq, range-at, length-from}
-use Rattle.laws.proofs.Sums.{each-map, each-both, each-filter, each-take, each-any, any-each}
-use Rattle.laws.proofs.Anys.{any-map, each-union, each-range}
-use Rattle.laws.proofs.Elems.{each-at}
+use Rattle.laws.proofs.All.{_≡_, refl, sym, ap, subst, _∙_, _⊎_, inl, inr, Bool, true, false, not, _&&_, _||_, List}
+use Rattle.laws.proofs.All.{[], _∷_, map, ℕ, _-_, _%_, _<_, arith, ℕ-discrete, lt-ltb, ne-eqb, T, eqb, eqb→eq}
+use Rattle.laws.proofs.All.{eqb-refl, length, getD, take, set, length-set, getD-set-other, range, filter, any}
+use Rattle.laws.proofs.All.{concat, member, Each, or→, →orL, →orR, bool-eq, range-at, length-from, each-map}
+use Rattle.laws.proofs.All.{each-both, each-filter, each-take, each-any, any-each, any-map, each-union, each-range}
+use Rattle.laws.proofs.All.{each-at, union-each, length-map-range, filter-same, map-take}
 use Rattle.graph.specs.declared.Graph.{Graph}
 use Rattle.graph.specs.Arcs.{Arc, leaves, enters, out}
 use Rattle.graph.specs.Splitting.{sort}
@@ -31,9 +19,6 @@ use Rattle.order.specs.EdgeKeys.{arcOf, keysFrom, admitted, firstKeys}
 use Rattle.finish.specs.Finishing.{Finished, enteredBy}
 use Rattle.graph.proofs.Reach.{Reaching, reaches-is, reach-trans, reach-edge}
 use Rattle.graph.proofs.Candidates.{each-sort}
-use Rattle.laws.proofs.Totals.{union-each}
-use Rattle.laws.proofs.Ranges.{length-map-range}
-use Rattle.laws.proofs.Maps.{filter-same, map-take}
 use Rattle.order.proofs.EdgeOrder.{sort-keys, keys-small, weights-small}
 use Rattle.graph.proofs.Values.{fits-arcs, Bounded}
 

@@ -1,22 +1,10 @@
 -- Sets of states in arrays: marking, and how many are not done.
 -- In order: any-take-more, mark-more; missing-put; open-set, open-done.
 -- Assumes nothing.
-use mathlib.Core.Path.{_≡_, refl, sym, ap, subst, _∙_}
-use mathlib.Core.Logic.{inl, inr}
-use mathlib.Core.Bool.{Bool, true, false, not, _&&_, _||_, or-false, or-assoc}
-use mathlib.Core.List.{List, [], _∷_}
-use Prim.Native.Nat.{ℕ, _+_, _%_, _<_}
-use native.Mathlib.Numerals.{add-one}
-use native.Mathlib.Omega.{arith}
-use lib.Dec.{T, eqb}
-use lib.ListN.{length, getD, take, set, length-set}
-use lib.Seq.{take-suc, getD-set-same}
-use Rattle.laws.specs.Lists.{any}
-use Rattle.laws.specs.Sets.{member}
-use Rattle.laws.proofs.Tests.{→orL}
-use Rattle.laws.proofs.Anys.{any-append}
-use Rattle.laws.proofs.Grids.{missing, grow-sub}
-use Rattle.laws.proofs.Members.{put-member}
+use Rattle.laws.proofs.All.{_≡_, refl, sym, ap, subst, _∙_, inl, inr, Bool, true, false, not, _&&_, _||_, or-false}
+use Rattle.laws.proofs.All.{or-assoc, List, [], _∷_, ℕ, _+_, _%_, _<_, add-one, arith, T, eqb, length, getD, take}
+use Rattle.laws.proofs.All.{set, length-set, take-suc, getD-set-same, any, member, →orL, any-append, missing}
+use Rattle.laws.proofs.All.{grow-sub, put-member}
 use Rattle.finish.specs.Finishing.{enteredBy}
 
 -- ---- marking

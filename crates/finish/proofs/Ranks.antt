@@ -1,13 +1,8 @@
 -- How many states of a set are below a state.
 -- In order: rank-none, rank-yes, rank-no, rank-le.
 -- Assumes nothing.
-use mathlib.Core.Path.{_≡_, refl, ap, subst, _∙_}
-use mathlib.Core.Bool.{Bool, true, false}
-use mathlib.Core.List.{List, [], _∷_}
-use Prim.Native.Nat.{ℕ, zero, suc, _+_, _-_, _≤_}
-use native.Mathlib.Omega.{arith}
-use lib.ListN.{length, length-append}
-use Rattle.laws.specs.Sets.{member}
+use Rattle.laws.proofs.All.{_≡_, refl, ap, subst, _∙_, Bool, true, false, List, [], _∷_, ℕ, zero, suc, _+_, _-_}
+use Rattle.laws.proofs.All.{_≤_, arith, length, length-append, member}
 use Rattle.finish.specs.Finishing.{rank}
 use Rattle.graph.proofs.UpTo.{upTo, upTo-yes, upTo-no}
 

@@ -1,13 +1,8 @@
 -- One row of the table, edge by edge.
 -- In order: withEdge, put-start, put-more, put-keys.
 -- Assumes nothing.
-use mathlib.Core.Path.{_≡_, refl, ap, _∙_}
-use mathlib.Core.List.{List}
-use Prim.Native.Nat.{ℕ, _+_, _*_, _/_, _%_, _<_}
-use native.Mathlib.Omega.{arith}
-use borrow.Author.Count.{below-more}
-use lib.ListN.{length, getD, set, length-set}
-use lib.Seq.{getD-set-same, getD-set-other}
+use Rattle.laws.proofs.All.{_≡_, refl, ap, _∙_, List, ℕ, _+_, _*_, _/_, _%_, _<_, arith, below-more, length, getD}
+use Rattle.laws.proofs.All.{set, length-set, getD-set-same, getD-set-other}
 use Rattle.finish.specs.declared.finish_table.TableRows.{TableRows}
 use Rattle.finish.specs.Finishing.{RowPut}
 

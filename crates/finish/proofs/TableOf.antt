@@ -1,18 +1,12 @@
 -- The table: each state has n edges, to states of the table, and each is an edge between the roots.
 -- In order: Tabled, table-length, tabled, reached-first.
 -- Assumes nothing.
-use mathlib.Core.Path.{_≡_, refl, ap, _∙_}
-use mathlib.Core.Bool.{Bool, true, false}
-use mathlib.Core.List.{List, [], _∷_, map}
-use Prim.Native.Nat.{ℕ, zero, suc, _≤_, _<_, zero-le, suc-le-suc}
-use native.Mathlib.Nat.{not-suc-le-zero}
-use lib.Dec.{T, eqb→eq}
-use lib.ListN.{length, getD, length-map}
-use lib.Seq.{length-take-le}
-use Rattle.laws.specs.Lists.{if_then_else_, from, range, filter, concat, elem, indexOf}
-use Rattle.laws.proofs.Tests.{getD-map-lt}
-use Rattle.laws.specs.Sums.{Each}
-use Rattle.laws.proofs.Sums.{each-map, each-always, each-both, each-filter, each-take}
+use Rattle.laws.proofs.All.{_≡_, refl, ap, _∙_, Bool, true, false, List, [], _∷_, map, ℕ, zero, suc, _≤_, _<_}
+use Rattle.laws.proofs.All.{zero-le, suc-le-suc, not-suc-le-zero, T, eqb→eq, length, getD, length-map}
+use Rattle.laws.proofs.All.{length-take-le, if_then_else_, from, range, filter, concat, elem, indexOf, getD-map-lt}
+use Rattle.laws.proofs.All.{Each, each-map, each-always, each-both, each-filter, each-take, each-union, each-range}
+use Rattle.laws.proofs.All.{union-each, each-elem, elem-each, elem-filter, →elem-filter, each-at, elem-range}
+use Rattle.laws.proofs.All.{index-lt, at-index}
 use Rattle.graph.proofs.Arcs.{length-sort}
 use Rattle.graph.specs.Invariant.{Inside}
 use Rattle.graph.specs.Arcs.{Arc, arc, Work, leaves, out}
@@ -20,12 +14,8 @@ use Rattle.graph.specs.Splitting.{sort}
 use Rattle.graph.specs.Component.{reachings, reaches}
 use Rattle.table.specs.Rows.{Edge, edge, Rows, edges, at}
 use Rattle.finish.specs.TableOf.{row, tableStates, named, tableOf}
-use Rattle.laws.proofs.Anys.{each-union, each-range}
-use Rattle.laws.proofs.Totals.{union-each}
 use Rattle.graph.proofs.Candidates.{each-sort}
 use Rattle.graph.proofs.Reach.{reaches-is, reach-trans, reach-edge}
-use Rattle.laws.proofs.Elems.{each-elem, elem-each, elem-filter, →elem-filter, each-at, elem-range, index-lt}
-use Rattle.laws.proofs.Elems.{at-index}
 
 -- a table of rows of n edges, whose edges lie over P under the roots; the root of state 0 is 0
 pub record Tabled (P : ℕ → ℕ → ℕ → Type 0) (n : ℕ) (t : Rows) (root : ℕ → ℕ) : Type 0 where

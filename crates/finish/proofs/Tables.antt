@@ -2,23 +2,12 @@
 -- In order: keys-long, keys-low, list-long, list-at, key-lt, key-inside; key-stays; Laid, laid-none, laid-no,
 -- laid-yes; states-are, index-is, row-laid, laid-end.
 -- Assumes nothing.
-use mathlib.Core.Path.{_≡_, sym, ap, ap₂, subst, _∙_}
-use mathlib.Core.Bool.{Bool, true, false}
-use mathlib.Core.List.{List, [], map}
-use Prim.Native.Nat.{ℕ, _+_, _-_, _*_, _/_, _%_, _≤_, _<_}
-use native.Mathlib.Nat.{le-trans}
-use native.Mathlib.Omega.{arith}
-use borrow.Author.Count.{below-more}
-use lib.Dec.{T}
-use lib.ListN.{length, getD, length-map, length-take}
-use lib.Seq.{length-take-le, getD-take}
-use Rattle.laws.specs.Lists.{range, filter, elem, indexOf}
-use Rattle.laws.specs.Sets.{member}
-use Rattle.laws.specs.Sums.{Each, times, one}
-use Rattle.laws.proofs.Tests.{T→true}
-use Rattle.laws.proofs.Sums.{each-map, each-filter, image-each, each-take}
-use Rattle.laws.proofs.Anys.{each-range}
-use Rattle.laws.proofs.Elems.{each-elem, elem-filter, elem-each, each-at, index-at, range-once, tot-filter-le}
+use Rattle.laws.proofs.All.{_≡_, sym, ap, ap₂, subst, _∙_, Bool, true, false, List, [], map, ℕ, _+_, _-_, _*_, _/_}
+use Rattle.laws.proofs.All.{_%_, _≤_, _<_, le-trans, arith, below-more, T, length, getD, length-map, length-take}
+use Rattle.laws.proofs.All.{length-take-le, getD-take, range, filter, elem, indexOf, member, Each, times, one}
+use Rattle.laws.proofs.All.{T→true, each-map, each-filter, image-each, each-take, each-range, each-elem}
+use Rattle.laws.proofs.All.{elem-filter, elem-each, each-at, index-at, range-once, tot-filter-le, length-map-range}
+use Rattle.laws.proofs.All.{map-range-same, map-places, filter-same, map-map}
 use Rattle.table.specs.Rows.{edge}
 use Rattle.graph.specs.declared.Graph.{Graph}
 use Rattle.order.specs.declared.keys.Keys.{Keys}
@@ -31,8 +20,6 @@ use Rattle.graph.specs.Value.{arcsIn, weightAt, weightsIn, workIn}
 use Rattle.order.specs.EdgeKeys.{arcOf, keysFrom, admitted, firstKeys, keysIn}
 use Rattle.finish.specs.Finishing.{Finished, rank, rowEdge, TableIn, RowPut}
 use Rattle.graph.proofs.Arcs.{length-sort}
-use Rattle.laws.proofs.Ranges.{length-map-range, map-range-same, map-places}
-use Rattle.laws.proofs.Maps.{filter-same, map-map}
 use Rattle.order.proofs.EdgeOrder.{keys-small}
 use Rattle.graph.proofs.UpTo.{upTo, index-kept}
 use Rattle.finish.proofs.Closure.{row-keys, row-inside, row-stays}

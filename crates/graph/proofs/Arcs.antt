@@ -2,19 +2,11 @@
 -- In order: same→eq, same-refl, same-is, among→count, count→among, each-among, tot-insert, tot-sort, length-sort,
 -- tot-same, pick.
 -- Assumes nothing.
-use mathlib.Core.Path.{_≡_, refl, sym, ap₂, subst, _∙_}
-use mathlib.Core.Bool.{Bool, true, false, _&&_, _||_}
-use mathlib.Core.List.{List, [], _∷_}
-use Prim.Native.Nat.{ℕ, _+_, _*_, _≤_, _<_}
-use native.Mathlib.Nat.{zero-add, add-zero, zero-mul}
-use native.Mathlib.Omega.{arith}
-use lib.Dec.{T, eqb, eqb→eq, eqb-refl}
-use lib.ListN.{length}
-use Rattle.laws.specs.Lists.{if_then_else_}
-use Rattle.laws.proofs.Tests.{and→, →and, →orL, →orR, so, nay, Whether, T→true}
-use Rattle.laws.specs.Sums.{Each, tot, mask, one}
+use Rattle.laws.proofs.All.{_≡_, refl, sym, ap₂, subst, _∙_, Bool, true, false, _&&_, _||_, List, [], _∷_, ℕ, _+_}
+use Rattle.laws.proofs.All.{_*_, _≤_, _<_, zero-add, add-zero, zero-mul, arith, T, eqb, eqb→eq, eqb-refl, length}
+use Rattle.laws.proofs.All.{if_then_else_, and→, →and, →orL, →orR, so, nay, Whether, T→true, Each, tot, mask, one}
+use Rattle.laws.proofs.All.{each-map, each-always, tot-eq, tot-add, tot-zero, any→count, count→any}
 use Rattle.laws.proofs.Sorted as sorted
-use Rattle.laws.proofs.Sums.{each-map, each-always, tot-eq, tot-add, tot-zero, any→count, count→any}
 use Rattle.graph.specs.Arcs.{Arc}
 use Rattle.graph.specs.Splitting.{earlier, sort, same, among}
 use Rattle.graph.specs.Invariant.{count}

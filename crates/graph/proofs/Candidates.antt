@@ -1,22 +1,11 @@
 -- The n edges among which the run is sought: they are edges of the state, n of them, and weigh less than n M.
 -- In order: each-sort, any-sort, candidates-length, candidates-tot, candidates-lt, candidates-each.
 -- Assumes nothing.
-use mathlib.Core.Path.{_≡_, sym, ap, _∙_}
-use mathlib.Core.Bool.{Bool, true, false, not}
-use mathlib.Core.List.{List}
-use Prim.Native.Nat.{ℕ, _+_, _*_, _-_, _≤_, _<_}
-use native.Mathlib.Nat.{zero-add, add-zero}
-use native.Mathlib.Omega.{arith}
-use lib.Dec.{T}
-use lib.ListN.{length, take}
-use lib.Seq.{length-take-le}
-use Rattle.laws.specs.Lists.{if_then_else_, filter, any, first}
-use Rattle.laws.proofs.Tests.{→orL}
-use Rattle.laws.specs.Sums.{Each, tot, mask, one}
+use Rattle.laws.proofs.All.{_≡_, sym, ap, _∙_, Bool, true, false, not, List, ℕ, _+_, _*_, _-_, _≤_, _<_, zero-add}
+use Rattle.laws.proofs.All.{add-zero, arith, T, length, take, length-take-le, if_then_else_, filter, any, first}
+use Rattle.laws.proofs.All.{→orL, Each, tot, mask, one, each-map, each-always, each-filter, each-take, first-passes}
+use Rattle.laws.proofs.All.{tot-filter, tot-eq, tot-add, tot-length, any→count, count→any, tot-take-le}
 use Rattle.laws.proofs.Sorted as sorted
-use Rattle.laws.proofs.Sums.{each-map, each-always, each-filter, each-take, first-passes, tot-filter, tot-eq}
-use Rattle.laws.proofs.Sums.{tot-add, tot-length, any→count, count→any}
-use Rattle.laws.proofs.Totals.{tot-take-le}
 use Rattle.graph.proofs.Arcs.{among→count, each-among, tot-sort, tot-same}
 use Rattle.graph.specs.Invariant.{count}
 use Rattle.graph.specs.Arcs.{Arc, arc}

@@ -1,25 +1,12 @@
 -- The state to split: there is one, of greatest weight, with more than n edges.
 -- In order: greatest-ge, greatest-at, total-le, total-lt, ripe-some, Chosen, chosen-is.
 -- Assumes nothing.
-use mathlib.Core.Path.{_≡_, refl, sym, _∙_}
-use mathlib.Core.Logic.{_⊎_, inl, inr}
-use mathlib.Core.Bool.{Bool, true, false}
-use mathlib.Core.List.{List, [], _∷_}
-use Prim.Native.Nat.{ℕ, zero, suc, _+_, _*_, _≤_, _<_, zero-le, suc-le-suc}
-use native.Mathlib.Nat.{not-suc-le-zero, le-trans, le-of-eq, mul-comm, le-of-mul-le-mul-right}
-use native.Mathlib.Nat.{lt-of-mul-lt-mul-right, le-max-left, le-max-right, max-eq-left, max-eq-right}
-use native.Mathlib.Omega.{arith}
-use native.Mathlib.Decide.{decLe}
-use lib.Dec.{T, eqb, ltb, eqb→eq, eqb-refl, ltb→lt}
-use borrow.Author.Tests.{ltb-false}
-use lib.ListN.{length, getD}
-use Rattle.laws.specs.Lists.{range, any}
-use Rattle.laws.proofs.Tests.{and→, →and, or→, any-below→, →any-below}
-use Rattle.laws.specs.Sums.{Each}
-use Rattle.laws.proofs.Sums.{each-map, each-always, each-both, filter-each, each-any, first-passes, tot-le}
-use Rattle.laws.proofs.Sums.{tot-const}
-use Rattle.laws.proofs.Anys.{each-range}
-use Rattle.laws.proofs.Totals.{each-for}
+use Rattle.laws.proofs.All.{_≡_, refl, sym, _∙_, _⊎_, inl, inr, Bool, true, false, List, [], _∷_, ℕ, zero, suc, _+_}
+use Rattle.laws.proofs.All.{_*_, _≤_, _<_, zero-le, suc-le-suc, not-suc-le-zero, le-trans, le-of-eq, mul-comm}
+use Rattle.laws.proofs.All.{le-of-mul-le-mul-right, lt-of-mul-lt-mul-right, le-max-left, le-max-right, max-eq-left}
+use Rattle.laws.proofs.All.{max-eq-right, arith, decLe, T, eqb, ltb, eqb→eq, eqb-refl, ltb→lt, ltb-false, length}
+use Rattle.laws.proofs.All.{getD, range, any, and→, →and, or→, any-below→, →any-below, Each, each-map, each-always}
+use Rattle.laws.proofs.All.{each-both, filter-each, each-any, first-passes, tot-le, tot-const, each-range, each-for}
 use Rattle.graph.specs.Invariant.{Inside, Stays, Inv}
 use Rattle.graph.specs.Arcs.{Arc, Work, leaves, out}
 use Rattle.graph.specs.Weights.{weight, total}

@@ -1,23 +1,15 @@
 -- The component: there is a state that every state reachable from it reaches back, and what is reachable from it.
 -- In order: good-some, start-in, C-closed, C-joined.
 -- Assumes nothing.
-use mathlib.Core.Path.{_≡_, refl, subst}
-use mathlib.Core.Logic.{_⊎_, inl, inr}
-use mathlib.Core.Bool.{Bool, true, false, not, _&&_, _||_}
-use mathlib.Core.List.{List}
-use Prim.Native.Nat.{ℕ, zero, suc, _+_, _≤_, _<_, zero-le}
-use native.Mathlib.Nat.{le-refl}
-use native.Mathlib.Omega.{arith}
-use lib.Dec.{T, eqb}
-use Rattle.laws.specs.Lists.{if_then_else_, filter, any, elem, all}
-use Rattle.laws.proofs.Tests.{and→, →and, Whether, so, nay, eqb-is, T→true, imp→}
-use Rattle.laws.specs.Sums.{Each, tot, one, times}
-use Rattle.laws.proofs.Sums.{each-map, each-both, each-any, tot-le, tot-add, any→count}
+use Rattle.laws.proofs.All.{_≡_, refl, subst, _⊎_, inl, inr, Bool, true, false, not, _&&_, _||_, List, ℕ, zero, suc}
+use Rattle.laws.proofs.All.{_+_, _≤_, _<_, zero-le, le-refl, arith, T, eqb, if_then_else_, filter, any, elem, all}
+use Rattle.laws.proofs.All.{and→, →and, Whether, so, nay, eqb-is, T→true, imp→, Each, tot, one, times, each-map}
+use Rattle.laws.proofs.All.{each-both, each-any, tot-le, tot-add, any→count, each-elem, elem-each, elem-filter}
+use Rattle.laws.proofs.All.{→elem-filter, all-each, not-all}
 use Rattle.graph.specs.Invariant.{Inside, Stays}
 use Rattle.graph.specs.Arcs.{Arc}
 use Rattle.graph.specs.Component.{returns}
 use Rattle.graph.proofs.Reach.{Reaching, reach-trans, reach-edge}
-use Rattle.laws.proofs.Elems.{each-elem, elem-each, elem-filter, →elem-filter, all-each, not-all}
 
 module _ (K : ℕ) (L : List ℕ) (g : List Arc) (reach : ℕ → ℕ → Bool) (R : Reaching K g reach) (i : Each (Inside K) g)
     (inK : Each (λ s. s < K) L) where

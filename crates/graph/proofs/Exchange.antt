@@ -1,22 +1,12 @@
 -- The sum over the words is the sum over the states t of A(s, t) times the weight of t.
 -- In order: exchange.
 -- Assumes nothing.
-use mathlib.Core.Path.{_≡_, sym, ap₂, _∙_}
-use mathlib.Core.Bool.{Bool, true, false}
-use mathlib.Core.List.{List, [], _∷_}
-use Prim.Native.Nat.{ℕ, _+_, _*_, _<_}
-use native.Mathlib.Nat.{zero-add, zero-mul}
-use native.Mathlib.Omega.{arith}
-use native.Mathlib.Decide.{decLt}
-use lib.Dec.{eqb}
-use lib.ListN.{length, getD, List·getD-eq-default}
-use Rattle.laws.specs.Lists.{if_then_else_, range, filter}
-use Rattle.laws.proofs.Tests.{Whether, so, nay, eqb-is}
-use Rattle.laws.specs.Sums.{tot, one, times}
-use Rattle.laws.proofs.Sums.{each-always, tot-eq, tot-add, tot-zero, any→count}
+use Rattle.laws.proofs.All.{_≡_, sym, ap₂, _∙_, Bool, true, false, List, [], _∷_, ℕ, _+_, _*_, _<_, zero-add}
+use Rattle.laws.proofs.All.{zero-mul, arith, decLt, eqb, length, getD, List·getD-eq-default, if_then_else_, range}
+use Rattle.laws.proofs.All.{filter, Whether, so, nay, eqb-is, tot, one, times, each-always, tot-eq, tot-add}
+use Rattle.laws.proofs.All.{tot-zero, any→count, range-once, elem-range}
 use Rattle.graph.specs.Arcs.{Arc, enters, out}
 use Rattle.graph.specs.Weights.{total, wordsBetween}
-use Rattle.laws.proofs.Elems.{range-once, elem-range}
 
 -- a sum over numbers, of which only a counts
 tot-only : (f : ℕ → ℕ) (a : ℕ) (l : List ℕ) → tot (λ t. one (eqb a) t * f t) l ≡ times a l * f a

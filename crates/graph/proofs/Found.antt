@@ -2,19 +2,13 @@
 -- In order: K, L, gl, reach, inside-l, in-K, s, s-is, C, start-C, closed-C, C-live, C-once, closed-g, heft, v′,
 -- v′-length, in-both, started-inv.
 -- Assumes nothing.
-use mathlib.Core.Path.{_≡_, refl, ap, _∙_}
-use mathlib.Core.Bool.{Bool}
-use mathlib.Core.List.{List, map}
-use Prim.Native.Nat.{ℕ, zero, suc, _*_, _≤_, _<_, zero-le, suc-le-suc}
-use native.Mathlib.Nat.{le-refl, le-trans}
-use lib.Dec.{T, eqb, ltb→lt, lt→ltb}
-use borrow.Author.Tests.{eq-eqb}
-use lib.ListN.{length, getD, length-map}
-use Rattle.laws.specs.Lists.{range, sum, first, elem, indexOf}
-use Rattle.laws.proofs.Tests.{and→, →and, Whether, so, nay, eqb-is, T→true, getD-map-lt}
-use Rattle.laws.specs.Sums.{Each, tot, mask, one, times}
-use Rattle.laws.proofs.Sums.{each-map, each-always, each-both, each-filter, filter-each, first-passes, each-image}
-use Rattle.laws.proofs.Sums.{image-each, tot-filter, tot-le, tot-map}
+use Rattle.laws.proofs.All.{_≡_, refl, ap, _∙_, Bool, List, map, ℕ, zero, suc, _*_, _≤_, _<_, zero-le, suc-le-suc}
+use Rattle.laws.proofs.All.{le-refl, le-trans, T, eqb, ltb→lt, lt→ltb, eq-eqb, length, getD, length-map, range, sum}
+use Rattle.laws.proofs.All.{first, elem, indexOf, and→, →and, Whether, so, nay, eqb-is, T→true, getD-map-lt, Each}
+use Rattle.laws.proofs.All.{tot, mask, one, times, each-map, each-always, each-both, each-filter, filter-each}
+use Rattle.laws.proofs.All.{first-passes, each-image, image-each, tot-filter, tot-le, tot-map, each-range}
+use Rattle.laws.proofs.All.{each-elem, elem-filter, →elem-filter, each-at, elem-range, range-once, tot-filter-le}
+use Rattle.laws.proofs.All.{index-lt, at-index, index-at}
 use Rattle.graph.proofs.Arcs.{same-is, same-refl}
 use Rattle.graph.specs.Invariant.{count, Inside, Stays, Joined, Inv}
 use Rattle.graph.specs.Arcs.{Arc, arc, leaves, out}
@@ -22,10 +16,7 @@ use Rattle.graph.specs.Weights.{weight, total}
 use Rattle.graph.specs.Splitting.{same}
 use Rattle.graph.specs.Component.{reachings, reaches, returning, both, within, renamed, renumbered, weighs}
 use Rattle.graph.specs.Component.{live, componentStates, componentGraph}
-use Rattle.laws.proofs.Anys.{each-range}
 use Rattle.graph.proofs.Reach.{reaches-is}
-use Rattle.laws.proofs.Elems.{each-elem, elem-filter, →elem-filter, each-at, elem-range, range-once, tot-filter-le}
-use Rattle.laws.proofs.Elems.{index-lt, at-index, index-at}
 use Rattle.graph.proofs.Component.{good-some, start-in, C-closed, C-joined}
 
 module _ (v : List ℕ) (g : List Arc) (i : Each (Inside (length v)) g) (z : ℕ) (ez : T (elem z (live v))) where

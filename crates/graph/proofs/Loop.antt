@@ -1,17 +1,9 @@
 -- All splits: they end with no state short of edges, or with too many edges, and never for want of rounds.
 -- In order: splits-on, splits-off, states-le, splits-end, splitted-end, splitted-full.
 -- Assumes nothing.
-use mathlib.Core.Path.{_≡_, refl, sym, subst}
-use mathlib.Core.Bool.{Bool, true, false, not}
-use Prim.Native.Nat.{ℕ, zero, suc, _+_, _≤_, _<_}
-use native.Mathlib.Nat.{le-trans, le-of-eq}
-use native.Mathlib.Omega.{arith}
-use lib.Dec.{T, ltb}
-use borrow.Author.Tests.{ltb-false, le-ltb}
-use lib.ListN.{length}
-use Rattle.laws.specs.Lists.{sum}
-use Rattle.laws.proofs.Tests.{and→, →and, →any-below}
-use Rattle.laws.proofs.Totals.{length-le-sum}
+use Rattle.laws.proofs.All.{_≡_, refl, sym, subst, Bool, true, false, not, ℕ, zero, suc, _+_, _≤_, _<_, le-trans}
+use Rattle.laws.proofs.All.{le-of-eq, arith, T, ltb, ltb-false, le-ltb, length, sum, and→, →and, →any-below}
+use Rattle.laws.proofs.All.{length-le-sum}
 use Rattle.graph.specs.Invariant.{Inv}
 use Rattle.graph.specs.Arcs.{Work, out}
 use Rattle.graph.specs.Splitting.{split, fewEdges, unfinished, goesOn, splits, splitAll}

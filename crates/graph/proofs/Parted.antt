@@ -1,15 +1,9 @@
 -- Parting a state: the weights of the two parts.
 -- In order: weights′, length′, w-old, w-new, w-other, sum′.
 -- Assumes nothing.
-use mathlib.Core.Path.{_≡_, sym, ap, _∙_}
-use mathlib.Core.List.{List, [], _∷_, _++_}
-use Prim.Native.Nat.{ℕ, suc, _+_, _-_, _≤_, _<_}
-use native.Mathlib.Omega.{arith}
-use lib.ListN.{length, getD, set, length-append, length-set, List·getD-append}
-use lib.Seq.{getD-append-seam, getD-set-same, getD-set-other}
-use Rattle.laws.specs.Lists.{sum}
-use Rattle.laws.proofs.Lists.{sum-append}
-use Rattle.laws.proofs.Sums.{sum-set}
+use Rattle.laws.proofs.All.{_≡_, sym, ap, _∙_, List, [], _∷_, _++_, ℕ, suc, _+_, _-_, _≤_, _<_, arith, length, getD}
+use Rattle.laws.proofs.All.{set, length-append, length-set, List·getD-append, getD-append-seam, getD-set-same}
+use Rattle.laws.proofs.All.{getD-set-other, sum, sum-append, sum-set}
 
 -- ---- the new weights
 module _ (v : List ℕ) (s w : ℕ) (hs : s < length v) where

@@ -1,13 +1,8 @@
 -- Parting a state: how many edges there will be.
 -- In order: parted-count.
 -- Assumes nothing.
-use mathlib.Core.Path.{_≡_, refl, ap, ap₂, _∙_}
-use mathlib.Core.Bool.{Bool, true, false}
-use mathlib.Core.List.{List, [], _∷_, map}
-use Prim.Native.Nat.{ℕ, suc, _+_}
-use lib.Dec.{eqb}
-use lib.ListN.{length, length-append, length-map}
-use Rattle.laws.specs.Lists.{if_then_else_, filter}
+use Rattle.laws.proofs.All.{_≡_, refl, ap, ap₂, _∙_, Bool, true, false, List, [], _∷_, map, ℕ, suc, _+_, eqb}
+use Rattle.laws.proofs.All.{length, length-append, length-map, if_then_else_, filter}
 use Rattle.graph.specs.Arcs.{Arc, enters}
 use Rattle.graph.specs.Splitting.{moved, redirected, doubled}
 use Rattle.graph.proofs.PartedSums.{Fate, goes, remains, apart, fate}

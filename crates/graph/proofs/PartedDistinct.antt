@@ -1,19 +1,10 @@
 -- Parting a state: the edges stay distinct and inside.
 -- In order: moved-inside, shifted-inside, doubled-inside, parted-distinct.
 -- Assumes nothing.
-use mathlib.Core.Path.{_≡_, refl, sym, ap, _∙_}
-use mathlib.Core.Bool.{Bool, true, false, not, _&&_}
-use mathlib.Core.List.{List, map}
-use Prim.Native.Nat.{ℕ, suc, _+_, _≤_, _<_, zero-le}
-use native.Mathlib.Nat.{le-refl, le-trans, zero-add}
-use native.Mathlib.Omega.{arith}
-use lib.Dec.{eqb}
-use borrow.Author.Tests.{eq-eqb, ne-eqb}
-use Rattle.laws.specs.Lists.{if_then_else_, filter}
-use Rattle.laws.proofs.Tests.{Whether, so, nay, eqb-is}
-use Rattle.laws.specs.Sums.{Each, tot, mask, one}
-use Rattle.laws.proofs.Sums.{each-map, each-always, each-append, each-filter, each-image, tot-append, tot-filter}
-use Rattle.laws.proofs.Sums.{tot-le, tot-add, tot-map}
+use Rattle.laws.proofs.All.{_≡_, refl, sym, ap, _∙_, Bool, true, false, not, _&&_, List, map, ℕ, suc, _+_, _≤_, _<_}
+use Rattle.laws.proofs.All.{zero-le, le-refl, le-trans, zero-add, arith, eqb, eq-eqb, ne-eqb, if_then_else_, filter}
+use Rattle.laws.proofs.All.{Whether, so, nay, eqb-is, Each, tot, mask, one, each-map, each-always, each-append}
+use Rattle.laws.proofs.All.{each-filter, each-image, tot-append, tot-filter, tot-le, tot-add, tot-map}
 use Rattle.graph.specs.Invariant.{count, Inside}
 use Rattle.graph.specs.Arcs.{Arc, arc, leaves, enters}
 use Rattle.graph.specs.Splitting.{same, among, moved, redirected, doubled}

@@ -1,19 +1,10 @@
 -- Parting a state keeps the invariant, given what the choice of the run must bring.
 -- In order: count-out, parted-length, parted-inv.
 -- Assumes nothing.
-use mathlib.Core.Path.{_≡_, ap, _∙_}
-use mathlib.Core.Bool.{Bool, true, false}
-use mathlib.Core.List.{List}
-use Prim.Native.Nat.{ℕ, suc, _+_, _*_, _-_, _≤_, _<_, zero-le}
-use native.Mathlib.Nat.{le-refl, le-trans, le-of-eq, mul-le-mul-right, add-mul}
-use native.Mathlib.Omega.{arith}
-use native.Mathlib.Decide.{decLt}
-use lib.Dec.{eqb}
-use lib.ListN.{length, getD}
-use Rattle.laws.specs.Lists.{if_then_else_}
-use Rattle.laws.proofs.Tests.{Whether, so, nay, eqb-is}
-use Rattle.laws.specs.Sums.{Each, mask, one}
-use Rattle.laws.proofs.Sums.{each-map, each-always, tot-filter, tot-le}
+use Rattle.laws.proofs.All.{_≡_, ap, _∙_, Bool, true, false, List, ℕ, suc, _+_, _*_, _-_, _≤_, _<_, zero-le}
+use Rattle.laws.proofs.All.{le-refl, le-trans, le-of-eq, mul-le-mul-right, add-mul, arith, decLt, eqb, length, getD}
+use Rattle.laws.proofs.All.{if_then_else_, Whether, so, nay, eqb-is, Each, mask, one, each-map, each-always}
+use Rattle.laws.proofs.All.{tot-filter, tot-le}
 use Rattle.graph.specs.Invariant.{count, Inv, Part}
 use Rattle.graph.specs.Arcs.{Arc, Work, leaves, out}
 use Rattle.graph.specs.Weights.{total}

@@ -1,19 +1,9 @@
 -- Parting a state: the graph stays irreducible.
 -- In order: parted-joined.
 -- Assumes nothing.
-use mathlib.Core.Path.{_≡_, refl, subst}
-use mathlib.Core.Bool.{Bool, _&&_}
-use mathlib.Core.List.{List, map}
-use Prim.Native.Nat.{ℕ, suc, _<_}
-use native.Mathlib.Omega.{arith}
-use native.Mathlib.Decide.{decLt}
-use lib.Dec.{T, eqb}
-use borrow.Author.Tests.{eq-eqb}
-use Rattle.laws.specs.Lists.{if_then_else_, filter}
-use Rattle.laws.proofs.Tests.{and→, →and, Whether, so, nay, eqb-is}
-use Rattle.laws.specs.Sums.{Each, tot, mask}
-use Rattle.laws.proofs.Sums.{each-map, each-both, each-front, each-back, filter-each, image-each, tot-filter}
-use Rattle.laws.proofs.Sums.{tot-some}
+use Rattle.laws.proofs.All.{_≡_, refl, subst, Bool, _&&_, List, map, ℕ, suc, _<_, arith, decLt, T, eqb, eq-eqb}
+use Rattle.laws.proofs.All.{if_then_else_, filter, and→, →and, Whether, so, nay, eqb-is, Each, tot, mask, each-map}
+use Rattle.laws.proofs.All.{each-both, each-front, each-back, filter-each, image-each, tot-filter, tot-some}
 use Rattle.graph.specs.Invariant.{Stays, Joined}
 use Rattle.graph.specs.Arcs.{Arc, leaves, enters, out}
 use Rattle.graph.specs.Weights.{weight, total}

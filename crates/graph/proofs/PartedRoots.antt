@@ -1,16 +1,9 @@
 -- Parting a state: both parts have the root of the state.
 -- In order: rooted, parted-over.
 -- Assumes nothing.
-use mathlib.Core.Path.{_≡_, sym, ap, subst, _∙_}
-use mathlib.Core.List.{List, map}
-use Prim.Native.Nat.{ℕ, _<_}
-use native.Mathlib.Omega.{arith}
-use lib.Dec.{T, eqb, eqb→eq, eqb-refl}
-use borrow.Author.Tests.{ne-eqb}
-use Rattle.laws.specs.Lists.{if_then_else_, filter}
-use Rattle.laws.proofs.Tests.{T→true}
-use Rattle.laws.specs.Sums.{Each}
-use Rattle.laws.proofs.Sums.{each-map, each-both, each-append, each-filter, each-image}
+use Rattle.laws.proofs.All.{_≡_, sym, ap, subst, _∙_, List, map, ℕ, _<_, arith, T, eqb, eqb→eq, eqb-refl, ne-eqb}
+use Rattle.laws.proofs.All.{if_then_else_, filter, T→true, Each, each-map, each-both, each-append, each-filter}
+use Rattle.laws.proofs.All.{each-image}
 use Rattle.graph.specs.Arcs.{Arc, enters}
 use Rattle.graph.specs.Splitting.{moved, redirected, doubled}
 use Rattle.graph.proofs.PartedSums.{Fate, goes, remains, apart, fate}

@@ -1,19 +1,10 @@
 -- Parting a state: the sums of weights to which the edges of each state lead.
 -- In order: Fate, fate, shifted, shifted-other, shifted-old, shifted-both, doubled-tot.
 -- Assumes nothing.
-use mathlib.Core.Path.{_≡_, refl, sym, ap, ap₂, _∙_}
-use mathlib.Core.Bool.{Bool, true, false}
-use mathlib.Core.List.{List, map}
-use Prim.Native.Nat.{ℕ, _+_, _≤_, _<_}
-use native.Mathlib.Nat.{zero-add, add-zero}
-use native.Mathlib.Omega.{arith}
-use lib.Dec.{eqb}
-use borrow.Author.Tests.{eq-eqb, ne-eqb}
-use lib.ListN.{length, getD}
-use Rattle.laws.specs.Lists.{if_then_else_, filter}
-use Rattle.laws.proofs.Tests.{Whether, so, nay, eqb-is}
-use Rattle.laws.specs.Sums.{Each, tot, mask}
-use Rattle.laws.proofs.Sums.{each-map, each-always, tot-append, tot-filter, tot-eq, tot-add, tot-map}
+use Rattle.laws.proofs.All.{_≡_, refl, sym, ap, ap₂, _∙_, Bool, true, false, List, map, ℕ, _+_, _≤_, _<_, zero-add}
+use Rattle.laws.proofs.All.{add-zero, arith, eqb, eq-eqb, ne-eqb, length, getD, if_then_else_, filter, Whether, so}
+use Rattle.laws.proofs.All.{nay, eqb-is, Each, tot, mask, each-map, each-always, tot-append, tot-filter, tot-eq}
+use Rattle.laws.proofs.All.{tot-add, tot-map}
 use Rattle.graph.proofs.Arcs.{pick}
 use Rattle.graph.specs.Invariant.{count, Inside}
 use Rattle.graph.specs.Arcs.{Arc, arc, leaves, enters, out}

@@ -1,26 +1,15 @@
 -- The graph of words: its edges are distinct, lead to states, and are readings of the constraint.
 -- In order: power-distinct, power-reads, power-inside.
 -- Assumes nothing.
-use mathlib.Core.Path.{_≡_, refl, _∙_}
-use mathlib.Core.Logic.{inl, inr}
-use mathlib.Core.Bool.{Bool, true, false, not, _&&_}
-use mathlib.Core.List.{map}
-use Prim.Native.Nat.{ℕ, _≤_, _<_, zero-le, _^_}
-use native.Mathlib.Nat.{le-refl, le-trans, le-of-eq}
-use lib.Dec.{T, eqb}
-use borrow.Author.Tests.{eq-eqb}
-use lib.ListN.{length}
-use Rattle.laws.specs.Lists.{if_then_else_, range, concat}
-use Rattle.laws.proofs.Tests.{Whether, so, nay, eqb-is}
-use Rattle.laws.specs.Sums.{Each, tot, one}
-use Rattle.laws.proofs.Sums.{each-map, each-always, each-filter, each-image, tot-le, tot-zero, tot-map}
-use Rattle.laws.proofs.Totals.{tot-union}
+use Rattle.laws.proofs.All.{_≡_, refl, _∙_, inl, inr, Bool, true, false, not, _&&_, map, ℕ, _≤_, _<_, zero-le, _^_}
+use Rattle.laws.proofs.All.{le-refl, le-trans, le-of-eq, T, eqb, eq-eqb, length, if_then_else_, range, concat}
+use Rattle.laws.proofs.All.{Whether, so, nay, eqb-is, Each, tot, one, each-map, each-always, each-filter}
+use Rattle.laws.proofs.All.{each-image, tot-le, tot-zero, tot-map, tot-union, each-union, each-range, range-once}
+use Rattle.laws.proofs.All.{tot-filter-le}
 use Rattle.graph.specs.Invariant.{count, Inside}
 use Rattle.graph.specs.Arcs.{Arc, wordFrom, wordsFrom, leadsOn, power, Reads}
 use Rattle.graph.specs.Splitting.{same}
 use Rattle.constraint.specs.Walking.{Constraint, none, walk, Target, Well}
-use Rattle.laws.proofs.Anys.{each-union, each-range}
-use Rattle.laws.proofs.Elems.{range-once, tot-filter-le}
 use Rattle.constraint.proofs.Walking.{walk-target}
 
 and-le : (a b c : Bool) → (if a && (b && c) then 1 else 0) ≤ (if b then 1 else 0)

@@ -1,25 +1,14 @@
 -- Reaching: its steps, and that a closed set which holds a state holds all that it reaches.
 -- In order: Reaching, reaches-is, reach-trans, reach-edge.
 -- Assumes nothing.
-use mathlib.Core.Path.{_≡_, refl, sym, subst, _∙_}
-use mathlib.Core.Logic.{_⊎_, inl, inr}
-use mathlib.Core.Bool.{Bool, true, false, not, _||_}
-use mathlib.Core.List.{List, [], _∷_, map}
-use Prim.Native.Nat.{ℕ, _<_}
-use native.Mathlib.Nat.{le-trans, le-of-eq}
-use lib.Dec.{T, eqb, eqb→eq, eqb-refl}
-use lib.ListN.{length, getD, length-map}
-use Rattle.laws.specs.Lists.{range, any}
-use Rattle.laws.proofs.Tests.{and→, →and, or→, →orL, →orR, length-from, map-range-at, tab→, →tab}
-use Rattle.laws.specs.Sums.{Each}
-use Rattle.laws.proofs.Sums.{each-map, each-both, each-any, any-each}
+use Rattle.laws.proofs.All.{_≡_, refl, sym, subst, _∙_, _⊎_, inl, inr, Bool, true, false, not, _||_, List, [], _∷_}
+use Rattle.laws.proofs.All.{map, ℕ, _<_, le-trans, le-of-eq, T, eqb, eqb→eq, eqb-refl, length, getD, length-map}
+use Rattle.laws.proofs.All.{range, any, and→, →and, or→, →orL, →orR, length-from, map-range-at, tab→, →tab, Each}
+use Rattle.laws.proofs.All.{each-map, each-both, each-any, any-each, member, missing, missing-le, grow-sub}
+use Rattle.laws.proofs.All.{member-lt, iterate-keeps, settles}
 use Rattle.graph.specs.Invariant.{Inside, Stays}
 use Rattle.graph.specs.Arcs.{Arc}
-use Rattle.laws.specs.Sets.{member}
 use Rattle.graph.specs.Component.{leadsInto, withSources, reaching, reachings, reaches}
-use Rattle.laws.proofs.Grids.{missing, missing-le, grow-sub}
-use Rattle.laws.proofs.Members.{member-lt}
-use Rattle.laws.proofs.Settle.{iterate-keeps, settles}
 
 before-length : (g : List Arc) (S : List Bool) → length (withSources g S) ≡ length S
 before-length g S = length-map (range (length S)) (λ s. member S s || any (leadsInto S s) g)

@@ -2,20 +2,10 @@
 -- In order: reach→, →reach, live-reach; good→, →good; weight→, →weight, lowest; start-first;
 -- component-is.
 -- Assumes nothing.
-use mathlib.Core.Path.{_≡_, sym, subst}
-use mathlib.Core.Bool.{Bool, _&&_}
-use mathlib.Core.List.{List}
-use Prim.Native.Nat.{ℕ, _<_, zero-le}
-use native.Mathlib.Omega.{arith}
-use lib.Dec.{T, lt→ltb, ltb→lt}
-use lib.ListN.{length, getD}
-use Rattle.laws.specs.Lists.{range, any, first, elem}
-use Rattle.laws.specs.Sums.{Each}
-use Rattle.laws.proofs.Tests.{and→, →and, imp→, →imp}
-use Rattle.laws.proofs.Maps.{first-filter}
-use Rattle.laws.proofs.Sums.{each-map, each-any, each-always, each-both, each-filter}
-use Rattle.laws.proofs.Anys.{any-filter}
-use Rattle.laws.proofs.Elems.{each-elem, elem-each, elem-filter, →elem-filter, elem-range, all-each, all-of}
+use Rattle.laws.proofs.All.{_≡_, sym, subst, Bool, _&&_, List, ℕ, _<_, zero-le, arith, T, lt→ltb, ltb→lt, length}
+use Rattle.laws.proofs.All.{getD, range, any, first, elem, Each, and→, →and, imp→, →imp, first-filter, each-map}
+use Rattle.laws.proofs.All.{each-any, each-always, each-both, each-filter, any-filter, each-elem, elem-each}
+use Rattle.laws.proofs.All.{elem-filter, →elem-filter, elem-range, all-each, all-of, first-head, none-lower}
 use Rattle.graph.specs.Arcs.{Arc}
 use Rattle.graph.specs.Component.{reachings, reaches, returns, returning, both, within, weighs, live}
 use Rattle.graph.specs.Component.{componentStates}
@@ -24,8 +14,6 @@ use Rattle.graph.specs.Reachable.{Reachable, ReachedBack, IsComponent}
 use Rattle.graph.proofs.Reach.{reaches-is, reach-trans, reach-edge}
 use Rattle.graph.proofs.Component.{good-some}
 use Rattle.graph.proofs.Found.{inside-l, in-K, s-is}
-use Rattle.laws.proofs.Filters.{first-head}
-use Rattle.laws.proofs.Firsts.{none-lower}
 
 module _ (v : List ℕ) (g : List Arc) (i : Each (Inside (length v)) g) (z : ℕ) (ez : T (elem z (live v))) where
   abbrev K : ℕ

@@ -1,16 +1,8 @@
 -- Roots through all splits: every edge at the end is an edge of the component between the roots.
 -- In order: Rooted, splits-rooted.
 -- Assumes nothing.
-use mathlib.Core.Path.{_≡_, refl, sym, subst}
-use mathlib.Core.Bool.{Bool, true, false, not}
-use Prim.Native.Nat.{ℕ, zero, suc, _≤_, _<_}
-use native.Mathlib.Omega.{arith}
-use lib.Dec.{T, eqb, ltb}
-use borrow.Author.Tests.{ne-eqb}
-use lib.ListN.{length}
-use Rattle.laws.specs.Lists.{from}
-use Rattle.laws.proofs.Tests.{and→, Whether, so, nay, eqb-is}
-use Rattle.laws.specs.Sums.{Each}
+use Rattle.laws.proofs.All.{_≡_, refl, sym, subst, Bool, true, false, not, ℕ, zero, suc, _≤_, _<_, arith, T, eqb}
+use Rattle.laws.proofs.All.{ltb, ne-eqb, length, from, and→, Whether, so, nay, eqb-is, Each}
 use Rattle.graph.specs.Invariant.{Inv}
 use Rattle.graph.specs.Arcs.{Work}
 use Rattle.graph.specs.Splitting.{chosen, kept, split, unfinished, goesOn, splits}

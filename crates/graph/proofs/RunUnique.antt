@@ -1,20 +1,11 @@
 -- "And of those the shortest" never decides: two runs with one end would leave a run that ends earlier.
 -- In order: earlier-run; shortest-idle.
 -- Assumes nothing.
-use mathlib.Core.Path.{_≡_, sym, ap, _∙_}
-use mathlib.Core.List.{List}
-use Prim.Native.Nat.{ℕ, _+_, _-_, _%_, _≤_, _<_}
-use native.Mathlib.Nat.{add-comm}
-use native.Mathlib.Omega.{arith}
-use native.Mathlib.Decide.{decLt}
-use lib.Dec.{T, eqb→eq}
-use lib.ListN.{take, drop}
-use lib.Seq.{drop-drop}
+use Rattle.laws.proofs.All.{_≡_, sym, ap, _∙_, List, ℕ, _+_, _-_, _%_, _≤_, _<_, add-comm, arith, decLt, T, eqb→eq}
+use Rattle.laws.proofs.All.{take, drop, drop-drop, mod-diff, tot-take-add}
 use Rattle.graph.specs.Arcs.{Arc}
 use Rattle.graph.specs.Weights.{weight, total}
 use Rattle.graph.specs.Splitting.{stretch, divisible}
-use Rattle.laws.proofs.Places.{mod-diff}
-use Rattle.laws.proofs.Totals.{tot-take-add}
 
 module _ (n : ℕ) (v : List ℕ) (es : List Arc) where
   -- the longer run is the shorter with a run before it

@@ -1,26 +1,15 @@
 -- A run whose weights sum to a multiple of n: there is one among n edges, and what it weighs.
 -- In order: run-exists, PartOf, run-is.
 -- Assumes nothing.
-use mathlib.Core.Path.{_≡_, ap, _∙_}
-use mathlib.Core.List.{List, [], _∷_, map}
-use Prim.Native.Nat.{ℕ, zero, suc, _+_, _*_, _-_, _/_, _%_, _≤_, _<_, zero-le, suc-le-suc}
-use native.Mathlib.Nat.{le-of-suc-le-suc, not-suc-le-zero, le-trans, mod-lt}
-use native.Mathlib.Nat.{mod-add-div'}
-use native.Mathlib.Omega.{arith}
-use lib.Dec.{T, eqb→eq}
-use lib.ListN.{length, take, drop}
-use native.Mathlib.Numerals.{add-one}
-use Rattle.laws.specs.Lists.{range, any}
-use Rattle.laws.proofs.Tests.{→any-below}
-use Rattle.laws.specs.Sums.{Each, tot}
-use Rattle.laws.proofs.Sums.{each-map, each-always, each-take, each-drop, first-passes, each-image}
+use Rattle.laws.proofs.All.{_≡_, ap, _∙_, List, [], _∷_, map, ℕ, zero, suc, _+_, _*_, _-_, _/_, _%_, _≤_, _<_}
+use Rattle.laws.proofs.All.{zero-le, suc-le-suc, le-of-suc-le-suc, not-suc-le-zero, le-trans, mod-lt, mod-add-div'}
+use Rattle.laws.proofs.All.{arith, T, eqb→eq, length, take, drop, add-one, range, any, →any-below, Each, tot}
+use Rattle.laws.proofs.All.{each-map, each-always, each-take, each-drop, first-passes, each-image, Twice, pigeon}
+use Rattle.laws.proofs.All.{mod-diff, tot-take-add, tot-take-le, tot-drop-le, each-range, any-image, each-union}
+use Rattle.laws.proofs.All.{any-union}
 use Rattle.graph.specs.Arcs.{Arc}
 use Rattle.graph.specs.Weights.{weight, total}
 use Rattle.graph.specs.Splitting.{stretch, runs, divisible, firstRun}
-use Rattle.laws.proofs.Pigeon.{Twice, pigeon}
-use Rattle.laws.proofs.Places.{mod-diff}
-use Rattle.laws.proofs.Totals.{tot-take-add, tot-take-le, tot-drop-le}
-use Rattle.laws.proofs.Anys.{each-range, any-image, each-union, any-union}
 
 module _ (n : ℕ) (v : List ℕ) (es : List Arc) (hn : 0 < n) (size : length es ≡ n) where
   -- among n edges there is a run whose weights sum to a multiple of n

@@ -1,15 +1,9 @@
 -- One split: while some state has too few edges, the split keeps the invariant and makes one more state.
 -- In order: split-part, split-inv, split-length.
 -- Assumes nothing.
-use mathlib.Core.Path.{_≡_, sym, subst}
-use mathlib.Core.List.{List}
-use Prim.Native.Nat.{ℕ, suc, _*_, _/_, _≤_, _<_, suc-le-suc}
-use native.Mathlib.Nat.{le-trans, le-of-eq, zero-mul, mul-comm, lt-of-mul-lt-mul-right}
-use lib.Dec.{T}
-use lib.ListN.{length}
-use Rattle.laws.specs.Lists.{any}
-use Rattle.laws.specs.Sums.{Each, one}
-use Rattle.laws.proofs.Sums.{each-map, each-filter}
+use Rattle.laws.proofs.All.{_≡_, sym, subst, List, ℕ, suc, _*_, _/_, _≤_, _<_, suc-le-suc, le-trans, le-of-eq}
+use Rattle.laws.proofs.All.{zero-mul, mul-comm, lt-of-mul-lt-mul-right, T, length, any, Each, one, each-map}
+use Rattle.laws.proofs.All.{each-filter}
 use Rattle.graph.proofs.Arcs.{tot-sort, length-sort}
 use Rattle.graph.specs.Invariant.{count, Inside, Inv, Part}
 use Rattle.graph.specs.Arcs.{Arc, Work, leaves, out}

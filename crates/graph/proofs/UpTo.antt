@@ -1,19 +1,10 @@
 -- Those of the numbers below a bound that pass a test.
 -- In order: upTo, upTo-yes, upTo-no; elem-kept, index-kept.
 -- Assumes nothing.
-use mathlib.Core.Path.{_≡_, refl, sym, ap, _∙_}
-use mathlib.Core.Bool.{Bool, true, false}
-use mathlib.Core.List.{List, [], _∷_, _++_, append-nil}
-use Prim.Native.Nat.{ℕ, zero, suc, _+_, _-_, _≤_, _<_}
-use native.Mathlib.Omega.{arith}
-use native.Mathlib.Decide.{ℕ-discrete}
-use borrow.Author.Tests.{eq-eqb, ne-eqb}
-use lib.ListN.{length}
-use Rattle.laws.specs.Lists.{if_then_else_, from, range, filter, elem, indexOf}
-use Rattle.laws.proofs.Tests.{bool-eq}
-use Rattle.laws.proofs.Elems.{elem-filter, →elem-filter, elem-range}
-use Rattle.laws.proofs.Ranges.{range-more}
-use Rattle.laws.proofs.Maps.{filter-append}
+use Rattle.laws.proofs.All.{_≡_, refl, sym, ap, _∙_, Bool, true, false, List, [], _∷_, _++_, append-nil, ℕ, zero}
+use Rattle.laws.proofs.All.{suc, _+_, _-_, _≤_, _<_, arith, ℕ-discrete, eq-eqb, ne-eqb, length, if_then_else_, from}
+use Rattle.laws.proofs.All.{range, filter, elem, indexOf, bool-eq, elem-filter, →elem-filter, elem-range}
+use Rattle.laws.proofs.All.{range-more, filter-append}
 
 module _ (q : ℕ → Bool) where
   abbrev pub upTo : ℕ → List ℕ

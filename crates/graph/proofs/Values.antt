@@ -2,23 +2,13 @@
 -- In order: Bounded, Low, fits-from, fits-arcs, fits-weights; withArc; Appended, appended-none, appended-count,
 -- appended-more; climbs.
 -- Assumes nothing.
-use mathlib.Core.Path.{_≡_, refl, sym, ap, ap₂, subst, _∙_}
-use mathlib.Core.List.{List, [], _∷_, map, _++_, append-assoc, append-nil}
-use Prim.Native.Nat.{ℕ, zero, suc, _+_, _-_, _≤_, _<_}
-use native.Mathlib.Nat.{add-zero}
-use native.Mathlib.Omega.{arith}
-use lib.ListN.{length, set, length-set, length-append}
-use Rattle.laws.specs.Lists.{range}
-use Rattle.laws.specs.Sums.{Each}
-use Rattle.laws.proofs.Sums.{each-map, each-image}
-use Rattle.laws.proofs.Elems.{each-at}
-use Rattle.laws.proofs.Tests.{map-range-at}
-use Rattle.laws.proofs.Anys.{each-range}
+use Rattle.laws.proofs.All.{_≡_, refl, sym, ap, ap₂, subst, _∙_, List, [], _∷_, map, _++_, append-assoc, append-nil}
+use Rattle.laws.proofs.All.{ℕ, zero, suc, _+_, _-_, _≤_, _<_, add-zero, arith, length, set, length-set}
+use Rattle.laws.proofs.All.{length-append, range, Each, each-map, each-image, each-at, map-range-at, each-range}
+use Rattle.laws.proofs.All.{length-map-range, map-range-more, map-range-same, getD-set-same, getD-set-other}
 use Rattle.graph.specs.declared.Graph.{Graph}
 use Rattle.graph.specs.Arcs.{Arc, arc}
 use Rattle.graph.specs.Value.{arcAt, arcsIn, weightAt, weightsIn, Fits}
-use Rattle.laws.proofs.Ranges.{length-map-range, map-range-more, map-range-same}
-use lib.Seq.{getD-set-same, getD-set-other}
 
 -- ---- a graph that fits, by its lists
 abbrev pub Bounded : ℕ → Arc → Type 0

@@ -2,23 +2,15 @@
 -- In order: enough-total, weights-length, weights-fixed, weights-enough, weights-greatest,
 -- weights-cap.
 -- Assumes nothing.
-use mathlib.Core.Path.{_≡_, refl, sym, ap, ap₂, _∙_}
-use mathlib.Core.Logic.{_⊎_, inl, inr}
-use mathlib.Core.List.{List, [], _∷_}
-use Prim.Native.Nat.{ℕ, zero, suc, _*_, _/_, _≤_, _<_, zero-le, min}
-use native.Mathlib.Nat.{le-of-suc-le-suc, not-suc-le-zero, le-trans, le-of-eq, add-le-add, min-le-left}
-use native.Mathlib.Nat.{le-min, zero-min, le-div-iff-mul-le}
-use native.Mathlib.Omega.{arith}
-use native.Mathlib.Decide.{decLt}
-use lib.ListN.{length, getD, length-map, replicate, length-replicate, List·getD-eq-default, getD-replicate}
-use Rattle.laws.specs.Lists.{range, sum}
-use Rattle.laws.proofs.Lists.{sum-replicate}
-use Rattle.laws.proofs.Tests.{length-from, map-range-at}
+use Rattle.laws.proofs.All.{_≡_, refl, sym, ap, ap₂, _∙_, _⊎_, inl, inr, List, [], _∷_, ℕ, zero, suc, _*_, _/_, _≤_}
+use Rattle.laws.proofs.All.{_<_, zero-le, min, le-of-suc-le-suc, not-suc-le-zero, le-trans, le-of-eq, add-le-add}
+use Rattle.laws.proofs.All.{min-le-left, le-min, zero-min, le-div-iff-mul-le, arith, decLt, length, getD}
+use Rattle.laws.proofs.All.{length-map, replicate, length-replicate, List·getD-eq-default, getD-replicate, range}
+use Rattle.laws.proofs.All.{sum, sum-replicate, length-from, map-range-at, iterate-keeps, settles, tot-le}
+use Rattle.laws.proofs.All.{each-always}
 use Rattle.graph.specs.Arcs.{Arc, out}
 use Rattle.graph.specs.Weights.{lower, lowered, weights, Enough, AtMost, product, total, weight}
-use Rattle.laws.proofs.Settle.{iterate-keeps, settles}
 use Rattle.graph.proofs.Exchange.{exchange}
-use Rattle.laws.proofs.Sums.{tot-le, each-always}
 
 product-mono : (u v : List ℕ) → AtMost u v → (g : List Arc) (s : ℕ) → product g u s ≤ product g v s
 product-mono u v h g s =

@@ -1,11 +1,7 @@
 -- The numbers of a record: those of the table that was loaded, each below 256.
 -- In order: in-range; numbers-are; ends, goes-on.
 -- Assumes nothing.
-use mathlib.Core.Path.{_≡_, sym, ap, subst, _∙_}
-use mathlib.Core.List.{List, [], _∷_}
-use Prim.Native.Nat.{ℕ, _-_}
-use lib.Dec.{T}
-use lib.ListN.{length}
+use Rattle.laws.proofs.All.{_≡_, sym, ap, subst, _∙_, List, [], _∷_, ℕ, _-_, T, length}
 use Rattle.answer.specs.declared.Refusal.{Refusal}
 use Rattle.answer.specs.declared.Answer.{Answer}
 use Rattle.answer.specs.declared.Answer.the-variants.{Refused}

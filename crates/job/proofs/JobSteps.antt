@@ -3,16 +3,9 @@
 -- job-good; run-length-size, run-length-parameters, run-length-range, run-length-good; ready-of,
 -- job-ready, run-length-ready.
 -- Assumes nothing.
-use mathlib.Core.Path.{_≡_, refl, sym, ap, ap₂, subst, _∙_}
-use mathlib.Core.Bool.{Bool, true, false, _&&_}
-use mathlib.Core.List.{List, [], _∷_, map}
-use Prim.Native.Nat.{ℕ, zero, suc, _+_, _*_, _≤_}
-use native.Mathlib.Omega.{arith}
-use lib.Dec.{T, leb, eqb, leb→le}
-use lib.ListN.{length, getD, drop}
-use lib.Seq.{getD-drop, drop-drop}
-use Rattle.laws.specs.Lists.{all, from, range}
-use Rattle.laws.proofs.Tests.{and→}
+use Rattle.laws.proofs.All.{_≡_, refl, sym, ap, ap₂, subst, _∙_, Bool, true, false, _&&_, List, [], _∷_, map, ℕ}
+use Rattle.laws.proofs.All.{zero, suc, _+_, _*_, _≤_, arith, T, leb, eqb, leb→le, length, getD, drop, getD-drop}
+use Rattle.laws.proofs.All.{drop-drop, all, from, range, and→}
 use Rattle.answer.specs.declared.Refusal.{Refusal}
 use Rattle.answer.specs.declared.Refusal.the-variants.{Parameters, States, Length}
 use Rattle.answer.specs.Outcomes.{Outcome, done, refused, unless}

@@ -1,19 +1,9 @@
 -- Jobs that are read are allowed: their numbers are in range and their next states are states or none.
 -- In order: parameters; length-statesOf; states-well; readJob-allowed; readRunLength-allowed.
 -- Assumes nothing.
-use mathlib.Core.Path.{_≡_, refl, sym, ap, subst, _∙_}
-use mathlib.Core.Logic.{_⊎_, inl, inr}
-use mathlib.Core.Bool.{Bool, _&&_, _||_}
-use mathlib.Core.List.{List, [], _∷_}
-use Prim.Native.Nat.{ℕ, zero, suc, _+_, _*_, _≤_, _<_}
-use native.Mathlib.Omega.{arith}
-use lib.Dec.{T, ltb, leb, eqb, ltb→lt, leb→le, eqb→eq}
-use lib.ListN.{length, getD, drop}
-use Rattle.laws.specs.Lists.{all}
-use Rattle.laws.specs.Sums.{Each}
-use Rattle.laws.proofs.Tests.{and→, or→}
-use Rattle.laws.proofs.Sums.{each-map}
-use Rattle.laws.proofs.Elems.{all-each}
+use Rattle.laws.proofs.All.{_≡_, refl, sym, ap, subst, _∙_, _⊎_, inl, inr, Bool, _&&_, _||_, List, [], _∷_, ℕ, zero}
+use Rattle.laws.proofs.All.{suc, _+_, _*_, _≤_, _<_, arith, T, ltb, leb, eqb, ltb→lt, leb→le, eqb→eq, length, getD}
+use Rattle.laws.proofs.All.{drop, all, Each, and→, or→, each-map, all-each}
 use Rattle.answer.specs.declared.Refusal.the-variants.{Parameters, States, Length}
 use Rattle.answer.specs.Outcomes.{Outcome, done, unless}
 use Rattle.answer.proofs.Outcomes.{done-inj, unless→}

@@ -1,12 +1,8 @@
 -- A listing fits 43,028 bytes, so the program prints what the definition says.
 -- In order: front; list-done, list-refused, list-told.
 -- Assumes nothing.
-use mathlib.Core.Path.{_≡_, refl, sym, ap, _∙_}
-use mathlib.Core.List.{List, _++_}
-use Prim.Native.Nat.{ℕ, _≤_}
-use native.Mathlib.Omega.{arith}
-use lib.ListN.{length, take, drop, length-append}
-use lib.Seq.{take-append-seam, length-take-le}
+use Rattle.laws.proofs.All.{_≡_, refl, sym, ap, _∙_, List, _++_, ℕ, _≤_, arith, length, take, drop, length-append}
+use Rattle.laws.proofs.All.{take-append-seam, length-take-le}
 use Rattle.io.specs.Counts.{Counts}
 use Rattle.answer.specs.declared.Refusal.{Refusal}
 use Rattle.answer.specs.declared.Answer.{Answer}

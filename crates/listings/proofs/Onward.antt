@@ -1,9 +1,7 @@
 -- The listing of a run-length job is the reading of the job, and then the listing of its code.
 -- In order: listed-so.
 -- Assumes nothing.
-use mathlib.Core.Path.{_≡_, refl, ap, _∙_}
-use mathlib.Core.List.{List}
-use Prim.Native.Nat.{ℕ}
+use Rattle.laws.proofs.All.{_≡_, refl, ap, _∙_, List, ℕ}
 use Rattle.answer.specs.declared.Answer.{Answer}
 use Rattle.answer.specs.Outcomes.{Outcome, done, refused, onward, fitting, answerOf, outputOf}
 use Rattle.job.specs.Jobs.{Job, readRunLength}

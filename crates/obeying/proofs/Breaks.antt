@@ -1,17 +1,9 @@
 -- Where the test of obeying fails, some recording breaks the constraint.
 -- In order: some-fails, below-fails; Bad, bad-back, bad-start; breaks-exact.
 -- Assumes nothing.
-use mathlib.Core.Path.{_≡_, refl, sym, ap, subst, _∙_}
-use mathlib.Core.Logic.{_↔_}
-use mathlib.Core.Bool.{Bool, true, false, not, _&&_, _||_}
-use mathlib.Core.List.{List, [], _∷_}
-use Prim.Native.Nat.{ℕ, suc, _^_, _≤_, _<_, zero-le, suc-le-suc}
-use native.Mathlib.Omega.{arith}
-use lib.Dec.{T, eqb, eqb→eq}
-use lib.ListN.{length, getD, replicate}
-use Rattle.laws.specs.Lists.{range, all}
-use Rattle.laws.specs.Sets.{has}
-use Rattle.laws.proofs.Tests.{length-from, range-at}
+use Rattle.laws.proofs.All.{_≡_, refl, sym, ap, subst, _∙_, _↔_, Bool, true, false, not, _&&_, _||_, List, [], _∷_}
+use Rattle.laws.proofs.All.{ℕ, suc, _^_, _≤_, _<_, zero-le, suc-le-suc, arith, T, eqb, eqb→eq, length, getD}
+use Rattle.laws.proofs.All.{replicate, range, all, has, length-from, range-at}
 use Rattle.constraint.specs.Walking.{none, walk}
 use Rattle.constraint.specs.Follow.{Finds, channel}
 use Rattle.constraint.proofs.Follow.{finds-split, channel-append}

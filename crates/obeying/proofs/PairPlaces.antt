@@ -1,21 +1,10 @@
 -- The places of pairs stand for the pairs of the definition `obeys`, so the test of the reached places decides it.
 -- In order: stateOf, pairOf and their laws, one edge; reached-has; obeys-is.
 -- Assumes nothing.
-use mathlib.Core.Path.{_≡_, refl, sym, ap, ap₂, subst, subst₂, _∙_}
-use mathlib.Core.Logic.{inl, inr}
-use mathlib.Core.Bool.{Bool, true, false}
-use mathlib.Core.List.{List}
-use Prim.Native.Nat.{ℕ, _+_, _*_, _/_, _%_, _^_, _≤_, _<_}
-use native.Mathlib.Omega.{arith}
-use native.Mathlib.Decide.{ℕ-discrete}
-use borrow.Author.Tests.{eq-eqb, ne-eqb}
-use lib.Dec.{T, T-not, not-T, eqb, eqb→eq}
-use lib.ListN.{length, getD}
-use lib.Pow.{pow-mono}
-use Rattle.laws.specs.Lists.{if_then_else_}
-use Rattle.laws.specs.Sets.{has}
-use Rattle.laws.proofs.Tests.{bool-eq, all-below→, →all-below}
-use Rattle.laws.proofs.Places.{quotient-of, remainder-of}
+use Rattle.laws.proofs.All.{_≡_, refl, sym, ap, ap₂, subst, subst₂, _∙_, inl, inr, Bool, true, false, List, ℕ, _+_}
+use Rattle.laws.proofs.All.{_*_, _/_, _%_, _^_, _≤_, _<_, arith, ℕ-discrete, eq-eqb, ne-eqb, T, T-not, not-T, eqb}
+use Rattle.laws.proofs.All.{eqb→eq, length, getD, pow-mono, if_then_else_, has, bool-eq, all-below→, →all-below}
+use Rattle.laws.proofs.All.{quotient-of, remainder-of}
 use Rattle.constraint.specs.Walking.{none, walk}
 use Rattle.constraint.specs.Value.{constraintOf}
 use Rattle.constraint.specs.PowerTable.{powerCodes}

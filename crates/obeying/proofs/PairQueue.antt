@@ -3,21 +3,10 @@
 -- In order: member-put; absent-put, absent-blank; queue-blank, queue-room, queue-put, queue-same;
 -- grown-none, grown-more; Reaching, reach-start, reach-more, reach-done, reach-fail, reach-test.
 -- Assumes nothing.
-use mathlib.Core.Path.{_≡_, refl, sym, ap, subst, _∙_}
-use mathlib.Core.Logic.{_⊎_, inl, inr}
-use mathlib.Core.Bool.{Bool, true, false}
-use mathlib.Core.List.{List, [], _∷_}
-use Prim.Native.Nat.{ℕ, zero, suc, _+_, _≤_, _<_}
-use native.Mathlib.Nat.{not-suc-le-zero, le-of-suc-le-suc}
-use native.Mathlib.Omega.{arith}
-use native.Mathlib.Decide.{ℕ-discrete}
-use borrow.Author.Count.{below-more}
-use lib.Dec.{T}
-use lib.ListN.{length, getD, set, length-set, replicate, length-replicate}
-use lib.Seq.{getD-set-same, getD-set-other}
-use Rattle.laws.specs.Lists.{range, all}
-use Rattle.laws.specs.Sets.{member}
-use Rattle.laws.proofs.Members.{member-lt, member-blank}
+use Rattle.laws.proofs.All.{_≡_, refl, sym, ap, subst, _∙_, _⊎_, inl, inr, Bool, true, false, List, [], _∷_, ℕ}
+use Rattle.laws.proofs.All.{zero, suc, _+_, _≤_, _<_, not-suc-le-zero, le-of-suc-le-suc, arith, ℕ-discrete}
+use Rattle.laws.proofs.All.{below-more, T, length, getD, set, length-set, replicate, length-replicate}
+use Rattle.laws.proofs.All.{getD-set-same, getD-set-other, range, all, member, member-lt, member-blank}
 use Rattle.obeying.specs.Obeying.{Reached, absent, Queue, Grown, Followed}
 use Rattle.obeying.specs.Obeying.Reached.{origin, carried}
 

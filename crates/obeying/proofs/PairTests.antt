@@ -1,12 +1,7 @@
 -- Laws of the tests of places.
 -- In order: other-than, same-as; pick-same, pick-other.
 -- Assumes nothing.
-use mathlib.Core.Path.{_≡_}
-use mathlib.Core.Bool.{false, not}
-use Prim.Native.Nat.{ℕ}
-use borrow.Author.Tests.{eq-eqb, ne-eqb}
-use lib.Dec.{T, eqb}
-use Rattle.laws.specs.Lists.{if_then_else_}
+use Rattle.laws.proofs.All.{_≡_, false, not, ℕ, eq-eqb, ne-eqb, T, eqb, if_then_else_}
 
 pub other-than : (k v : ℕ) → (k ≡ v → ⊥) → T (not (eqb k v))
 other-than k v h = rw (ne-eqb k v h) tt

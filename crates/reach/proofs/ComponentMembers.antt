@@ -2,24 +2,12 @@
 -- In order: reaches-at, weighs-at; fails, returning-yes, returning-no; lowest, lowest-at, lowest-none; kept,
 -- component-is.
 -- Assumes nothing.
-use mathlib.Core.Path.{_≡_, refl, sym, ap, ap₂, _∙_}
-use mathlib.Core.Bool.{Bool, true, false, not, _&&_, _||_}
-use mathlib.Core.List.{List, []}
-use Prim.Native.Nat.{ℕ, _≤_, _<_}
-use native.Mathlib.Omega.{arith}
-use lib.Dec.{ltb}
-use lib.ListN.{length, getD, take}
-use lib.Seq.{length-take-le, getD-take}
-use Rattle.laws.specs.Lists.{range, filter, all, first}
-use Rattle.laws.specs.Sets.{member}
-use Rattle.laws.proofs.Tests.{map-range-at}
-use Rattle.laws.proofs.Sums.{each-map}
-use Rattle.laws.proofs.Anys.{each-range}
+use Rattle.laws.proofs.All.{_≡_, refl, sym, ap, ap₂, _∙_, Bool, true, false, not, _&&_, _||_, List, [], ℕ, _≤_, _<_}
+use Rattle.laws.proofs.All.{arith, ltb, length, getD, take, length-take-le, getD-take, range, filter, all, first}
+use Rattle.laws.proofs.All.{member, map-range-at, each-map, each-range, first-least, filter-same, all-filter}
+use Rattle.laws.proofs.All.{filter-fuse, first-filter, all-range-false, all-range-true, first-range-none}
 use Rattle.graph.specs.Component.{reaches, returns, returning, weighs, live}
 use Rattle.reach.specs.ReachSets.{reachAt, rowOf, rowsOf}
-use Rattle.laws.proofs.Firsts.{first-least}
-use Rattle.laws.proofs.Maps.{filter-same, all-filter, filter-fuse, first-filter}
-use Rattle.laws.proofs.Ranges.{all-range-false, all-range-true, first-range-none}
 
 module _ (M : List Bool) (v : List ℕ) (k : ℕ) (few : k ≤ 16) (long : length v ≡ 16) where
   abbrev R : List (List Bool)

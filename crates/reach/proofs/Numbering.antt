@@ -1,16 +1,10 @@
 -- Numbering those of the numbers below a bound that pass a test.
 -- In order: Numbered, numbered-none, numbered-yes, numbered-no, numbered-end.
 -- Assumes nothing.
-use mathlib.Core.Path.{_≡_, refl, sym, ap, _∙_}
-use mathlib.Core.Bool.{Bool, true, false}
-use mathlib.Core.List.{List, [], _∷_, _++_}
-use Prim.Native.Nat.{ℕ, _+_, _≤_, _<_}
-use native.Mathlib.Numerals.{add-one}
-use native.Mathlib.Omega.{arith}
-use borrow.Author.Count.{below-more}
-use lib.ListN.{length, getD, take, set, length-set, replicate, length-replicate, getD-replicate}
-use lib.Seq.{length-take-le, getD-set-same, getD-set-other, take-suc-set}
-use Rattle.laws.specs.Lists.{if_then_else_, elem, indexOf}
+use Rattle.laws.proofs.All.{_≡_, refl, sym, ap, _∙_, Bool, true, false, List, [], _∷_, _++_, ℕ, _+_, _≤_, _<_}
+use Rattle.laws.proofs.All.{add-one, arith, below-more, length, getD, take, set, length-set, replicate}
+use Rattle.laws.proofs.All.{length-replicate, getD-replicate, length-take-le, getD-set-same, getD-set-other}
+use Rattle.laws.proofs.All.{take-suc-set, if_then_else_, elem, indexOf}
 use Rattle.reach.specs.ReachSets.{Listed}
 use Rattle.graph.proofs.UpTo.{upTo, upTo-yes, upTo-no, elem-kept, index-kept}
 

@@ -1,21 +1,13 @@
 -- Which states can reach which: rounds over all states at once.
 -- In order: step-row; Rounds, rounds-start, rounds-more, rounds-still, rounds-end.
 -- Assumes nothing.
-use mathlib.Core.Path.{_≡_, refl, sym, ap, ap₂, _∙_}
-use mathlib.Core.Bool.{Bool, true, false, not, _&&_, _||_, Bool·beq}
-use mathlib.Core.List.{List, map}
-use Prim.Native.Nat.{ℕ, suc, _+_, _-_, _*_, _/_, _%_, _≤_, _<_}
-use native.Mathlib.Omega.{arith}
-use lib.Dec.{eqb}
-use lib.ListN.{length, getD}
-use Rattle.laws.specs.Lists.{range, any, iterate}
-use Rattle.laws.proofs.Tests.{map-range-at}
-use Rattle.laws.proofs.Settle.{iterate-fixed}
+use Rattle.laws.proofs.All.{_≡_, refl, sym, ap, ap₂, _∙_, Bool, true, false, not, _&&_, _||_, Bool·beq, List, map}
+use Rattle.laws.proofs.All.{ℕ, suc, _+_, _-_, _*_, _/_, _%_, _≤_, _<_, arith, eqb, length, getD, range, any}
+use Rattle.laws.proofs.All.{iterate, map-range-at, iterate-fixed, length-map-range, map-range-same, any-range-same}
+use Rattle.laws.proofs.All.{quotient-of, remainder-of}
 use Rattle.graph.specs.Arcs.{Arc}
 use Rattle.graph.specs.Component.{reachesInto, withSources, reaching, reachings}
 use Rattle.reach.specs.ReachSets.{reachAt, rowOf, rowsOf, linksInto, Linked, passesOn}
-use Rattle.laws.proofs.Ranges.{length-map-range, map-range-same, any-range-same}
-use Rattle.laws.proofs.Places.{quotient-of, remainder-of}
 
 module _ (E : List Bool) (k : ℕ) (few : k ≤ 16) where
   -- after i rounds the rounds left lead to the states that can reach each state

@@ -1,12 +1,7 @@
 -- Whether every state reachable from s can reach it back, stated over the arrays of the code.
 -- In order: failsAt, fails-yes, fails-no.
 -- Assumes nothing.
-use mathlib.Core.Path.{_≡_}
-use mathlib.Core.Bool.{Bool, true, false, not, _&&_}
-use mathlib.Core.List.{List}
-use Prim.Native.Nat.{ℕ, _≤_, _<_}
-use lib.Dec.{ltb}
-use lib.ListN.{length, getD, take}
+use Rattle.laws.proofs.All.{_≡_, Bool, true, false, not, _&&_, List, ℕ, _≤_, _<_, ltb, length, getD, take}
 use Rattle.graph.specs.Component.{returning, live}
 use Rattle.reach.specs.ReachSets.{reachAt, rowsOf}
 use Rattle.reach.proofs.ComponentMembers.{returning-yes, returning-no}

@@ -2,18 +2,9 @@
 -- In order: readsAt with read-in, read-out, read-only; FirstFrom with first-start, first-jump, first-take;
 -- first-reading.
 -- Assumes nothing.
-use mathlib.Core.Path.{_≡_, refl, sym, ap, ap₂, _∙_}
-use mathlib.Core.Logic.{_⊎_, inl, inr}
-use mathlib.Core.Bool.{Bool, true, false, _&&_, and-false}
-use mathlib.Core.List.{List, [], _∷_}
-use Prim.Native.Nat.{ℕ, _+_, _*_, _/_, _%_, _≤_, _<_}
-use native.Mathlib.Omega.{arith}
-use native.Mathlib.Decide.{decLt}
-use borrow.Author.Tests.{ltb-true}
-use lib.Dec.{eqb}
-use lib.ListN.{length, getD}
-use Rattle.laws.proofs.Filters.{filter-none, filter-first, concat-none, concat-first}
-use Rattle.laws.specs.Sets.{member}
+use Rattle.laws.proofs.All.{_≡_, refl, sym, ap, ap₂, _∙_, _⊎_, inl, inr, Bool, true, false, _&&_, and-false, List}
+use Rattle.laws.proofs.All.{[], _∷_, ℕ, _+_, _*_, _/_, _%_, _≤_, _<_, arith, decLt, ltb-true, eqb, length, getD}
+use Rattle.laws.proofs.All.{filter-none, filter-first, concat-none, concat-first, member}
 use Rattle.table.specs.Rows.{edges, at}
 use Rattle.table.specs.Edges.{Arrays, rowsOf, places, wordOf, nextOf, Fits, bears}
 use Rattle.table.proofs.Edges.{bears-edge}

@@ -1,13 +1,8 @@
 -- Loops along the run of a word that look for the first edge that passes a test.
 -- In order: Finding, with finding-start, finding-yes, finding-no, finding-done.
 -- Assumes nothing.
-use mathlib.Core.Path.{_≡_, sym, ap, subst, _∙_}
-use mathlib.Core.Bool.{Bool, true, false}
-use mathlib.Core.List.{List}
-use Prim.Native.Nat.{ℕ, _+_, _%_, _≤_, _<_}
-use native.Mathlib.Omega.{arith}
-use native.Mathlib.Decide.{ℕ-discrete}
-use lib.ListN.{getD}
+use Rattle.laws.proofs.All.{_≡_, sym, ap, subst, _∙_, Bool, true, false, List, ℕ, _+_, _%_, _≤_, _<_, arith}
+use Rattle.laws.proofs.All.{ℕ-discrete, getD}
 use Rattle.table.specs.Edges.{Arrays, places, bears, lastBelow}
 use Rattle.table.proofs.Edges.{on-le, on-gap}
 use Rattle.runs.specs.EdgeRuns.{above}

@@ -1,16 +1,8 @@
 -- The window of a block as the code cuts it.
 -- In order: past-start, past-later, block-cut.
 -- Assumes nothing.
-use mathlib.Core.Path.{_≡_, sym, ap, ap₂, _∙_}
-use mathlib.Core.Bool.{Bool}
-use mathlib.Core.List.{List}
-use Prim.Native.Nat.{ℕ, _+_, _-_, _≤_, _<_}
-use native.Mathlib.Omega.{arith}
-use borrow.Author.Tests.{lt-ltb, le-ltb}
-use lib.ListN.{getD, take, drop}
-use lib.Seq.{slice}
-use Rattle.laws.specs.Lists.{if_then_else_}
-use Rattle.laws.proofs.Lists.{drop-take}
+use Rattle.laws.proofs.All.{_≡_, sym, ap, ap₂, _∙_, Bool, List, ℕ, _+_, _-_, _≤_, _<_, arith, lt-ltb, le-ltb, getD}
+use Rattle.laws.proofs.All.{take, drop, slice, if_then_else_, drop-take}
 use Rattle.table.specs.Rows.{Rows}
 use Rattle.stepping.specs.StateSets.{everyState, oneState, alongAll, able}
 use Rattle.reading.specs.Reading.{readings, mark, past, block}

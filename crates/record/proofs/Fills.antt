@@ -2,14 +2,9 @@
 -- In order: fill-more, one place more; spot-once, spot-lt, the places of edges; reach-spot, reach-step, reach-end,
 -- column-more.
 -- Assumes nothing.
-use mathlib.Core.Path.{_≡_, sym, ap₂, subst, _∙_}
-use mathlib.Core.List.{List}
-use Prim.Native.Nat.{ℕ, _+_, _*_, _/_, _%_, _≤_, _<_}
-use native.Mathlib.Nat.{mod-lt, div-add-mod', div-lt-iff-lt-mul}
-use native.Mathlib.Omega.{arith}
-use borrow.Author.Count.{below-more}
-use lib.ListN.{length, getD, set, length-set}
-use lib.Seq.{getD-set-same, getD-set-other}
+use Rattle.laws.proofs.All.{_≡_, sym, ap₂, subst, _∙_, List, ℕ, _+_, _*_, _/_, _%_, _≤_, _<_, mod-lt, div-add-mod'}
+use Rattle.laws.proofs.All.{div-lt-iff-lt-mul, arith, below-more, length, getD, set, length-set, getD-set-same}
+use Rattle.laws.proofs.All.{getD-set-other}
 use Rattle.bits.specs.Fields.{field}
 use Rattle.record.specs.Places.{spot, Column, Reach}
 use Rattle.record.proofs.Sizes.{place-le, product-le}

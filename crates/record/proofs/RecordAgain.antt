@@ -1,17 +1,10 @@
 -- Fields that are read and written again, and the code that they name.
 -- In order: nexts-again, nexts-good, rows-good, length-nextsOf, length-rowsOf, tail-again, head-again.
 -- Assumes nothing.
-use mathlib.Core.Path.{_≡_, refl, sym, ap, ap₂, _∙_}
-use mathlib.Core.Bool.{Bool, true, false, _&&_}
-use mathlib.Core.List.{List, [], _∷_, _++_, append-assoc}
-use Prim.Native.Nat.{ℕ, zero, suc, _+_, _*_, _^_, _<_}
-use native.Mathlib.Nat.{suc-mul, zero-mul}
-use native.Mathlib.Omega.{arith}
-use lib.Dec.{T, ltb, eqb, eqb→eq, eqb-refl, lt→ltb}
-use lib.ListN.{length, getD, drop}
-use lib.Seq.{drop-drop}
-use Rattle.laws.specs.Lists.{if_then_else_, all, repeat}
-use Rattle.laws.proofs.Tests.{and→, →and, →orR}
+use Rattle.laws.proofs.All.{_≡_, refl, sym, ap, ap₂, _∙_, Bool, true, false, _&&_, List, [], _∷_, _++_}
+use Rattle.laws.proofs.All.{append-assoc, ℕ, zero, suc, _+_, _*_, _^_, _<_, suc-mul, zero-mul, arith, T, ltb, eqb}
+use Rattle.laws.proofs.All.{eqb→eq, eqb-refl, lt→ltb, length, getD, drop, drop-drop, if_then_else_, all, repeat}
+use Rattle.laws.proofs.All.{and→, →and, →orR}
 use Rattle.constraint.specs.Walking.{none}
 use Rattle.bits.specs.Fields.{Fits}
 use Rattle.table.specs.declared.Head.{Head}

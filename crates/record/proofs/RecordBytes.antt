@@ -1,15 +1,9 @@
 -- A record is bytes, at most 3,864 of them.
 -- In order: value-take, read-bytes, pack-bytes; size-le, pack-short.
 -- Assumes nothing.
-use mathlib.Core.Path.{sym, subst}
-use mathlib.Core.List.{List}
-use Prim.Native.Nat.{ℕ, zero, suc, _+_, _*_, _^_, _≤_, _<_}
-use native.Mathlib.Nat.{mul-le-mul, lt-of-lt-of-le}
-use native.Mathlib.Omega.{arith}
-use lib.Pow.{pow-mono}
-use lib.ListN.{length, take, drop, replicate, length-take}
-use Rattle.laws.specs.Sums.{Below}
-use Rattle.laws.proofs.Lists.{below-take, below-drop}
+use Rattle.laws.proofs.All.{sym, subst, List, ℕ, zero, suc, _+_, _*_, _^_, _≤_, _<_, mul-le-mul, lt-of-lt-of-le}
+use Rattle.laws.proofs.All.{arith, pow-mono, length, take, drop, replicate, length-take, Below, below-take}
+use Rattle.laws.proofs.All.{below-drop}
 use Rattle.bits.specs.Fields.{value, read, write}
 use Rattle.bits.proofs.Fields.{value-lt, below-write}
 use Rattle.table.specs.Rows.{Code}

@@ -1,17 +1,10 @@
 -- The checks of a record's fields as tests of numbered fields, each by its bit place.
 -- In order: all-split, all-shift; states-checked, targets-checked, fill-checked; rest-checked.
 -- Assumes nothing.
-use mathlib.Core.Path.{_≡_, refl, sym, ap, ap₂, _∙_}
-use mathlib.Core.Bool.{Bool, _&&_, and-assoc, and-true}
-use mathlib.Core.List.{List, [], _∷_, _++_, append-assoc}
-use Prim.Native.Nat.{ℕ, zero, suc, _+_, _*_, _-_, _^_}
-use native.Mathlib.Nat.{zero-mul, suc-mul, add-zero, zero-add}
-use native.Mathlib.Omega.{arith}
-use lib.Dec.{ltb, eqb}
-use lib.ListN.{getD, take, drop}
-use lib.Seq.{drop-drop}
-use Rattle.laws.specs.Lists.{all, from, range, repeat}
-use Rattle.laws.proofs.Lists.{length-repeat, sum-repeat}
+use Rattle.laws.proofs.All.{_≡_, refl, sym, ap, ap₂, _∙_, Bool, _&&_, and-assoc, and-true, List, [], _∷_, _++_}
+use Rattle.laws.proofs.All.{append-assoc, ℕ, zero, suc, _+_, _*_, _-_, _^_, zero-mul, suc-mul, add-zero, zero-add}
+use Rattle.laws.proofs.All.{arith, ltb, eqb, getD, take, drop, drop-drop, all, from, range, repeat, length-repeat}
+use Rattle.laws.proofs.All.{sum-repeat}
 use Rattle.bits.specs.Fields.{field, value, read}
 use Rattle.table.specs.declared.Head.{Head}
 use Rattle.record.specs.Layout.{headerBits, headerFields, stateSize}

@@ -1,16 +1,9 @@
 -- The fields of a code fit their widths, and fill the bytes of its record.
 -- In order: sum-widths, fits-values.
 -- Assumes nothing.
-use mathlib.Core.Path.{_≡_, subst}
-use mathlib.Core.Bool.{Bool, true, false, _||_}
-use mathlib.Core.List.{List, [], _∷_, _++_}
-use Prim.Native.Nat.{ℕ, zero, _+_, _*_, _-_, _/_, _^_, _≤_, _<_}
-use native.Mathlib.Omega.{arith}
-use lib.Dec.{T, ltb, eqb, eqb→eq, ltb→lt}
-use lib.ListN.{length, replicate}
-use lib.Pow.{pow-pos}
-use Rattle.laws.specs.Lists.{if_then_else_, all, sum, repeat}
-use Rattle.laws.proofs.Tests.{and→}
+use Rattle.laws.proofs.All.{_≡_, subst, Bool, true, false, _||_, List, [], _∷_, _++_, ℕ, zero, _+_, _*_, _-_, _/_}
+use Rattle.laws.proofs.All.{_^_, _≤_, _<_, arith, T, ltb, eqb, eqb→eq, ltb→lt, length, replicate, pow-pos}
+use Rattle.laws.proofs.All.{if_then_else_, all, sum, repeat, and→, sum-repeat, sum-replicate, sum-append}
 use Rattle.constraint.specs.Walking.{NextStates, none}
 use Rattle.table.specs.Rows.{Edge, Rows, Code}
 use Rattle.bits.specs.Fields.{Fits}
@@ -19,7 +12,6 @@ use Rattle.table.specs.declared.Head.{Head}
 use Rattle.table.specs.Formed.{head, goodState, goodNext, goodEdge, goodRow, Formed}
 use Rattle.record.specs.Layout.{headerBits, stateSize}
 use Rattle.record.specs.Layout.{size, fill, widths, present, shown, nexts, pairs, rows, values}
-use Rattle.laws.proofs.Lists.{sum-repeat, sum-replicate, sum-append}
 
 -- ---- sums and lengths
 

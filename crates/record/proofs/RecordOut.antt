@@ -2,14 +2,9 @@
 -- bytes.
 -- In order: length-front, length-states, length-table; parts-are, length-parts; bytes-are.
 -- Assumes nothing.
-use mathlib.Core.Path.{_≡_, refl, sym, ap, ap₂, _∙_}
-use mathlib.Core.List.{List, [], _∷_, _++_, map, append-assoc, append-nil}
-use Prim.Native.Nat.{ℕ, _+_, _*_, _^_, _≤_}
-use native.Mathlib.Omega.{arith}
-use lib.ListN.{length, drop, length-append}
-use Rattle.laws.specs.Lists.{concat, repeat}
-use Rattle.laws.specs.Sums.{Each, Below}
-use Rattle.laws.proofs.Lists.{sum-repeat, sum-replicate, length-repeat}
+use Rattle.laws.proofs.All.{_≡_, refl, sym, ap, ap₂, _∙_, List, [], _∷_, _++_, map, append-assoc, append-nil, ℕ}
+use Rattle.laws.proofs.All.{_+_, _*_, _^_, _≤_, arith, length, drop, length-append, concat, repeat, Each, Below}
+use Rattle.laws.proofs.All.{sum-repeat, sum-replicate, length-repeat}
 use Rattle.bits.specs.Fields.{bits, write, bitsOf}
 use Rattle.bits.specs.Bytes.{spliced}
 use Rattle.bits.proofs.Fields.{below-write}

@@ -2,17 +2,9 @@
 -- In order: put-low-is; put-absent, put-present; spliced-none; length-fields, write-append;
 -- Putting, front-spliced.
 -- Assumes nothing.
-use mathlib.Core.Path.{_≡_, refl, sym, ap, ap₂, _∙_}
-use mathlib.Core.Bool.{false}
-use mathlib.Core.List.{List, [], _∷_, _++_, append-assoc, append-nil}
-use Prim.Native.Nat.{ℕ, _+_, _-_, _*_, _%_, _^_, _≤_, _<_}
-use native.Mathlib.Nat.{mod-lt, add-zero}
-use native.Mathlib.Omega.{arith}
-use borrow.Author.Tests.{ne-eqb}
-use lib.Dec.{eqb}
-use lib.ListN.{length, take, drop, length-append, length-take, length-drop, take-append-drop}
-use lib.Pow.{pow-pos}
-use Rattle.laws.specs.Lists.{sum}
+use Rattle.laws.proofs.All.{_≡_, refl, sym, ap, ap₂, _∙_, false, List, [], _∷_, _++_, append-assoc, append-nil, ℕ}
+use Rattle.laws.proofs.All.{_+_, _-_, _*_, _%_, _^_, _≤_, _<_, mod-lt, add-zero, arith, ne-eqb, eqb, length, take}
+use Rattle.laws.proofs.All.{drop, length-append, length-take, length-drop, take-append-drop, pow-pos, sum}
 use Rattle.bits.specs.Fields.{bits, write}
 use Rattle.bits.specs.Bytes.{spliced}
 use Rattle.bits.proofs.Bytes.{bits-rest}

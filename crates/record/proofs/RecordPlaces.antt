@@ -1,21 +1,15 @@
 -- Where each field of a record stands: the code that is read, entry by entry, by bit places.
 -- In order: nextAt, edgeAt, constraint-at, table-at.
 -- Assumes nothing.
-use mathlib.Core.Path.{_≡_, refl, sym, ap, ap₂, _∙_}
-use mathlib.Core.List.{List, [], _∷_, _++_, append-assoc}
-use Prim.Native.Nat.{ℕ, zero, suc, _+_, _*_, _^_, _<_}
-use native.Mathlib.Nat.{not-suc-le-zero, le-of-suc-le-suc, zero-mul, suc-mul, zero-add}
-use native.Mathlib.Omega.{arith}
-use lib.ListN.{length, getD, take, drop}
-use lib.Seq.{drop-drop}
-use Rattle.laws.specs.Lists.{sum, repeat}
+use Rattle.laws.proofs.All.{_≡_, refl, sym, ap, ap₂, _∙_, List, [], _∷_, _++_, append-assoc, ℕ, zero, suc, _+_, _*_}
+use Rattle.laws.proofs.All.{_^_, _<_, not-suc-le-zero, le-of-suc-le-suc, zero-mul, suc-mul, zero-add, arith, length}
+use Rattle.laws.proofs.All.{getD, take, drop, drop-drop, sum, repeat, sum-repeat, length-repeat}
 use Rattle.constraint.specs.Walking.{NextStates}
 use Rattle.table.specs.Rows.{Edge, edge, at}
 use Rattle.bits.specs.Fields.{value, read, field}
 use Rattle.table.specs.declared.Head.{Head}
 use Rattle.record.specs.Layout.{headerBits, headerFields, stateSize}
 use Rattle.record.specs.Layout.{header, fill, widths, opened, nextsOf, edgesOf, rowsOf, codeOf}
-use Rattle.laws.proofs.Lists.{sum-repeat, length-repeat}
 
 pub field-drop : (bs : List ℕ) (k o o' w : ℕ) → k + o ≡ o' → field (drop k bs) o w ≡ field bs o' w
 field-drop bs k o o' w e = ap (λ l. value (take w l)) (drop-drop o k bs ∙ ap (λ n. drop n bs) e)

@@ -1,23 +1,15 @@
 -- Bytes whose fields pass their checks are the record of the code that they name: a record is canonical.
 -- In order: fields-formed, read-ready; fields-again, Checked, fields-good.
 -- Assumes nothing.
-use mathlib.Core.Path.{_≡_, refl, sym, ap, ap₂, subst, _∙_}
-use mathlib.Core.Bool.{_&&_}
-use mathlib.Core.List.{List, [], _∷_}
-use Prim.Native.Nat.{ℕ, _+_, _*_, _-_, _^_, _≤_}
-use native.Mathlib.Nat.{le-refl}
-use native.Mathlib.Omega.{arith}
-use lib.Dec.{T, leb, eqb, eqb→eq}
-use lib.ListN.{length, drop, replicate}
+use Rattle.laws.proofs.All.{_≡_, refl, sym, ap, ap₂, subst, _∙_, _&&_, List, [], _∷_, ℕ, _+_, _*_, _-_, _^_, _≤_}
+use Rattle.laws.proofs.All.{le-refl, arith, T, leb, eqb, eqb→eq, length, drop, replicate, all, sum, and→, →and}
+use Rattle.laws.proofs.All.{Below, sum-replicate}
 use Rattle.answer.specs.declared.Refusal.the-variants.{Field, Length}
 use Rattle.answer.specs.Outcomes.{done, unless}
-use Rattle.laws.specs.Lists.{all, sum}
-use Rattle.laws.proofs.Tests.{and→, →and}
 use Rattle.table.specs.declared.Table.{Table}
 use Rattle.table.specs.Rows.{Rows, Code}
 use Rattle.table.specs.Value.{codeIn, ready}
 use Rattle.bits.specs.Fields.{read, write, Fits, bitsOf}
-use Rattle.laws.specs.Sums.{Below}
 use Rattle.bits.proofs.Fields.{below-write, length-write, fits-read, write-read, read-back, fits-bytes}
 use Rattle.table.specs.declared.Head.{Head}
 use Rattle.table.specs.Formed.{head, inRange, goodNext, goodRow, formed}
@@ -26,7 +18,6 @@ use Rattle.record.specs.Parse.{goodHead, goodFields, goodTarget, filler,
 use Rattle.record.specs.Checks.{fieldsGood, fieldsChecked}
 use Rattle.record.proofs.RecordAgain.{nexts-again, nexts-good, rows-good, length-nextsOf, length-rowsOf}
 use Rattle.record.proofs.RecordAgain.{tail-again, head-again}
-use Rattle.laws.proofs.Lists.{sum-replicate}
 use Rattle.bits.proofs.Puts.{length-bitsOf}
 use Rattle.record.proofs.RecordFits.{sum-widths}
 use Rattle.record.proofs.RecordReading.{head-range}

@@ -2,18 +2,9 @@
 -- In order: below-bytes, head-range, ranges-in; good-not; checked-short, checked-front, checked-length, checked-rest,
 -- checked-good.
 -- Assumes nothing.
-use mathlib.Core.Path.{_≡_, sym, ap, subst, _∙_}
-use mathlib.Core.Bool.{Bool, true, false, _&&_}
-use mathlib.Core.List.{List}
-use Prim.Native.Nat.{ℕ, _^_, _≤_, _<_}
-use native.Mathlib.Omega.{arith}
-use lib.Dec.{T, leb, ltb, eqb, le→leb, lt→ltb, lit<}
-use lib.ListN.{length, getD, take, drop, replicate}
-use Rattle.laws.specs.Lists.{sum}
-use Rattle.laws.specs.Sums.{Below}
-use Rattle.laws.proofs.Lists.{below-drop}
-use Rattle.laws.proofs.Tests.{and→, →and}
-use Rattle.laws.proofs.Totals.{never}
+use Rattle.laws.proofs.All.{_≡_, sym, ap, subst, _∙_, Bool, true, false, _&&_, List, ℕ, _^_, _≤_, _<_, arith, T}
+use Rattle.laws.proofs.All.{leb, ltb, eqb, le→leb, lt→ltb, lit<, length, getD, take, drop, replicate, sum, Below}
+use Rattle.laws.proofs.All.{below-drop, and→, →and, never}
 use Rattle.answer.specs.declared.Refusal.{Refusal}
 use Rattle.answer.specs.declared.Refusal.the-variants.{Field, Length}
 use Rattle.answer.specs.declared.Verdict.the-variants.{Good, Bad}

@@ -1,14 +1,9 @@
 -- The constraint's states and the table's edges written one behind the other.
 -- In order: states-begin, states-next; edgeNo, edgesBits, edges-begin, edges-next, edges-all.
 -- Assumes nothing.
-use mathlib.Core.Path.{_≡_, refl, sym, ap, ap₂, _∙_}
-use mathlib.Core.List.{List, _++_, map, map-map}
-use Prim.Native.Nat.{ℕ, _+_, _*_, _/_, _%_, _^_, _≤_}
-use native.Mathlib.Omega.{arith}
-use lib.ListN.{length, getD, length-append}
-use Rattle.laws.specs.Lists.{concat, range}
-use Rattle.laws.proofs.Ranges.{map-range-same}
-use Rattle.laws.proofs.Places.{quotient-of, remainder-of}
+use Rattle.laws.proofs.All.{_≡_, refl, sym, ap, ap₂, _∙_, List, _++_, map, ℕ, _+_, _*_, _/_, _%_, _^_, _≤_, arith}
+use Rattle.laws.proofs.All.{length, getD, length-append, concat, range, map-range-same, quotient-of, remainder-of}
+use mathlib.Core.List.{map-map}
 use Rattle.bits.specs.Fields.{bits}
 use Rattle.bits.specs.Bytes.{spliced}
 use Rattle.bits.proofs.Fields.{length-bits}

@@ -1,15 +1,9 @@
 -- A table's arrays filled from a record's bits stand for the code that the bits hold.
 -- In order: states-are; rows-are; code-is.
 -- Assumes nothing.
-use mathlib.Core.Path.{_≡_, sym, ap, ap₂, subst, _∙_}
-use mathlib.Core.List.{List, [], map}
-use Prim.Native.Nat.{ℕ, zero, suc, _+_, _*_, _^_, _<_}
-use native.Mathlib.Nat.{not-suc-le-zero, le-of-suc-le-suc}
-use native.Mathlib.Omega.{arith}
-use lib.ListN.{length, getD, drop}
-use Rattle.laws.specs.Lists.{range}
-use Rattle.laws.proofs.Ranges.{is-map}
-use Rattle.laws.proofs.Places.{quotient-of, remainder-of, place-lt}
+use Rattle.laws.proofs.All.{_≡_, sym, ap, ap₂, subst, _∙_, List, [], map, ℕ, zero, suc, _+_, _*_, _^_, _<_}
+use Rattle.laws.proofs.All.{not-suc-le-zero, le-of-suc-le-suc, arith, length, getD, drop, range, is-map}
+use Rattle.laws.proofs.All.{quotient-of, remainder-of, place-lt}
 use Rattle.bits.specs.Fields.{field}
 use Rattle.constraint.specs.Walking.{Constraint, nowhere}
 use Rattle.table.specs.Rows.{Edge, edge, at}

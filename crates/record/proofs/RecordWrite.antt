@@ -1,22 +1,13 @@
 -- A code with its fields in range, written as a record and read again, is the same code.
 -- In order: length-nexts, length-pairs, length-rows; code-back, length-pack, bits-pack, fields-pack.
 -- Assumes nothing.
-use mathlib.Core.Path.{_≡_, refl, sym, ap, ap₂, subst, _∙_}
-use mathlib.Core.Bool.{Bool, true, false, _&&_, _||_}
-use mathlib.Core.List.{List, [], _∷_, _++_, append-assoc}
-use Prim.Native.Nat.{ℕ, zero, _+_, _*_, _-_, _^_}
-use native.Mathlib.Nat.{suc-mul}
-use native.Mathlib.Omega.{arith}
-use lib.Dec.{T, ltb, leb, eqb, eqb→eq, eqb-refl, le→leb, lt→ltb}
-use lib.ListN.{length, getD, take, drop, replicate, length-append, length-replicate}
-use lib.Seq.{drop-at}
+use Rattle.laws.proofs.All.{_≡_, refl, sym, ap, ap₂, subst, _∙_, Bool, true, false, _&&_, _||_, List, [], _∷_, _++_}
+use Rattle.laws.proofs.All.{append-assoc, ℕ, zero, _+_, _*_, _-_, _^_, suc-mul, arith, T, ltb, leb, eqb, eqb→eq}
+use Rattle.laws.proofs.All.{eqb-refl, le→leb, lt→ltb, length, getD, take, drop, replicate, length-append}
+use Rattle.laws.proofs.All.{length-replicate, drop-at, if_then_else_, all, Each, and→, →and, each-map, all-each}
+use Rattle.laws.proofs.All.{all-of}
 use Rattle.answer.specs.declared.Refusal.the-variants.{Field, Length}
 use Rattle.answer.specs.Outcomes.{Outcome, done, unless}
-use Rattle.laws.specs.Lists.{if_then_else_, all}
-use Rattle.laws.specs.Sums.{Each}
-use Rattle.laws.proofs.Tests.{and→, →and}
-use Rattle.laws.proofs.Sums.{each-map}
-use Rattle.laws.proofs.Elems.{all-each, all-of}
 use Rattle.constraint.specs.Walking.{Constraint, none}
 use Rattle.table.specs.Rows.{Edge, Rows, Code}
 use Rattle.bits.specs.Fields.{read, write, bitsOf}

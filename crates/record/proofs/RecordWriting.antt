@@ -2,18 +2,9 @@
 -- In order: small-in; below-all; even, whole-record; pack-field, pack-ready, pack-long, pack-short,
 -- pack-fits.
 -- Assumes nothing.
-use mathlib.Core.Path.{_≡_, sym, ap, subst, _∙_}
-use mathlib.Core.Bool.{true, false}
-use mathlib.Core.List.{List, [], _∷_, _++_}
-use Prim.Native.Nat.{ℕ, suc, _+_, _*_, _-_, _^_, _≤_, _<_}
-use native.Mathlib.Omega.{arith}
-use borrow.Author.Tests.{lt-leb, le-leb}
-use lib.Dec.{T}
-use lib.ListN.{length, getD, take, drop, length-append}
-use Rattle.laws.specs.Lists.{range}
-use Rattle.laws.specs.Sums.{Each, Below}
-use Rattle.laws.proofs.Sums.{each-image, each-always}
-use Rattle.laws.proofs.Ranges.{length-map-range}
+use Rattle.laws.proofs.All.{_≡_, sym, ap, subst, _∙_, true, false, List, [], _∷_, _++_, ℕ, suc, _+_, _*_, _-_, _^_}
+use Rattle.laws.proofs.All.{_≤_, _<_, arith, lt-leb, le-leb, T, length, getD, take, drop, length-append, range}
+use Rattle.laws.proofs.All.{Each, Below, each-image, each-always, length-map-range}
 use Rattle.answer.specs.declared.Refusal.the-variants.{Field, ShortOutput}
 use Rattle.answer.specs.Outcomes.{done, refused, unless}
 use Rattle.answer.proofs.Outcomes.{unless-true}

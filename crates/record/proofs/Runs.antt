@@ -1,14 +1,9 @@
 -- Rows of n numbers each, one behind the other, are one range.
 -- In order: map-range-add, flat.
 -- Assumes nothing.
-use mathlib.Core.Path.{_≡_, sym, ap, _∙_}
-use mathlib.Core.List.{List, [], _∷_, _++_, map, append-assoc, append-nil}
-use Prim.Native.Nat.{ℕ, zero, suc, _+_, _*_}
-use native.Mathlib.Nat.{add-zero, zero-mul, suc-mul}
-use native.Mathlib.Numerals.{add-one}
-use native.Mathlib.Omega.{arith}
-use Rattle.laws.specs.Lists.{concat, range}
-use Rattle.laws.proofs.Ranges.{map-range-more, concat-more}
+use Rattle.laws.proofs.All.{_≡_, sym, ap, _∙_, List, [], _∷_, _++_, map, append-assoc, append-nil, ℕ, zero, suc}
+use Rattle.laws.proofs.All.{_+_, _*_, add-zero, zero-mul, suc-mul, add-one, arith, concat, range, map-range-more}
+use Rattle.laws.proofs.All.{concat-more}
 
 module _ {A : Type 0} (g : ℕ → A) where
   map-range-add : (a b : ℕ) → map g (range (a + b)) ≡ map g (range a) ++ map (λ d. g (a + d)) (range b)

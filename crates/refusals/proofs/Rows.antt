@@ -1,16 +1,8 @@
 -- The code's lines of words are the phrases: computed once for the whole table. How long the words are.
 -- In order: row; line-is; no-words; words-short.
 -- Assumes nothing.
-use mathlib.Core.Path.{_≡_, refl, sym, ap, _∙_}
-use mathlib.Core.Bool.{Bool}
-use mathlib.Core.List.{List, [], _∷_, _++_, map}
-use Prim.Native.Nat.{ℕ, suc, _≤_, _<_}
-use native.Mathlib.Omega.{arith}
-use native.Mathlib.Decide.{decLe}
-use lib.Dec.{T, leb, leb→le}
-use lib.ListN.{length, getD, List·getD-eq-default}
-use Rattle.laws.specs.Lists.{range, all}
-use Rattle.laws.proofs.Tests.{all→, map-range-at}
+use Rattle.laws.proofs.All.{_≡_, refl, sym, ap, _∙_, Bool, List, [], _∷_, _++_, map, ℕ, suc, _≤_, _<_, arith, decLe}
+use Rattle.laws.proofs.All.{T, leb, leb→le, length, getD, List·getD-eq-default, range, all, all→, map-range-at}
 use Rattle.answer.specs.Refusals.{most}
 use Rattle.refusals.specs.TextLines.{lineOf}
 use Rattle.refusals.specs.Phrases.{phrases, wordsOf}

@@ -1,17 +1,9 @@
 -- The lines of a text, byte by byte.
 -- In order: end-here, end-on, end-none; drop-least; rest-next.
 -- Assumes nothing.
-use mathlib.Core.Path.{_≡_, refl, sym, ap, _∙_}
-use mathlib.Core.Bool.{cond}
-use mathlib.Core.List.{List}
-use Prim.Native.Nat.{ℕ, suc, _+_, _≤_, _<_, min}
-use native.Mathlib.Nat.{min-eq-left, min-eq-right}
-use native.Mathlib.Numerals.{add-one}
-use native.Mathlib.Omega.{arith}
-use native.Mathlib.Decide.{decLe}
-use borrow.Author.Tests.{eq-eqb, ne-eqb}
-use lib.ListN.{length, getD, drop, drop-of-length-le}
-use lib.Seq.{drop-cons, drop-drop}
+use Rattle.laws.proofs.All.{_≡_, refl, sym, ap, _∙_, cond, List, ℕ, suc, _+_, _≤_, _<_, min, min-eq-left}
+use Rattle.laws.proofs.All.{min-eq-right, add-one, arith, decLe, eq-eqb, ne-eqb, length, getD, drop}
+use Rattle.laws.proofs.All.{drop-of-length-le, drop-cons, drop-drop}
 use Rattle.refusals.specs.TextLines.{lineEnd, rest}
 
 module _ (xs : List ℕ) (i : ℕ) where

@@ -3,19 +3,9 @@
 -- above-next; run-start, run-same, run-more; laying-start, laying-more, the runs of one word more; RunOf, run-of, the
 -- run of one word.
 -- Assumes nothing.
-use mathlib.Core.Path.{_≡_, refl, sym, ap, _∙_}
-use mathlib.Core.Logic.{_⊎_, inl, inr}
-use mathlib.Core.Bool.{Bool, true, false}
-use mathlib.Core.List.{List}
-use Prim.Native.Nat.{ℕ, zero, suc, _+_, _-_, _≤_, _<_}
-use native.Mathlib.Numerals.{add-one}
-use native.Mathlib.Omega.{arith}
-use native.Mathlib.Decide.{ℕ-discrete}
-use borrow.Author.Tests.{eq-eqb, ne-eqb}
-use lib.Dec.{eqb}
-use lib.ListN.{length, getD, set, replicate, getD-replicate}
-use lib.Seq.{getD-set-same, getD-set-other}
-use Rattle.laws.specs.Lists.{if_then_else_}
+use Rattle.laws.proofs.All.{_≡_, refl, sym, ap, _∙_, _⊎_, inl, inr, Bool, true, false, List, ℕ, zero, suc, _+_, _-_}
+use Rattle.laws.proofs.All.{_≤_, _<_, add-one, arith, ℕ-discrete, eq-eqb, ne-eqb, eqb, length, getD, set, replicate}
+use Rattle.laws.proofs.All.{getD-replicate, getD-set-same, getD-set-other, if_then_else_}
 use Rattle.table.specs.Edges.{Arrays, places, wordOf, Fits, bears, lastBelow}
 use Rattle.table.proofs.Edges.{bears-word}
 use Rattle.runs.specs.EdgeRuns.{count, before, above, Run, Laying, Laid}

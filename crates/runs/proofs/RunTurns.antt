@@ -2,14 +2,8 @@
 -- In order: OnRun, a place of the run, with on-start, next-on, on-inside, on-edge, on-next, edge-small, next-small;
 -- Marking, a loop that marks places of a set, with marking-start, marking-put, marking-skip, marking-done.
 -- Assumes nothing.
-use mathlib.Core.Path.{_≡_, sym, ap, subst, _∙_}
-use mathlib.Core.Bool.{Bool, true, false}
-use mathlib.Core.List.{List}
-use Prim.Native.Nat.{ℕ, _+_, _-_, _≤_, _<_}
-use native.Mathlib.Omega.{arith}
-use lib.Dec.{eqb}
-use lib.ListN.{getD, set, replicate}
-use Rattle.laws.specs.Sets.{member}
+use Rattle.laws.proofs.All.{_≡_, sym, ap, subst, _∙_, Bool, true, false, List, ℕ, _+_, _-_, _≤_, _<_, arith, eqb}
+use Rattle.laws.proofs.All.{getD, set, replicate, member}
 use Rattle.table.specs.Marks.{some, blank}
 use Rattle.table.specs.Edges.{Arrays, places, nextOf, bears, lastBelow}
 use Rattle.table.proofs.Marks.{length-blank, marked-member, Left, left-start, left-jump, left-put, left-skip, left-done}

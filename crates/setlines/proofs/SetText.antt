@@ -1,17 +1,9 @@
 -- The lines of a set's records, as the code puts them.
 -- In order: record-within, text-nowhere, text-at, part-line; line-bad, line-good; no-lines, lines-more.
 -- Assumes nothing.
-use mathlib.Core.Path.{_≡_, refl, sym, ap, ap₂, subst, _∙_}
-use mathlib.Core.Bool.{Bool, true, false}
-use mathlib.Core.List.{List, [], _∷_, _++_}
-use Prim.Native.Nat.{ℕ, _+_, _-_, _≤_}
-use native.Mathlib.Omega.{arith}
-use lib.Dec.{T, ltb}
-use lib.ListN.{length, take, drop, getD, length-map, length-drop}
-use lib.Seq.{length-take-le, take-nil}
-use Rattle.laws.specs.Lists.{if_then_else_, range}
-use Rattle.laws.proofs.Ranges.{concat-more}
-use Rattle.laws.proofs.Tests.{length-from}
+use Rattle.laws.proofs.All.{_≡_, refl, sym, ap, ap₂, subst, _∙_, Bool, true, false, List, [], _∷_, _++_, ℕ, _+_}
+use Rattle.laws.proofs.All.{_-_, _≤_, arith, T, ltb, length, take, drop, getD, length-map, length-drop}
+use Rattle.laws.proofs.All.{length-take-le, take-nil, if_then_else_, range, concat-more, length-from}
 use Rattle.text.specs.Texts.{Added}
 use Rattle.text.proofs.Adding.{added-same, added-more}
 use Rattle.answer.specs.declared.Refusal.{Refusal}

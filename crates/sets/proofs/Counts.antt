@@ -1,14 +1,8 @@
 -- A set has at most 255 records, and up to 255 accepted codes are written as bytes.
 -- In order: two-bytes, framed-bytes; set-written; set-walked.
 -- Assumes nothing.
-use mathlib.Core.Path.{_≡_, sym, subst}
-use mathlib.Core.List.{List, [], _∷_, map}
-use Prim.Native.Nat.{ℕ, _/_, _%_, _≤_, _<_}
-use native.Mathlib.Omega.{arith}
-use lib.ListN.{length}
-use Rattle.laws.specs.Lists.{concat}
-use Rattle.laws.specs.Sums.{Below}
-use Rattle.laws.proofs.Lists.{below-append}
+use Rattle.laws.proofs.All.{_≡_, sym, subst, List, [], _∷_, map, ℕ, _/_, _%_, _≤_, _<_, arith, length, concat}
+use Rattle.laws.proofs.All.{Below, below-append}
 use Rattle.table.specs.Rows.{Code}
 use Rattle.table.proofs.Formed.{formed→}
 use Rattle.record.specs.Layout.{pack}

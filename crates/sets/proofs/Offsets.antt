@@ -2,16 +2,9 @@
 -- In order: place-whole, place-cut, place→, nowhere→; offset-grows; record-none, record-empty, record-at,
 -- record-cut, record-next.
 -- Assumes nothing.
-use mathlib.Core.Path.{_≡_, refl, sym, ap, subst, _∙_}
-use mathlib.Core.Bool.{Bool, true, false}
-use mathlib.Core.List.{List, [], _∷_}
-use Prim.Native.Nat.{ℕ, zero, suc, _+_, _≤_, _<_}
-use native.Mathlib.Omega.{arith}
-use borrow.Author.Tests.{le-leb, lt-leb, leb-true, leb-false, lt-ltb, le-ltb, eqb-true, eqb-false}
-use lib.Dec.{leb, eqb}
-use lib.ListN.{length, getD}
-use Rattle.laws.specs.Lists.{if_then_else_}
-use Rattle.laws.proofs.Totals.{never}
+use Rattle.laws.proofs.All.{_≡_, refl, sym, ap, subst, _∙_, Bool, true, false, List, [], _∷_, ℕ, zero, suc, _+_}
+use Rattle.laws.proofs.All.{_≤_, _<_, arith, le-leb, lt-leb, leb-true, leb-false, lt-ltb, le-ltb, eqb-true}
+use Rattle.laws.proofs.All.{eqb-false, leb, eqb, length, getD, if_then_else_, never}
 use Rattle.sets.specs.declared.Place.the-variants.{At, Nowhere}
 use Rattle.sets.specs.Offsets.{lengthAt, endAt, placeAt, offsetOf, recordPlace}
 

@@ -1,15 +1,8 @@
 -- The places of the records of a good set: record i stands where `recordPlace` says, and its bytes hold code i.
 -- In order: Holds; good-places.
 -- Assumes nothing.
-use mathlib.Core.Path.{_≡_, refl, sym, ap, subst, _∙_}
-use mathlib.Core.Bool.{Bool, true, false}
-use mathlib.Core.List.{List, [], _∷_}
-use Prim.Native.Nat.{ℕ, zero, suc, _+_, _<_}
-use native.Mathlib.Omega.{arith}
-use borrow.Author.Tests.{leb-true, leb-false}
-use lib.Dec.{leb}
-use lib.ListN.{length, getD, take, drop}
-use Rattle.laws.proofs.Totals.{never}
+use Rattle.laws.proofs.All.{_≡_, refl, sym, ap, subst, _∙_, Bool, true, false, List, [], _∷_, ℕ, zero, suc, _+_}
+use Rattle.laws.proofs.All.{_<_, arith, leb-true, leb-false, leb, length, getD, take, drop, never}
 use Rattle.answer.specs.declared.Refusal.the-variants.{Length}
 use Rattle.answer.specs.Outcomes.{done}
 use Rattle.table.specs.Rows.{Code}

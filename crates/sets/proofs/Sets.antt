@@ -2,22 +2,11 @@
 -- written as.
 -- In order: set-back; next→; Whole, set-canonical.
 -- Assumes nothing.
-use mathlib.Core.Path.{_≡_, refl, sym, ap, ap₂, subst, _∙_}
-use mathlib.Core.Bool.{Bool, true, false}
-use mathlib.Core.List.{List, [], _∷_, _++_, map}
-use Prim.Native.Nat.{ℕ, zero, suc, _+_, _*_, _/_, _%_, _≤_, _<_}
-use native.Mathlib.Nat.{div-add-mod'}
-use native.Mathlib.Omega.{arith}
-use lib.Arith.{digits-div, digits-mod}
-use lib.Dec.{ltb}
-use borrow.Author.Tests.{le-ltb, ltb-false}
-use lib.ListN.{length, take, drop, length-append, take-append-drop}
-use lib.Seq.{take-at, drop-at, length-take-le}
-use Rattle.laws.specs.Lists.{if_then_else_, concat}
+use Rattle.laws.proofs.All.{_≡_, refl, sym, ap, ap₂, subst, _∙_, Bool, true, false, List, [], _∷_, _++_, map, ℕ}
+use Rattle.laws.proofs.All.{zero, suc, _+_, _*_, _/_, _%_, _≤_, _<_, div-add-mod', arith, digits-div, digits-mod}
+use Rattle.laws.proofs.All.{ltb, le-ltb, ltb-false, length, take, drop, length-append, take-append-drop, take-at}
+use Rattle.laws.proofs.All.{drop-at, length-take-le, if_then_else_, concat, Below, below-take, below-drop, never}
 use Rattle.table.specs.Rows.{Code}
-use Rattle.laws.specs.Sums.{Below}
-use Rattle.laws.proofs.Lists.{below-take, below-drop}
-use Rattle.laws.proofs.Totals.{never}
 use Rattle.record.specs.Layout.{pack}
 use Rattle.checker.specs.Parse.{parse}
 use Rattle.answer.specs.Outcomes.{Outcome, done, refused}

@@ -3,18 +3,10 @@
 -- step-whole, step-stop, step-on, a step; Walking, set-empty, walking-start, walking-stop, walking-on, walking-left,
 -- walking-end, the loop.
 -- Assumes nothing.
-use mathlib.Core.Path.{_≡_, refl, sym, ap, ap₂, subst, _∙_}
-use mathlib.Core.Bool.{Bool, true, false}
-use mathlib.Core.List.{List, [], _∷_}
-use Prim.Native.Nat.{ℕ, suc, _+_, _-_, _*_, _≤_, _<_}
-use native.Mathlib.Nat.{zero-add, add-zero}
-use native.Mathlib.Omega.{arith}
-use borrow.Author.Tests.{lt-ltb, le-ltb, le-leb, lt-leb, leb-true, leb-false}
-use lib.Dec.{leb}
-use lib.ListN.{length, getD, take, drop, length-drop, drop-of-length-le}
-use lib.Seq.{getD-drop, drop-drop, drop-cons}
-use Rattle.laws.specs.Lists.{if_then_else_}
-use Rattle.laws.proofs.Totals.{never}
+use Rattle.laws.proofs.All.{_≡_, refl, sym, ap, ap₂, subst, _∙_, Bool, true, false, List, [], _∷_, ℕ, suc, _+_, _-_}
+use Rattle.laws.proofs.All.{_*_, _≤_, _<_, zero-add, add-zero, arith, lt-ltb, le-ltb, le-leb, lt-leb, leb-true}
+use Rattle.laws.proofs.All.{leb-false, leb, length, getD, take, drop, length-drop, drop-of-length-le, getD-drop}
+use Rattle.laws.proofs.All.{drop-drop, drop-cons, if_then_else_, never}
 use Rattle.answer.specs.declared.Refusal.{Refusal}
 use Rattle.answer.specs.declared.Refusal.the-variants.{Length}
 use Rattle.answer.specs.declared.Answer.the-variants.{Done, Refused}

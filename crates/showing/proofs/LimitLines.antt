@@ -2,25 +2,16 @@
 -- In order: next-none, next-some; states-none, states-more; same-runs; run-least, run-none; runs-told, states-told;
 -- runs-so, runs-found.
 -- Assumes nothing.
-use mathlib.Core.Path.{_≡_, refl, sym, ap, ap₂, subst, _∙_}
-use mathlib.Core.Bool.{Bool, true, false, and-false}
-use mathlib.Core.List.{List, [], _++_}
-use Prim.Native.Nat.{ℕ, _+_, _-_, _≤_, _<_}
-use native.Mathlib.Omega.{arith}
-use borrow.Author.Tests.{eqb-true, eq-eqb, ne-eqb, lt-ltb, le-ltb, lt-leb, le-leb}
-use lib.Dec.{T, eqb}
-use lib.ListN.{length, getD}
-use Rattle.laws.specs.Lists.{range, all}
-use Rattle.laws.proofs.Tests.{and→, T→true, bool-eq, all-below→, →all-below, map-range-at}
-use Rattle.laws.proofs.Ranges.{length-map-range, is-map, all-range-true, all-range-false}
-use Rattle.laws.proofs.Ranges.{first-range-none}
-use Rattle.laws.proofs.Firsts.{first-least}
+use Rattle.laws.proofs.All.{_≡_, refl, sym, ap, ap₂, subst, _∙_, Bool, true, false, and-false, List, [], _++_, ℕ}
+use Rattle.laws.proofs.All.{_+_, _-_, _≤_, _<_, arith, eqb-true, eq-eqb, ne-eqb, lt-ltb, le-ltb, lt-leb, le-leb, T}
+use Rattle.laws.proofs.All.{eqb, length, getD, range, all, and→, T→true, bool-eq, all-below→, →all-below}
+use Rattle.laws.proofs.All.{map-range-at, length-map-range, is-map, all-range-true, all-range-false}
+use Rattle.laws.proofs.All.{first-range-none, first-least, concat-more}
 use Rattle.constraint.specs.declared.Constraint.{Constraint}
 use Rattle.constraint.specs.Walking.{NextStates, Constraint as Limits, none, nowhere, runLengthState, runLength}
 use Rattle.constraint.specs.Value.{nextStatesAt, constraintOf}
 use Rattle.constraint.proofs.Values.{length-constraintOf}
 use Rattle.text.specs.Texts.{bytes, decimal}
-use Rattle.laws.proofs.Ranges.{concat-more}
 use Rattle.showing.specs.Limits.{alike, alikeAt, isRuns, leastRun, nextText, stateLine, stateOf, statesTo}
 use Rattle.showing.specs.Limits.{runsLine, countLine, constraintLines}
 

@@ -1,13 +1,7 @@
 -- The text of `show`, part by part.
 -- In order: reach-memory, reach-lookahead, reach-own; whole→; shown-is, nothing-shown.
 -- Assumes nothing.
-use mathlib.Core.Path.{_≡_}
-use mathlib.Core.Bool.{true, false, _&&_}
-use mathlib.Core.List.{[], _++_}
-use Prim.Native.Nat.{ℕ, _≤_, _<_}
-use borrow.Author.Tests.{lt-ltb, le-ltb}
-use lib.Dec.{T, leb}
-use Rattle.laws.proofs.Tests.{and→}
+use Rattle.laws.proofs.All.{_≡_, true, false, _&&_, [], _++_, ℕ, _≤_, _<_, lt-ltb, le-ltb, T, leb, and→}
 use Rattle.table.specs.declared.Table.{Table}
 use Rattle.table.specs.Edges.{lent}
 use Rattle.table.specs.Value.{codeIn, Ready, ready}

@@ -2,23 +2,16 @@
 -- In order: entered, entered-yes, entered-no, count-yes, entered-all; Grown, grown-room, grown-yes, grown-no,
 -- grown-end; withWeights, weigh-is.
 -- Assumes nothing.
-use mathlib.Core.Path.{_≡_, refl, sym, ap, ap₂, subst, _∙_}
-use mathlib.Core.List.{List, [], _∷_, _++_, map, append-nil}
-use Prim.Native.Nat.{ℕ, _+_, _-_, _≤_, _<_}
-use native.Mathlib.Omega.{arith}
-use native.Mathlib.Decide.{ℕ-discrete}
-use borrow.Author.Tests.{eq-eqb, ne-eqb}
-use lib.ListN.{length, getD, set, length-set, length-append, length-map}
-use lib.Seq.{getD-set-same, getD-set-other, ext-getD}
-use Rattle.laws.specs.Lists.{if_then_else_, range, filter}
-use Rattle.laws.proofs.Tests.{map-range-at}
+use Rattle.laws.proofs.All.{_≡_, refl, sym, ap, ap₂, subst, _∙_, List, [], _∷_, _++_, map, append-nil, ℕ, _+_, _-_}
+use Rattle.laws.proofs.All.{_≤_, _<_, arith, ℕ-discrete, eq-eqb, ne-eqb, length, getD, set, length-set}
+use Rattle.laws.proofs.All.{length-append, length-map, getD-set-same, getD-set-other, ext-getD, if_then_else_}
+use Rattle.laws.proofs.All.{range, filter, map-range-at, map-append, filter-append, map-range-more}
+use Rattle.laws.proofs.All.{length-map-range}
 use Rattle.graph.specs.declared.Graph.{Graph}
 use Rattle.graph.specs.Arcs.{Arc, enters}
 use Rattle.graph.specs.Splitting.{redirected}
 use Rattle.graph.specs.Value.{arcAt, arcsIn, weightAt, weightsIn}
 use Rattle.splitting.specs.SplitParts.{entering, Doubled, Weighed}
-use Rattle.laws.proofs.Maps.{map-append, filter-append}
-use Rattle.laws.proofs.Ranges.{map-range-more, length-map-range}
 use Rattle.graph.proofs.Values.{withArc, Appended, appended-count, appended-more, climbs}
 
 -- ---- counting and doubling

@@ -2,23 +2,14 @@
 -- In order: Resourced, sources as f says below i; withSource; resource-none, resource-put,
 -- resource-stay; newSource, new-off, new-kept, new-moved; resource-end.
 -- Assumes nothing.
-use mathlib.Core.Path.{_≡_, refl, sym, ap, ap₂, _∙_}
-use mathlib.Core.Bool.{Bool, true, false, not, _&&_}
-use mathlib.Core.List.{List, map}
-use Prim.Native.Nat.{ℕ, _+_, _≤_, _<_}
-use native.Mathlib.Omega.{arith}
-use borrow.Author.Count.{below-more}
-use borrow.Author.Tests.{eq-eqb, ne-eqb}
-use lib.ListN.{length, getD, set, length-set}
-use lib.Seq.{getD-set-same, getD-set-other}
-use Rattle.laws.specs.Lists.{if_then_else_, range}
+use Rattle.laws.proofs.All.{_≡_, refl, sym, ap, ap₂, _∙_, Bool, true, false, not, _&&_, List, map, ℕ, _+_, _≤_, _<_}
+use Rattle.laws.proofs.All.{arith, below-more, eq-eqb, ne-eqb, length, getD, set, length-set, getD-set-same}
+use Rattle.laws.proofs.All.{getD-set-other, if_then_else_, range, map-map, map-range-same}
 use Rattle.graph.specs.declared.Graph.{Graph}
 use Rattle.graph.specs.Arcs.{Arc, arc, leaves}
 use Rattle.graph.specs.Splitting.{among, moved}
 use Rattle.graph.specs.Value.{arcAt}
 use Rattle.splitting.specs.SplitParts.{Moved}
-use Rattle.laws.proofs.Maps.{map-map}
-use Rattle.laws.proofs.Ranges.{map-range-same}
 
 -- ---- moving
 -- h is g, but its sources below i are as f says

@@ -1,18 +1,9 @@
 -- One split of the graph in work: the state that the rule names, and the count of edges before anything is written.
 -- In order: split-count, split-crowded, split-fits; chosen-heavy, chosen-light; crowded-into, parted-into.
 -- Assumes nothing.
-use mathlib.Core.Path.{_≡_, sym, ap, subst, _∙_}
-use mathlib.Core.Bool.{true, false}
-use mathlib.Core.List.{List}
-use Prim.Native.Nat.{ℕ, _+_, _/_, _≤_, _<_}
-use native.Mathlib.Omega.{arith}
-use borrow.Author.Tests.{lt-ltb, le-ltb}
-use lib.Dec.{T, eqb, eqb→eq}
-use lib.ListN.{length, getD}
-use Rattle.laws.specs.Lists.{range, any}
-use Rattle.laws.proofs.Tests.{and→}
-use Rattle.laws.proofs.Sums.{first-passes}
-use Rattle.laws.proofs.Anys.{each-range}
+use Rattle.laws.proofs.All.{_≡_, sym, ap, subst, _∙_, true, false, List, ℕ, _+_, _/_, _≤_, _<_, arith, lt-ltb}
+use Rattle.laws.proofs.All.{le-ltb, T, eqb, eqb→eq, length, getD, range, any, and→, first-passes, each-range}
+use Rattle.laws.proofs.All.{length-map-range}
 use Rattle.graph.specs.declared.Graph.{Graph}
 use Rattle.graph.specs.Arcs.{out}
 use Rattle.graph.specs.Weights.{total}
@@ -20,7 +11,6 @@ use Rattle.graph.specs.Splitting.{greatest, lighter, splittable, chosen, kept, 
 use Rattle.graph.specs.Value.{arcAt, arcsIn, weightsIn, workIn}
 use Rattle.splitting.specs.SplitParts.{entering, PartedInto, SplitInto}
 use Rattle.graph.proofs.PartedBack.{parted-count}
-use Rattle.laws.proofs.Ranges.{length-map-range}
 
 module _ (n : ℕ) (g : Graph) where
   abbrev v : List ℕ

@@ -1,16 +1,9 @@
 -- What a split does to the lists of a graph.
 -- In order: entering-moved; each-parted.
 -- Assumes nothing.
-use mathlib.Core.Path.{_≡_, refl, ap}
-use mathlib.Core.Bool.{Bool, true, false, not, _&&_}
-use mathlib.Core.List.{List, [], _∷_, map}
-use Prim.Native.Nat.{ℕ, suc, _+_, _<_}
-use native.Mathlib.Omega.{arith}
-use lib.Dec.{T}
-use lib.ListN.{length}
-use Rattle.laws.specs.Lists.{if_then_else_, filter}
-use Rattle.laws.specs.Sums.{Each}
-use Rattle.laws.proofs.Sums.{each-map, each-append, each-filter, each-image}
+use Rattle.laws.proofs.All.{_≡_, refl, ap, Bool, true, false, not, _&&_, List, [], _∷_, map, ℕ, suc, _+_, _<_}
+use Rattle.laws.proofs.All.{arith, T, length, if_then_else_, filter, Each, each-map, each-append, each-filter}
+use Rattle.laws.proofs.All.{each-image}
 use Rattle.graph.specs.Arcs.{Arc, arc, leaves, enters}
 use Rattle.graph.specs.Splitting.{among, moved, redirected, doubled}
 use Rattle.splitting.specs.SplitParts.{entering}

@@ -2,18 +2,12 @@
 -- In order: Counted, counted-none, counted-more; unfinished-yes, unfinished-no; Going, going-start, goesOn-is,
 -- more-states, going-splits, going-on, going-crowded, going-end.
 -- Assumes nothing.
-use mathlib.Core.Path.{_≡_, refl, sym, ap, ap₂, subst, _∙_}
-use mathlib.Core.Bool.{Bool, true, false, not, _&&_}
-use mathlib.Core.List.{List, [], _∷_, _++_, map, append-nil}
-use Prim.Native.Nat.{ℕ, zero, suc, _+_, _≤_, _<_}
-use native.Mathlib.Omega.{arith}
-use native.Mathlib.Decide.{ℕ-discrete}
-use borrow.Author.Tests.{lt-ltb, le-ltb, eq-eqb, ne-eqb}
-use lib.Dec.{T}
-use lib.ListN.{length, getD, set, length-set, length-append, replicate, length-replicate, getD-replicate}
-use lib.Seq.{getD-set-same, getD-set-other}
-use Rattle.laws.specs.Lists.{if_then_else_, range, sum, filter, any}
-use Rattle.laws.proofs.Tests.{range-at, length-from}
+use Rattle.laws.proofs.All.{_≡_, refl, sym, ap, ap₂, subst, _∙_, Bool, true, false, not, _&&_, List, [], _∷_, _++_}
+use Rattle.laws.proofs.All.{map, append-nil, ℕ, zero, suc, _+_, _≤_, _<_, arith, ℕ-discrete, lt-ltb, le-ltb, eq-eqb}
+use Rattle.laws.proofs.All.{ne-eqb, T, length, getD, set, length-set, length-append, replicate, length-replicate}
+use Rattle.laws.proofs.All.{getD-replicate, getD-set-same, getD-set-other, if_then_else_, range, sum, filter, any}
+use Rattle.laws.proofs.All.{range-at, length-from, filter-append, map-range-more, length-map-range, any-false}
+use Rattle.laws.proofs.All.{any-true}
 use Rattle.graph.specs.declared.Graph.{Graph}
 use Rattle.graph.specs.declared.NextGraph.{NextGraph}
 use Rattle.graph.specs.Arcs.{Arc, Work, leaves, out}
@@ -24,8 +18,6 @@ use Rattle.splitting.specs.SplitParts.{SplitInto, Splits, SplitAllInto}
 use Rattle.graph.proofs.Choice.{ripe-some}
 use Rattle.graph.proofs.Split.{split-inv, split-length}
 use Rattle.graph.proofs.Loop.{splits-on, splits-off, states-le}
-use Rattle.laws.proofs.Maps.{filter-append}
-use Rattle.laws.proofs.Ranges.{map-range-more, length-map-range, any-false, any-true}
 
 -- ---- counting
 -- the edges below i out of s

@@ -2,19 +2,12 @@
 -- In order: Keyed; keys-inside, weights-low, map-weight, inside-run, kept-is, kept-total, share-le,
 -- room-moved, parted-is.
 -- Assumes nothing.
-use mathlib.Core.Path.{_≡_, refl, sym, ap, ap₂, subst, _∙_}
-use mathlib.Core.List.{List, [], _∷_, _++_, map}
-use Prim.Native.Nat.{ℕ, _+_, _-_, _*_, _/_, _%_, _≤_, _<_}
-use native.Mathlib.Nat.{le-trans, div-le-of-le-mul, mul-le-mul-right}
-use native.Mathlib.Omega.{arith}
-use lib.Dec.{T}
-use lib.ListN.{length, getD, take, drop, set, length-take, length-map}
-use lib.Seq.{length-take-le, getD-take}
-use Rattle.laws.specs.Lists.{range, filter, any, first}
-use Rattle.laws.specs.Sums.{Each}
-use Rattle.laws.proofs.Sums.{each-map, each-append, each-filter, each-take, each-image, image-each, first-passes}
-use Rattle.laws.proofs.Elems.{each-at}
-use Rattle.laws.proofs.Tests.{map-range-at}
+use Rattle.laws.proofs.All.{_≡_, refl, sym, ap, ap₂, subst, _∙_, List, [], _∷_, _++_, map, ℕ, _+_, _-_, _*_, _/_}
+use Rattle.laws.proofs.All.{_%_, _≤_, _<_, le-trans, div-le-of-le-mul, mul-le-mul-right, arith, T, length, getD}
+use Rattle.laws.proofs.All.{take, drop, set, length-take, length-map, length-take-le, getD-take, range, filter, any}
+use Rattle.laws.proofs.All.{first, Each, each-map, each-append, each-filter, each-take, each-image, image-each}
+use Rattle.laws.proofs.All.{first-passes, each-at, map-range-at, each-set, length-map-range, map-take, map-drop}
+use Rattle.laws.proofs.All.{map-each}
 use Rattle.graph.specs.declared.Graph.{Graph}
 use Rattle.order.specs.declared.keys.Keys.{Keys}
 use Rattle.choice.specs.declared.find_run.Run.{Run}
@@ -27,9 +20,6 @@ use Rattle.choice.specs.ChoiceParts.{FirstRun}
 use Rattle.splitting.specs.SplitParts.{keptArcs, Moved, entering, Doubled, Weighed, PartedInto}
 use Rattle.graph.proofs.Choice.{total-le}
 use Rattle.graph.proofs.Candidates.{each-sort, any-sort}
-use Rattle.laws.proofs.Totals.{each-set}
-use Rattle.laws.proofs.Ranges.{length-map-range}
-use Rattle.laws.proofs.Maps.{map-take, map-drop, map-each}
 use Rattle.graph.proofs.Values.{Bounded, Low, fits-arcs, fits-from, fits-weights}
 use Rattle.splitting.proofs.SplitLists.{each-parted, entering-moved}
 

@@ -2,26 +2,17 @@
 -- In order: member-states, states-same, states-every, states-one; test-place, place-test, a test over the edges of a
 -- state; leadsAt with lead-in to lead-only, along-places; entersAt with enter-in to enter-only, back-places.
 -- Assumes nothing.
-use mathlib.Core.Path.{_≡_, sym, ap, ap₂, subst, _∙_}
-use mathlib.Core.Bool.{Bool, true, false, _&&_, and-false}
-use mathlib.Core.List.{List, map}
-use Prim.Native.Nat.{ℕ, _+_, _*_, _/_, _%_, _≤_, _<_}
-use native.Mathlib.Omega.{arith}
-use native.Mathlib.Decide.{ℕ-discrete}
-use borrow.Author.Tests.{ltb-true, ne-eqb}
-use lib.Dec.{T, eqb, eqb→eq, eqb-refl}
-use lib.ListN.{length, set, replicate, length-replicate, getD-replicate}
-use lib.Seq.{getD-set-same, getD-set-other}
-use Rattle.laws.specs.Lists.{range, any}
-use Rattle.laws.specs.Sets.{member}
-use Rattle.laws.proofs.Tests.{and→, →and, T→true, bool-eq, any→, →any, any-below→, →any-below, map-range-at}
+use Rattle.laws.proofs.All.{_≡_, sym, ap, ap₂, subst, _∙_, Bool, true, false, _&&_, and-false, List, map, ℕ, _+_}
+use Rattle.laws.proofs.All.{_*_, _/_, _%_, _≤_, _<_, arith, ℕ-discrete, ltb-true, ne-eqb, T, eqb, eqb→eq, eqb-refl}
+use Rattle.laws.proofs.All.{length, set, replicate, length-replicate, getD-replicate, getD-set-same, getD-set-other}
+use Rattle.laws.proofs.All.{range, any, member, and→, →and, T→true, bool-eq, any→, →any, any-below→, →any-below}
+use Rattle.laws.proofs.All.{map-range-at, map-range-same}
 use Rattle.table.specs.Rows.{Edge, edge, Rows, edges}
 use Rattle.table.specs.Marks.{some}
 use Rattle.table.specs.Edges.{Arrays, edgeOf, rowsOf, places, isEdge, wordOf, nextOf, Fits, bears}
 use Rattle.table.proofs.Marks.{found, some-at}
 use Rattle.table.proofs.Edges.{bears-edge, bears-word}
 use Rattle.table.proofs.RowsOf.{length-rows, row-long, edge-at, place, place-state, place-lt, place-edge, place-next}
-use Rattle.laws.proofs.Ranges.{map-range-same}
 use Rattle.stepping.specs.StateSets.{everyState, oneState, leadsBy, leads, reachable, along, enters, back}
 use Rattle.stepping.specs.StateSets.{statesIn}
 

@@ -1,14 +1,8 @@
 -- The words that step a set of states, one by one and two by two.
 -- In order: along-first, along-two, along-end; able-first, able-two, able-end.
 -- Assumes nothing.
-use mathlib.Core.Path.{_≡_, sym, ap, _∙_}
-use mathlib.Core.Bool.{Bool}
-use mathlib.Core.List.{List, _∷_}
-use Prim.Native.Nat.{ℕ, _+_, _-_, _≤_, _<_}
-use native.Mathlib.Numerals.{add-one}
-use native.Mathlib.Omega.{arith}
-use lib.ListN.{length, getD}
-use lib.Seq.{slice, slice-cons, slice-empty}
+use Rattle.laws.proofs.All.{_≡_, sym, ap, _∙_, Bool, List, _∷_, ℕ, _+_, _-_, _≤_, _<_, add-one, arith, length, getD}
+use Rattle.laws.proofs.All.{slice, slice-cons, slice-empty}
 use Rattle.table.specs.Rows.{Rows}
 use Rattle.stepping.specs.StateSets.{everyState, along, alongAll, back, able}
 

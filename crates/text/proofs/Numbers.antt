@@ -1,18 +1,11 @@
 -- The fewest digits that hold a number are as many as it has; and how many that can be.
 -- In order: Sized, size-sized; fewest-size; decimal-is, hex-is; decimal-long, decimal-short.
 -- Assumes nothing.
-use mathlib.Core.Path.{_≡_, refl, sym, ap, subst, _∙_}
-use mathlib.Core.Bool.{Bool, true, false}
-use mathlib.Core.List.{List, [], _∷_}
-use Prim.Native.Nat.{ℕ, zero, suc, _+_, _*_, _-_, _/_, _%_, _^_, _≤_, _<_, min, max}
-use native.Mathlib.Nat.{pow-suc, pow-zero, pow-le-pow-right, le-div-iff-mul-le, div-lt-iff-lt-mul}
-use native.Mathlib.Nat.{max-eq-left, max-eq-right, one-mul, le-max-right, min-eq-left, min-eq-right}
-use native.Mathlib.Omega.{arith}
-use native.Mathlib.Decide.{decLt, decLe}
-use borrow.Author.Tests.{ltb-true, ltb-false}
-use lib.Dec.{ltb}
-use lib.ListN.{length, length-append}
-use Rattle.laws.specs.Lists.{if_then_else_}
+use Rattle.laws.proofs.All.{_≡_, refl, sym, ap, subst, _∙_, Bool, true, false, List, [], _∷_, ℕ, zero, suc, _+_}
+use Rattle.laws.proofs.All.{_*_, _-_, _/_, _%_, _^_, _≤_, _<_, min, max, pow-suc, pow-zero, pow-le-pow-right}
+use Rattle.laws.proofs.All.{le-div-iff-mul-le, div-lt-iff-lt-mul, max-eq-left, max-eq-right, one-mul, le-max-right}
+use Rattle.laws.proofs.All.{min-eq-left, min-eq-right, arith, decLt, decLe, ltb-true, ltb-false, ltb, length}
+use Rattle.laws.proofs.All.{length-append, if_then_else_}
 use Rattle.io.specs.Digits.{glyph, digits, Fewest}
 use Rattle.text.specs.Texts.{size, decimal, hex}
 

@@ -1,13 +1,8 @@
 -- Texts of numbers in a row.
 -- In order: rows-short.
 -- Assumes nothing.
-use mathlib.Core.Path.{_≡_, ap, subst, _∙_}
-use mathlib.Core.List.{List, map}
-use Prim.Native.Nat.{ℕ, zero, suc, _+_, _*_, _≤_, _<_}
-use native.Mathlib.Omega.{arith}
-use lib.ListN.{length, length-append}
-use Rattle.laws.specs.Lists.{range, concat}
-use Rattle.laws.proofs.Ranges.{concat-more}
+use Rattle.laws.proofs.All.{_≡_, ap, subst, _∙_, List, map, ℕ, zero, suc, _+_, _*_, _≤_, _<_, arith, length}
+use Rattle.laws.proofs.All.{length-append, range, concat, concat-more}
 
 -- n texts of at most k bytes
 pub rows-short : (f : ℕ → List ℕ) (k n : ℕ) → ((i : ℕ) → i < n → length (f i) ≤ k)

@@ -1,15 +1,9 @@
 -- Words in binary digit by digit, and when two texts are the same.
 -- In order: bit-none, bit-one; binary-more; length-binary; same-refl, same→, same-is.
 -- Assumes nothing.
-use mathlib.Core.Path.{_≡_, refl, sym, ap, ap₂, subst, _∙_}
-use mathlib.Core.Bool.{Bool, true, false}
-use mathlib.Core.List.{List, [], _∷_, _++_, append-assoc}
-use Prim.Native.Nat.{ℕ, zero, suc, _-_, _/_, _%_, _^_, _<_}
-use native.Mathlib.Omega.{arith}
-use borrow.Author.Tests.{eqb-true, eq-eqb}
-use lib.Dec.{T, eqb}
-use lib.ListN.{length, length-map}
-use Rattle.laws.specs.Lists.{if_then_else_}
+use Rattle.laws.proofs.All.{_≡_, refl, sym, ap, ap₂, subst, _∙_, Bool, true, false, List, [], _∷_, _++_}
+use Rattle.laws.proofs.All.{append-assoc, ℕ, zero, suc, _-_, _/_, _%_, _^_, _<_, arith, eqb-true, eq-eqb, T, eqb}
+use Rattle.laws.proofs.All.{length, length-map, if_then_else_}
 use Rattle.bits.specs.Fields.{bits}
 use Rattle.bits.proofs.Fields.{length-bits}
 use Rattle.text.specs.Words.{digit, binary, same}

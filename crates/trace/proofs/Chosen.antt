@@ -1,13 +1,8 @@
 -- The choice that the code finds is the rule's.
 -- In order: light; keyed, low, chosen-in; chosen-line.
 -- Assumes nothing.
-use mathlib.Core.Path.{_≡_, sym, ap, ap₂, _∙_}
-use mathlib.Core.List.{List, map}
-use Prim.Native.Nat.{ℕ, _/_, _≤_, _<_}
-use native.Mathlib.Omega.{arith}
-use lib.Dec.{T}
-use lib.ListN.{length, getD, take}
-use Rattle.laws.specs.Lists.{any, range}
+use Rattle.laws.proofs.All.{_≡_, sym, ap, ap₂, _∙_, List, map, ℕ, _/_, _≤_, _<_, arith, T, length, getD, take, any}
+use Rattle.laws.proofs.All.{range, length-map-range}
 use Rattle.graph.specs.declared.Graph.{Graph}
 use Rattle.order.specs.declared.keys.Keys.{Keys}
 use Rattle.choice.specs.declared.find_run.Run.{Run}
@@ -15,7 +10,6 @@ use Rattle.graph.specs.Arcs.{Work, out}
 use Rattle.graph.specs.Weights.{total}
 use Rattle.graph.specs.Splitting.{greatest, lighter, splittable, chosen, candidates, kept, sort}
 use Rattle.graph.specs.Value.{weightAt, weightsIn, arcsIn, workIn, Fits}
-use Rattle.laws.proofs.Ranges.{length-map-range}
 use Rattle.order.specs.EdgeKeys.{keysIn, arcOf, keyWeight}
 use Rattle.choice.specs.ChoiceParts.{FirstRun}
 use Rattle.splitting.specs.SplitParts.{keptArcs}

@@ -2,16 +2,9 @@
 -- In order: concat-next, concat-all; listed-none, listed-next, listed-all; part-next, part-all, part-within;
 -- keys-arcs.
 -- Assumes nothing.
-use mathlib.Core.Path.{_≡_, refl, sym, ap, _∙_}
-use mathlib.Core.List.{List, [], _∷_, _++_, map, append-assoc, append-nil}
-use Prim.Native.Nat.{ℕ, zero, suc, _+_, _-_, _≤_, _<_}
-use native.Mathlib.Numerals.{add-one}
-use native.Mathlib.Omega.{arith}
-use lib.ListN.{length, getD, take, drop, length-drop}
-use lib.Seq.{length-take-le, getD-take, getD-drop, take-all, take-take}
-use Rattle.laws.specs.Lists.{concat}
-use Rattle.laws.proofs.Lists.{drop-take}
-use Rattle.laws.proofs.Maps.{map-map}
+use Rattle.laws.proofs.All.{_≡_, refl, sym, ap, _∙_, List, [], _∷_, _++_, map, append-assoc, append-nil, ℕ, zero}
+use Rattle.laws.proofs.All.{suc, _+_, _-_, _≤_, _<_, add-one, arith, length, getD, take, drop, length-drop}
+use Rattle.laws.proofs.All.{length-take-le, getD-take, getD-drop, take-all, take-take, concat, drop-take, map-map}
 use Rattle.order.specs.EdgeKeys.{arcOf}
 use Rattle.text.specs.Words.{told}
 use Rattle.trace.specs.Lines.{listed, arcText}

@@ -2,22 +2,15 @@
 -- In order: lines-on, lines-off; Told, told-start, told-line, told-more, told-crowded, told-end; graph-line;
 -- split-crowded, split-done.
 -- Assumes nothing.
-use mathlib.Core.Path.{_≡_, refl, sym, ap, ap₂, _∙_}
-use mathlib.Core.Bool.{true, false, not, _&&_}
-use mathlib.Core.List.{List, [], _++_, append-assoc, append-nil}
-use Prim.Native.Nat.{ℕ, zero, suc, _+_, _≤_}
-use Prim.Native.String.{String}
-use native.Mathlib.Omega.{arith}
-use lib.ListN.{length, length-map}
-use Rattle.laws.specs.Lists.{range, sum}
-use Rattle.laws.proofs.Tests.{length-from}
+use Rattle.laws.proofs.All.{_≡_, refl, sym, ap, ap₂, _∙_, true, false, not, _&&_, List, [], _++_, append-assoc}
+use Rattle.laws.proofs.All.{append-nil, ℕ, zero, suc, _+_, _≤_, String, arith, length, length-map, range, sum}
+use Rattle.laws.proofs.All.{length-from, length-map-range}
 use Rattle.graph.specs.declared.Graph.{Graph}
 use Rattle.graph.specs.declared.NextGraph.{NextGraph}
 use Rattle.graph.specs.Arcs.{Work}
 use Rattle.graph.specs.Splitting.{unfinished, crowded, goesOn, split}
 use Rattle.finish.specs.TableOf.{tableOf}
 use Rattle.graph.specs.Value.{arcAt, weightAt, weightsIn, workIn}
-use Rattle.laws.proofs.Ranges.{length-map-range}
 use Rattle.splitting.specs.SplitParts.{SplitInto, Splits, SplitAllInto}
 use Rattle.splitting.proofs.SplitLoop.{Going, goesOn-is, more-states, going-grows}
 use Rattle.finish.specs.declared.finish_table.TableRows.{TableRows}

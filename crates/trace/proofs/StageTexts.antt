@@ -1,16 +1,9 @@
 -- The steps of a job from its weights on.
 -- In order: members-are; held-weights, held-states; stages-none, stages-heavy, stages-crowded, stages-all.
 -- Assumes nothing.
-use mathlib.Core.Path.{_≡_, refl, sym, ap, ap₂, subst, _∙_}
-use mathlib.Core.Bool.{Bool, true, false, _||_}
-use mathlib.Core.List.{List, _++_, append-assoc, append-nil}
-use Prim.Native.Nat.{ℕ, _≤_, _<_, _^_}
-use native.Mathlib.Omega.{arith}
-use borrow.Author.Tests.{eq-eqb, ne-eqb, lt-ltb, le-ltb}
-use lib.Dec.{ltb}
-use lib.ListN.{length, take}
-use lib.Seq.{length-take-le}
-use Rattle.laws.specs.Lists.{sum, filter, first}
+use Rattle.laws.proofs.All.{_≡_, refl, sym, ap, ap₂, subst, _∙_, Bool, true, false, _||_, List, _++_, append-assoc}
+use Rattle.laws.proofs.All.{append-nil, ℕ, _≤_, _<_, _^_, arith, eq-eqb, ne-eqb, lt-ltb, le-ltb, ltb, length, take}
+use Rattle.laws.proofs.All.{length-take-le, sum, filter, first}
 use Rattle.constraint.specs.Value.{constraintOf}
 use Rattle.constraint.specs.PowerTable.{powerCodes}
 use Rattle.constraint.proofs.Values.{length-constraintOf}

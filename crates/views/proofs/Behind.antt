@@ -1,10 +1,7 @@
 -- The parts of a phrase.
 -- In order: plural-one, plural-more.
 -- Assumes nothing.
-use mathlib.Core.Path.{_≡_}
-use mathlib.Core.List.{[], _∷_}
-use Prim.Native.Nat.{ℕ}
-use borrow.Author.Tests.{eq-eqb, ne-eqb}
+use Rattle.laws.proofs.All.{_≡_, [], _∷_, ℕ, eq-eqb, ne-eqb}
 use Rattle.views.specs.Phrases.{plural}
 
 pub plural-one : (n : ℕ) → n ≡ 1 → [] ≡ plural n

@@ -1,15 +1,10 @@
 -- The lines of all edges in a row are those of the code that a table stands for.
 -- In order: edges-few; EdgeAt, edge-good; rows-flat; edges-are; lines-none, lines-more, lineOf, lines-are.
 -- Assumes nothing.
-use mathlib.Core.Path.{_≡_, refl, sym, ap, ap₂, subst, _∙_}
-use mathlib.Core.List.{List, [], _++_, map, append-assoc, append-nil}
-use Prim.Native.Nat.{ℕ, zero, suc, _+_, _*_, _/_, _%_, _^_, _≤_, _<_}
-use native.Mathlib.Nat.{mod-lt, mod-eq-of-lt, div-lt-iff-lt-mul, add-mul-div-right, mul-add-mod-self-right}
-use native.Mathlib.Nat.{div-eq-of-lt, add-comm, mul-le-mul}
-use native.Mathlib.Omega.{arith}
-use lib.Pow.{pow-pos, pow-mono}
-use Rattle.laws.specs.Lists.{range, concat}
-use Rattle.laws.proofs.Ranges.{concat-more}
+use Rattle.laws.proofs.All.{_≡_, refl, sym, ap, ap₂, subst, _∙_, List, [], _++_, map, append-assoc, append-nil, ℕ}
+use Rattle.laws.proofs.All.{zero, suc, _+_, _*_, _/_, _%_, _^_, _≤_, _<_, mod-lt, mod-eq-of-lt, div-lt-iff-lt-mul}
+use Rattle.laws.proofs.All.{add-mul-div-right, mul-add-mod-self-right, div-eq-of-lt, add-comm, mul-le-mul, arith}
+use Rattle.laws.proofs.All.{pow-pos, pow-mono, range, concat, concat-more}
 use Rattle.constraint.proofs.Values.{map-below}
 use Rattle.table.specs.declared.Table.{Table}
 use Rattle.table.specs.Edges.{lent}

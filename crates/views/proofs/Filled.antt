@@ -1,13 +1,8 @@
 -- A text as the result of a call.
 -- In order: fill-short, fill-done; fill-same.
 -- Assumes nothing.
-use mathlib.Core.Path.{_≡_, sym, ap, subst, _∙_}
-use mathlib.Core.List.{List, _++_}
-use Prim.Native.Nat.{ℕ, _≤_, _<_}
-use native.Mathlib.Omega.{arith}
-use borrow.Author.Tests.{lt-leb}
-use lib.ListN.{length, take, drop}
-use lib.Seq.{take-all}
+use Rattle.laws.proofs.All.{_≡_, sym, ap, subst, _∙_, List, _++_, ℕ, _≤_, _<_, arith, lt-leb, length, take, drop}
+use Rattle.laws.proofs.All.{take-all}
 use Rattle.answer.specs.declared.Answer.{Answer}
 use Rattle.answer.specs.declared.Answer.the-variants.{Done, Refused}
 use Rattle.answer.specs.declared.Refusal.the-variants.{ShortOutput}

@@ -1,20 +1,13 @@
 -- The graph of words, read off the power table.
 -- In order: out-tabled; between-count; tabled-power, the table of a constraint.
 -- Assumes nothing.
-use mathlib.Core.Path.{_≡_, refl, sym, ap, _∙_}
-use mathlib.Core.List.{List, [], _∷_, map}
-use Prim.Native.Nat.{ℕ, _^_, _<_}
-use borrow.Author.Tests.{eq-eqb, ne-eqb}
-use lib.Dec.{T, eqb→eq}
-use lib.ListN.{length, length-map}
-use Rattle.laws.specs.Lists.{range, filter, concat}
+use Rattle.laws.proofs.All.{_≡_, refl, sym, ap, _∙_, List, [], _∷_, map, ℕ, _^_, _<_, eq-eqb, ne-eqb, T, eqb→eq}
+use Rattle.laws.proofs.All.{length, length-map, range, filter, concat, pick-range, filter-map, filter-filter}
+use Rattle.laws.proofs.All.{filter-both, map-range-same}
 use Rattle.constraint.specs.Walking.{Constraint, walk}
 use Rattle.graph.specs.Arcs.{Arc, arc, leaves, enters, out, wordFrom, wordsFrom, leadsOn, power}
 use Rattle.graph.specs.Weights.{wordsBetween}
 use Rattle.weights.specs.PowerTable.{entryAt, wordAt, wordsAt, tabled, wordLeads, wordCount}
-use Rattle.laws.proofs.Filters.{pick-range}
-use Rattle.laws.proofs.Maps.{filter-map, filter-filter, filter-both}
-use Rattle.laws.proofs.Ranges.{map-range-same}
 
 module _ (P : List ℕ) (words : ℕ) where
   words-leave : (s j : ℕ) (l : List ℕ) → (j ≡ s → ⊥) → filter (leaves s) (map (wordAt P j) l) ≡ []

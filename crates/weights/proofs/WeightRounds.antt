@@ -2,29 +2,15 @@
 -- In order: count-yes, count-no; lower-is; lowered-is; Round, round-start, round-more, round-still,
 -- round-end.
 -- Assumes nothing.
-use mathlib.Core.Path.{_≡_, refl, sym, ap, ap₂, _∙_}
-use mathlib.Core.Bool.{Bool, true, false}
-use mathlib.Core.List.{List, [], _∷_, _++_, append-nil}
-use Prim.Native.Nat.{ℕ, suc, _+_, _-_, _*_, _/_, _%_, _≤_, _<_, min}
-use native.Mathlib.Nat.{le-trans, mul-le-mul}
-use native.Mathlib.Omega.{arith}
-use borrow.Author.Tests.{eq-eqb, ne-eqb}
-use lib.ListN.{length, getD, take, length-append, replicate, length-replicate, getD-replicate}
-use lib.Seq.{length-take-le, getD-take}
-use Rattle.laws.specs.Lists.{if_then_else_, range, filter, iterate}
-use Rattle.laws.specs.Sums.{tot}
-use Rattle.laws.proofs.Sums.{each-map, tot-eq}
-use Rattle.laws.proofs.Tests.{map-range-at, length-from}
-use Rattle.laws.proofs.Anys.{each-range}
-use Rattle.laws.proofs.Settle.{iterate-fixed}
+use Rattle.laws.proofs.All.{_≡_, refl, sym, ap, ap₂, _∙_, Bool, true, false, List, [], _∷_, _++_, append-nil, ℕ}
+use Rattle.laws.proofs.All.{suc, _+_, _-_, _*_, _/_, _%_, _≤_, _<_, min, le-trans, mul-le-mul, arith, eq-eqb}
+use Rattle.laws.proofs.All.{ne-eqb, length, getD, take, length-append, replicate, length-replicate, getD-replicate}
+use Rattle.laws.proofs.All.{length-take-le, getD-take, if_then_else_, range, filter, iterate, tot, each-map, tot-eq}
+use Rattle.laws.proofs.All.{map-range-at, length-from, each-range, iterate-fixed, take-replicate, filter-append}
+use Rattle.laws.proofs.All.{quotient-of, remainder-of, range-more, length-map-range, take-same}
 use Rattle.graph.specs.Arcs.{Arc}
 use Rattle.graph.specs.Weights.{wordsBetween, term, lower, lowered, weights}
 use Rattle.weights.specs.PowerTable.{entryAt, tabled, wordLeads, wordCount, termBy, lowerBy}
-use Rattle.laws.proofs.Lists.{take-replicate}
-use Rattle.laws.proofs.Maps.{filter-append}
-use Rattle.laws.proofs.Places.{quotient-of, remainder-of}
-use Rattle.laws.proofs.Ranges.{range-more, length-map-range}
-use Rattle.laws.proofs.Arrays.{take-same}
 use Rattle.weights.proofs.TabledWords.{between-count}
 
 -- ---- counting words

@@ -2,14 +2,8 @@
 -- In order: edge-target; count-same, count-other, the two answers of the test of a pair; join-in, join-out, join-only;
 -- turn-taken, turn-left.
 -- Assumes nothing.
-use mathlib.Core.Path.{_≡_, sym, ap, ap₂, _∙_}
-use mathlib.Core.Bool.{Bool, true, false, not, _&&_, and-false}
-use mathlib.Core.List.{List}
-use Prim.Native.Nat.{ℕ, _+_, _*_, _/_, _%_, _≤_, _<_}
-use native.Mathlib.Omega.{arith}
-use lib.Dec.{eqb}
-use borrow.Author.Tests.{eq-eqb, ne-eqb, lt-ltb, le-ltb}
-use Rattle.laws.specs.Sets.{member}
+use Rattle.laws.proofs.All.{_≡_, sym, ap, ap₂, _∙_, Bool, true, false, not, _&&_, and-false, List, ℕ, _+_, _*_, _/_}
+use Rattle.laws.proofs.All.{_%_, _≤_, _<_, arith, eqb, eq-eqb, ne-eqb, lt-ltb, le-ltb, member}
 use Rattle.table.specs.Marks.{some}
 use Rattle.table.specs.Edges.{Arrays, Fits, places, isEdge, wordOf, nextOf, bears}
 use Rattle.windows.specs.PairSets.{counts, joins, leftOut, joinsAny}

@@ -1,13 +1,8 @@
 -- The search for the least window, memory by memory.
 -- In order: later-trans; lead-start, lead-small, lead-take, lead-skip, lead-done, lead-rest; none-found.
 -- Assumes nothing.
-use mathlib.Core.Path.{_≡_, refl, sym, ap, subst, _∙_}
-use mathlib.Core.Logic.{_⊎_, inl, inr, ⊎-elim}
-use Prim.Native.Nat.{ℕ, _+_, _-_, _≤_, _<_}
-use native.Mathlib.Omega.{arith}
-use native.Mathlib.Decide.{decLt}
-use lib.Dec.{T}
-use Rattle.laws.specs.Lists.{iterate}
+use Rattle.laws.proofs.All.{_≡_, refl, sym, ap, subst, _∙_, _⊎_, inl, inr, ⊎-elim, ℕ, _+_, _-_, _≤_, _<_, arith}
+use Rattle.laws.proofs.All.{decLt, T, iterate}
 use Rattle.table.specs.Rows.{Rows, Size}
 use Rattle.windows.specs.Works.{into, reversed, works}
 use Rattle.table.specs.Paths.{Closed}

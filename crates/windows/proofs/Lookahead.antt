@@ -1,16 +1,8 @@
 -- The lookahead at which the pairs of a clash are gone is the least that works.
 -- In order: works-further, fails-sooner, works-there; works-emptied.
 -- Assumes nothing.
-use mathlib.Core.Path.{_≡_, sym, subst, _∙_}
-use mathlib.Core.Bool.{Bool, true, false}
-use Prim.Native.Nat.{ℕ, zero, suc, _+_, _-_, _≤_, _<_}
-use native.Mathlib.Omega.{arith}
-use native.Mathlib.Nat.{add-zero}
-use native.Mathlib.Decide.{decLt}
-use borrow.Author.Tests.{le-leb, lt-leb}
-use lib.Dec.{T, leb}
-use lib.ListN.{length}
-use Rattle.laws.proofs.Tests.{T→true}
+use Rattle.laws.proofs.All.{_≡_, sym, subst, _∙_, Bool, true, false, ℕ, zero, suc, _+_, _-_, _≤_, _<_, arith}
+use Rattle.laws.proofs.All.{add-zero, decLt, le-leb, lt-leb, T, leb, length, T→true}
 use Rattle.table.specs.Rows.{Rows}
 use Rattle.table.specs.Paths.{Closed}
 use Rattle.windows.specs.Works.{works}

@@ -1,18 +1,12 @@
 -- Sets of pairs in an array: what they hold.
 -- In order: has-pairs, pairs-grid; into-grid, the pairs that one word leads to, as a grid.
 -- Assumes nothing.
-use mathlib.Core.Path.{_≡_, sym, ap₂, _∙_}
-use mathlib.Core.Bool.{Bool, false}
-use mathlib.Core.List.{List, [], map, map-map}
-use Prim.Native.Nat.{ℕ, _+_, _*_, _<_}
-use lib.ListN.{length, getD}
-use Rattle.laws.specs.Lists.{range}
-use Rattle.laws.specs.Sets.{member, Pairs, has, grid}
-use Rattle.laws.proofs.Tests.{map-range-at}
+use Rattle.laws.proofs.All.{_≡_, sym, ap₂, _∙_, Bool, false, List, [], map, ℕ, _+_, _*_, _<_, length, getD, range}
+use Rattle.laws.proofs.All.{member, Pairs, has, grid, map-range-at, map-range-same}
+use mathlib.Core.List.{map-map}
 use Rattle.table.specs.Rows.{Rows}
 use Rattle.windows.specs.Works.{meet, into, entering, reversed}
 use Rattle.windows.proofs.Same.{has-into}
-use Rattle.laws.proofs.Ranges.{map-range-same}
 use Rattle.table.proofs.EqualGrids.{grid-same, has-grid}
 use Rattle.windows.specs.PairSets.{pairsIn}
 

@@ -1,19 +1,9 @@
 -- All pairs whose next edges must agree, for one word of memory more.
 -- In order: into-union; starts-more; pasts-none, pasts-more, pasts-rest.
 -- Assumes nothing.
-use mathlib.Core.Path.{_≡_, refl, sym, ap, ap₂, subst₂, _∙_}
-use mathlib.Core.Logic.{inl, inr}
-use mathlib.Core.Bool.{Bool, true, false, _||_, or-assoc, or-comm}
-use Prim.Native.Nat.{ℕ, zero, suc, _+_, _<_}
-use native.Mathlib.Nat.{add-zero}
-use native.Mathlib.Numerals.{add-one}
-use native.Mathlib.Omega.{arith}
-use lib.Dec.{T}
-use lib.ListN.{length}
-use Rattle.laws.specs.Sets.{Pairs, has}
-use Rattle.laws.proofs.Tests.{or→, →orL, →orR, T→true, bool-eq}
-use Rattle.laws.proofs.Grids.{grid→, →grid}
-use Rattle.laws.proofs.Settle.{iterate-suc}
+use Rattle.laws.proofs.All.{_≡_, refl, sym, ap, ap₂, subst₂, _∙_, inl, inr, Bool, true, false, _||_, or-assoc}
+use Rattle.laws.proofs.All.{or-comm, ℕ, zero, suc, _+_, _<_, add-zero, add-one, arith, T, length, Pairs, has, or→}
+use Rattle.laws.proofs.All.{→orL, →orR, T→true, bool-eq, grid→, →grid, iterate-suc}
 use Rattle.table.specs.Rows.{Rows, edges, at}
 use Rattle.table.specs.Paths.{Closed}
 use Rattle.windows.specs.Works.{into, reversed, allPairs, startPair, past, started}

@@ -1,25 +1,16 @@
 -- Laws of the sets of pairs that the code makes, copies and tests.
 -- In order: all-grid, all-of; start-put; set-more, copied; empty-of; same-pairs.
 -- Assumes nothing.
-use mathlib.Core.Path.{_≡_, refl, sym, ap, ap₂, _∙_}
-use mathlib.Core.Bool.{Bool, true, false, not, _&&_, _||_}
-use mathlib.Core.List.{List, [], _∷_, map}
-use Prim.Native.Nat.{ℕ, suc, _+_, _*_, _/_, _%_, _≤_, _<_}
-use native.Mathlib.Omega.{arith}
-use native.Mathlib.Decide.{ℕ-discrete}
-use lib.Dec.{T, T-not, not-T, eqb, eqb→eq, eqb-refl, ltb, ltb→lt, lt→ltb}
-use borrow.Author.Tests.{not-true}
-use lib.ListN.{length, set, length-set, replicate, getD-replicate}
-use lib.Seq.{getD-set-same, getD-set-other}
-use Rattle.laws.specs.Lists.{if_then_else_, from, range}
-use Rattle.laws.specs.Sets.{member, has, grid}
-use Rattle.laws.proofs.Tests.{and→, →and, bool-eq, all-below→, →all-below}
+use Rattle.laws.proofs.All.{_≡_, refl, sym, ap, ap₂, _∙_, Bool, true, false, not, _&&_, _||_, List, [], _∷_, map, ℕ}
+use Rattle.laws.proofs.All.{suc, _+_, _*_, _/_, _%_, _≤_, _<_, arith, ℕ-discrete, T, T-not, not-T, eqb, eqb→eq}
+use Rattle.laws.proofs.All.{eqb-refl, ltb, ltb→lt, lt→ltb, not-true, length, set, length-set, replicate}
+use Rattle.laws.proofs.All.{getD-replicate, getD-set-same, getD-set-other, if_then_else_, from, range, member, has}
+use Rattle.laws.proofs.All.{grid, and→, →and, bool-eq, all-below→, →all-below, put-member}
 use Rattle.table.specs.Rows.{Rows}
 use Rattle.windows.specs.Works.{into, reversed, allPairs, startPair}
 use Rattle.windows.specs.Search.{empty}
 use Rattle.table.specs.Marks.{some}
 use Rattle.table.proofs.Marks.{found, some-at, none-at}
-use Rattle.laws.proofs.Members.{put-member}
 use Rattle.table.proofs.EqualGrids.{has-grid}
 use Rattle.windows.specs.PairSets.{pairsIn, Long, holdsAt, differsAt}
 use Rattle.windows.specs.Steps.{withWord}

@@ -1,18 +1,8 @@
 -- Steps until a set of pairs is empty.
 -- In order: iterate-add, step-more; Stepped, stepped-start to stepped-rest.
 -- Assumes nothing.
-use mathlib.Core.Path.{_≡_, sym, ap, _∙_}
-use mathlib.Core.Bool.{Bool, true, false}
-use mathlib.Core.List.{List}
-use Prim.Native.Nat.{ℕ, zero, suc, _+_, _-_, _≤_, _<_}
-use native.Mathlib.Numerals.{add-one}
-use native.Mathlib.Nat.{zero-add, suc-add}
-use native.Mathlib.Omega.{arith}
-use native.Mathlib.Decide.{decLt}
-use borrow.Author.Count.{below-more}
-use Rattle.laws.specs.Lists.{iterate}
-use Rattle.laws.specs.Sets.{Pairs}
-use Rattle.laws.proofs.Settle.{iterate-suc, iterate-fixed}
+use Rattle.laws.proofs.All.{_≡_, sym, ap, _∙_, Bool, true, false, List, ℕ, zero, suc, _+_, _-_, _≤_, _<_, add-one}
+use Rattle.laws.proofs.All.{zero-add, suc-add, arith, decLt, below-more, iterate, Pairs, iterate-suc, iterate-fixed}
 use Rattle.table.specs.Rows.{Rows}
 use Rattle.windows.specs.Works.{into, reversed}
 use Rattle.windows.specs.Search.{empty}

@@ -1,11 +1,7 @@
 -- One turn of the search for the least window: it goes on with one word of memory more, or the best is the least.
 -- In order: turn-small, turn-on, done, turn-off; turn.
 -- Assumes nothing.
-use mathlib.Core.Path.{_≡_, sym, ap, _∙_}
-use mathlib.Core.Logic.{_⊎_, inl, inr}
-use Prim.Native.Nat.{ℕ, _+_, _≤_, _<_}
-use native.Mathlib.Omega.{arith}
-use Rattle.laws.specs.Sets.{Pairs}
+use Rattle.laws.proofs.All.{_≡_, sym, ap, _∙_, _⊎_, inl, inr, ℕ, _+_, _≤_, _<_, arith, Pairs}
 use Rattle.table.specs.Rows.{Rows, Size}
 use Rattle.table.specs.Paths.{Closed}
 use Rattle.windows.specs.Search.{window, pasts}

@@ -1,15 +1,9 @@
 -- Two edges with one word: by places, as the code marks them, and by states, as the definitions say it.
 -- In order: Two, two edges; two→, →two, by places; step-pairs, a step forward; hits-pairs, a step by a clash.
 -- Assumes nothing.
-use mathlib.Core.Path.{_≡_, sym, ap, subst, subst₂, _∙_}
-use mathlib.Core.Bool.{Bool, true, false, not, _&&_}
-use mathlib.Core.List.{List}
-use Prim.Native.Nat.{ℕ, _+_, _*_, _/_, _%_, _<_}
-use native.Mathlib.Omega.{arith}
-use lib.Dec.{T, T-not, not-T, eqb, eqb→eq, eqb-refl, ltb→lt}
-use lib.ListN.{length}
-use Rattle.laws.specs.Sets.{member, Pairs, has, grid}
-use Rattle.laws.proofs.Tests.{and→, →and, bool-eq, T→true}
+use Rattle.laws.proofs.All.{_≡_, sym, ap, subst, subst₂, _∙_, Bool, true, false, not, _&&_, List, ℕ, _+_, _*_, _/_}
+use Rattle.laws.proofs.All.{_%_, _<_, arith, T, T-not, not-T, eqb, eqb→eq, eqb-refl, ltb→lt, length, member, Pairs}
+use Rattle.laws.proofs.All.{has, grid, and→, →and, bool-eq, T→true}
 use Rattle.table.specs.Rows.{edges, at}
 use Rattle.windows.specs.Works.{into, reversed}
 use Rattle.windows.specs.Search.{hits}

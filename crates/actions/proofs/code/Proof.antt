@@ -1,11 +1,8 @@
 -- `code` meets its contract, way by way.
 -- Assumes nothing.
-use mathlib.Core.Path.{sym, ap, _∙_}
-use denote.Ref.{now}
-use lib.ListN.{length}
+use Rattle.laws.proofs.All.{sym, ap, _∙_, now, length, needs}
 use Rattle.answer.specs.Outcomes.{answerOf, outputOf}
 use Rattle.actions.specs.Doing.{coded}
-use borrow.Author.Needs.{needs}
 use Rattle.actions.proofs.code.Statement.{statement}
 use Rattle.actions.proofs.code.Tie as tie
 

@@ -1,7 +1,6 @@
 -- `mark` meets its contract, by cases on the block.
 -- Assumes nothing.
-use native.Mathlib.Omega.{arith}
-use borrow.Author.Tests.{eq-eqb, ne-eqb}
+use Rattle.laws.proofs.All.{arith, eq-eqb, ne-eqb}
 use Rattle.actions.specs.Results.{markOf}
 use Rattle.actions.proofs.mark.Statement.{statement}
 use Rattle.actions.proofs.mark.Tie as tie

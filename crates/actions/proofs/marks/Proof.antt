@@ -1,15 +1,9 @@
 -- `marks` meets its contract. The loop's invariant: n is the number of marks passed. The measure is what is left of the
 -- length.
 -- Assumes nothing.
-use mathlib.Core.Path.{_≡_, sym, ap, _∙_}
-use Prim.Native.Nat.{_+_, _-_, _≤_}
-use native.Mathlib.Nat.{zero-add, add-zero}
-use native.Mathlib.Omega.{arith}
-use denote.Ref.{now}
-use lib.ListN.{length, drop}
+use Rattle.laws.proofs.All.{_≡_, sym, ap, _∙_, _+_, _-_, _≤_, zero-add, add-zero, arith, now, length, drop, needs}
 use Rattle.actions.specs.Results.{marksIn}
 use Rattle.actions.proofs.Results.{mark-on, mark-end}
-use borrow.Author.Needs.{needs}
 use Rattle.actions.proofs.marks.Statement.{statement}
 use Rattle.actions.proofs.marks.Tie as tie
 

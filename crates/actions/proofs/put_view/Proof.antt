@@ -1,9 +1,8 @@
 -- `put_view` meets its contract, view by view.
 -- Assumes nothing.
-use mathlib.Core.Path.{sym, ap}
+use Rattle.laws.proofs.All.{sym, ap, needs}
 use Rattle.text.proofs.Adding.{added-same}
 use Rattle.actions.specs.Doing.{viewText}
-use borrow.Author.Needs.{needs}
 use Rattle.actions.proofs.put_view.Statement.{statement}
 use Rattle.actions.proofs.put_view.Tie as tie
 

@@ -1,10 +1,6 @@
 -- `digit` meets its contract, by cases on the byte.
 -- Assumes nothing.
-use Prim.Native.Nat.{_-_, _≤_}
-use native.Mathlib.Nat.{min-eq-left, min-eq-right}
-use native.Mathlib.Omega.{arith}
-use borrow.Author.Tests.{lt-ltb, le-ltb}
-use borrow.Author.Needs.{needs}
+use Rattle.laws.proofs.All.{_-_, _≤_, min-eq-left, min-eq-right, arith, lt-ltb, le-ltb, needs}
 use Rattle.arguments.specs.Parsing.{digitOf}
 use Rattle.arguments.proofs.digit.Statement.{statement}
 use Rattle.arguments.proofs.digit.Tie as tie

@@ -1,6 +1,6 @@
 -- `is_fitting` meets its contract: the tests are those of the definition.
 -- Assumes nothing.
-use borrow.Author.Tests.{le-leb, lt-leb}
+use Rattle.laws.proofs.All.{le-leb, lt-leb}
 use Rattle.arguments.proofs.is_fitting.Statement.{statement}
 use Rattle.arguments.proofs.is_fitting.Tie as tie
 

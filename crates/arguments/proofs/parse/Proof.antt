@@ -1,14 +1,9 @@
 -- `parse` meets its contract. The loop's invariant: the digits passed make n, and what is left behind n decides. The
 -- measure is what is left of the length.
 -- Assumes nothing.
-use mathlib.Core.Path.{_≡_, refl, sym, ap, _∙_}
-use Prim.Native.Nat.{_+_, _*_, _-_, _≤_}
-use native.Mathlib.Omega.{arith}
-use denote.Ref.{now}
-use lib.ListN.{length, drop}
+use Rattle.laws.proofs.All.{_≡_, refl, sym, ap, _∙_, _+_, _*_, _-_, _≤_, arith, now, length, drop, needs}
 use Rattle.arguments.specs.Parsing.{numberIn, parsed}
 use Rattle.arguments.proofs.Parsing.{number-capped, number-on, number-off, number-end, parsed-none, parsed-some}
-use borrow.Author.Needs.{needs}
 use Rattle.arguments.proofs.parse.Statement.{statement}
 use Rattle.arguments.proofs.parse.Tie as tie
 

@@ -1,8 +1,7 @@
 -- `shape_of` meets its contract, action by action.
 -- Assumes nothing.
-use mathlib.Core.Path.{sym, ap, _∙_}
+use Rattle.laws.proofs.All.{sym, ap, _∙_, needs}
 use Rattle.arguments.specs.Shapes.{shapeOf}
-use borrow.Author.Needs.{needs}
 use Rattle.arguments.proofs.shape_of.Statement.{statement}
 use Rattle.arguments.proofs.shape_of.Tie as tie
 

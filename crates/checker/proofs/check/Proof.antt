@@ -1,7 +1,6 @@
 -- `check` meets its contract: its answer is what loading comes to, with no byte written.
 -- Assumes nothing.
-use borrow.Author.Needs.{needs}
-use denote.Ref.{now}
+use Rattle.laws.proofs.All.{needs, now}
 use Rattle.checker.proofs.Follow.{check-bad, check-read}
 use Rattle.checker.proofs.check.Statement.{statement}
 use Rattle.checker.proofs.check.Tie as tie

@@ -1,8 +1,6 @@
 -- `judge` meets its contract: each return follows the check that it comes from, 9 before 10.
 -- Assumes nothing.
-use mathlib.Core.Path.{sym, _∙_}
-use borrow.Author.Tests.{not-true, not-false}
-use borrow.Author.Needs.{needs}
+use Rattle.laws.proofs.All.{sym, _∙_, not-true, not-false, needs}
 use Rattle.table.specs.Value.{codeIn}
 use Rattle.table.proofs.ReadyTables.{ready→}
 use Rattle.record.proofs.RecordReading.{good-not}

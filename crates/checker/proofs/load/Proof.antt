@@ -1,8 +1,6 @@
 -- `load` meets its contract: the refusal of a field, or what the two checks of the table come to.
 -- Assumes nothing.
-use mathlib.Core.Path.{sym, _∙_}
-use borrow.Author.Needs.{needs}
-use denote.Ref.{now}
+use Rattle.laws.proofs.All.{sym, _∙_, needs, now}
 use Rattle.checker.proofs.Follow.{parse-read, parse-bad}
 use Rattle.checker.proofs.load.Statement.{statement}
 use Rattle.checker.proofs.load.Tie as tie

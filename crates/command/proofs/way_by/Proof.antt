@@ -1,6 +1,6 @@
 -- `way_by` meets its contract, by the flag.
 -- Assumes nothing.
-use mathlib.Core.Path.{sym, ap}
+use Rattle.laws.proofs.All.{sym, ap}
 use Rattle.command.specs.Ending.{wayBy}
 use Rattle.command.proofs.way_by.Statement.{statement}
 use Rattle.command.proofs.way_by.Tie as tie

@@ -1,13 +1,11 @@
 -- The refusal of the record up to 9 and 10, or what decoding under its table comes to.
 -- Assumes nothing.
-use denote.Ref.{now}
-use lib.ListN.{length}
+use Rattle.laws.proofs.All.{now, length, needs}
 use Rattle.record.specs.Checks.{fieldsChecked}
 use Rattle.codec.specs.Answers.{decoded, decodeChecked}
 use Rattle.codec.specs.With.{decodedWith}
 use Rattle.codec.proofs.Tabled.{declined}
 use Rattle.codec.proofs.Loaded.{handed, under-bad, decode-read}
-use borrow.Author.Needs.{needs}
 use Rattle.decoder.proofs.decode_checked.Statement.{statement}
 use Rattle.decoder.proofs.decode_checked.Tie as tie
 

@@ -1,12 +1,6 @@
 -- The checks in their order, then the blocks by the runs of the table's edges.
-use mathlib.Core.Path.{_≡_, sym, subst, _∙_}
-use mathlib.Core.Bool.{true}
-use Prim.Native.Nat.{_-_}
-use native.Mathlib.Omega.{arith}
-use borrow.Author.Tests.{not-true, not-false}
-use denote.Ref.{now}
-use lib.Dec.{T}
-use lib.ListN.{length, drop}
+use Rattle.laws.proofs.All.{_≡_, sym, subst, _∙_, true, _-_, arith, not-true, not-false, now, T, length, drop}
+use Rattle.laws.proofs.All.{needs}
 use Rattle.answer.specs.declared.Refusal.the-variants.{Field, BadByte, TooFewWords, ShortOutput}
 use Rattle.table.specs.Value.{Ready, ready, codeIn}
 use Rattle.table.specs.Edges.{arrays, Fits}
@@ -16,7 +10,6 @@ use Rattle.reading.specs.Reading.{decode}
 use Rattle.codec.specs.With.{decodedWith}
 use Rattle.codec.proofs.Tabled.{declined, finished, decode-7, decode-12, decode-13, decode-11, decode-done}
 use Rattle.codec.proofs.Decoded.{length-decode, decoded-in}
-use borrow.Author.Needs.{needs}
 use Rattle.decoder.proofs.decode_with.Statement.{statement}
 use Rattle.decoder.proofs.decode_with.Tie as tie
 

@@ -1,16 +1,9 @@
 -- Each turn writes one block.
-use mathlib.Core.Path.{_≡_, refl, ap, _∙_}
-use mathlib.Core.List.{_++_, map}
-use Prim.Native.Nat.{ℕ, _+_, _-_, _≤_}
-use native.Mathlib.Omega.{arith}
-use denote.Ref.{now}
-use lib.ListN.{length, drop, length-set}
-use Rattle.laws.specs.Lists.{range}
+use Rattle.laws.proofs.All.{_≡_, refl, ap, _∙_, _++_, map, ℕ, _+_, _-_, _≤_, arith, now, length, drop, length-set}
+use Rattle.laws.proofs.All.{range, map-more, needs}
 use Rattle.table.specs.Edges.{arrays, rowsOf}
 use Rattle.reading.specs.Reading.{block}
 use Rattle.reading.specs.BlockParts.{under}
-use Rattle.laws.proofs.Arrays.{map-more}
-use borrow.Author.Needs.{needs}
 use Rattle.decoder.proofs.read_blocks.Statement.{statement}
 use Rattle.decoder.proofs.read_blocks.Tie as tie
 

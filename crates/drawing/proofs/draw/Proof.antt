@@ -1,10 +1,6 @@
 -- `draw` meets its contract: nothing, the diagram or the matrix.
 -- Assumes nothing.
-use mathlib.Core.Path.{_≡_, sym, subst, _∙_}
-use mathlib.Core.Bool.{true}
-use borrow.Author.Tests.{not-true, not-false}
-use borrow.Author.Needs.{needs}
-use lib.Dec.{T}
+use Rattle.laws.proofs.All.{_≡_, sym, subst, _∙_, true, not-true, not-false, needs, T}
 use Rattle.table.specs.Value.{Ready, ready}
 use Rattle.table.proofs.ReadyTables.{ready→}
 use Rattle.text.proofs.Adding.{added-same}

@@ -1,15 +1,11 @@
 -- `is_opening` meets its contract: no datum below j leads where d leads; the first that does ends the loop.
 -- Assumes nothing.
-use mathlib.Core.Path.{_≡_, sym, ap, _∙_}
-use mathlib.Core.Bool.{false}
-use Prim.Native.Nat.{ℕ, _+_, _*_, _-_, _≤_, _<_}
-use native.Mathlib.Omega.{arith}
+use Rattle.laws.proofs.All.{_≡_, sym, ap, _∙_, false, ℕ, _+_, _*_, _-_, _≤_, _<_, arith, needs}
 use Rattle.table.specs.Marks.{some}
 use Rattle.table.specs.Value.{nextAt}
 use Rattle.table.proofs.Marks.{none-start, none-more}
 use Rattle.drawing.specs.Drawn.{joined}
 use Rattle.drawing.proofs.Diagrams.{opens-so, opens-not}
-use borrow.Author.Needs.{needs}
 use Rattle.drawing.proofs.is_opening.Statement.{statement}
 use Rattle.drawing.proofs.is_opening.Tie as tie
 

@@ -1,9 +1,6 @@
 -- `put_arrow` meets its contract: nothing where a datum below leads there, otherwise its parts in a row.
 -- Assumes nothing.
-use mathlib.Core.Path.{sym, _∙_}
-use native.Mathlib.Omega.{arith}
-use borrow.Author.Tests.{not-true, not-false}
-use borrow.Author.Needs.{needs}
+use Rattle.laws.proofs.All.{sym, _∙_, arith, not-true, not-false, needs}
 use Rattle.text.specs.Texts.{bytes}
 use Rattle.text.proofs.Adding.{added-same, _then_}
 use Rattle.drawing.proofs.Diagrams.{arrow-open, arrow-none}

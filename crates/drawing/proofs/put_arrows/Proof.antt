@@ -1,10 +1,7 @@
 -- `put_arrows` meets its contract. The loop's invariant: the text put since the loop began has the arrows of the edges
 -- passed. The measure is what is left of the edges.
 -- Assumes nothing.
-use mathlib.Core.Path.{_≡_, ap, _∙_}
-use Prim.Native.Nat.{_*_, _-_, _≤_}
-use native.Mathlib.Omega.{arith}
-use borrow.Author.Needs.{needs}
+use Rattle.laws.proofs.All.{_≡_, ap, _∙_, _*_, _-_, _≤_, arith, needs}
 use Rattle.text.specs.Texts.{Added}
 use Rattle.text.proofs.Adding.{added-same, _then_, begun}
 use Rattle.drawing.specs.Drawn.{arrowsTo}

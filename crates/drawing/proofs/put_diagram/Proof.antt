@@ -4,7 +4,7 @@ use Rattle.text.proofs.Adding.{added-same, _then_}
 use Rattle.text.specs.Texts.{bytes}
 use Rattle.drawing.specs.Drawn.{opening}
 use Rattle.drawing.proofs.Diagrams.{diagram-is}
-use borrow.Author.Needs.{needs}
+use Rattle.laws.proofs.All.{needs}
 use Rattle.drawing.proofs.put_diagram.Statement.{statement}
 use Rattle.drawing.proofs.put_diagram.Tie as tie
 

@@ -3,7 +3,7 @@
 use Rattle.text.proofs.Adding.{_then_}
 use Rattle.text.specs.Texts.{bytes}
 use Rattle.drawing.specs.Drawn.{label}
-use borrow.Author.Needs.{needs}
+use Rattle.laws.proofs.All.{needs}
 use Rattle.drawing.proofs.put_label.Statement.{statement}
 use Rattle.drawing.proofs.put_label.Tie as tie
 

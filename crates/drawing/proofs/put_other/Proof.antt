@@ -1,10 +1,8 @@
 -- `put_other` meets its contract: nothing for a datum in front or to another state.
 -- Assumes nothing.
-use mathlib.Core.Path.{sym, _∙_}
-use borrow.Author.Tests.{not-true, not-false}
+use Rattle.laws.proofs.All.{sym, _∙_, not-true, not-false, needs}
 use Rattle.text.proofs.Adding.{added-same}
 use Rattle.drawing.proofs.Diagrams.{other-before, other-apart, other-joined}
-use borrow.Author.Needs.{needs}
 use Rattle.drawing.proofs.put_other.Statement.{statement}
 use Rattle.drawing.proofs.put_other.Tie as tie
 

@@ -1,15 +1,12 @@
 -- `put_others` meets its contract. The loop's invariant: the text put since the loop began has what the data passed
 -- add.
 -- Assumes nothing.
-use mathlib.Core.Path.{_≡_, ap, _∙_}
-use Prim.Native.Nat.{_+_, _*_, _-_, _≤_, _<_}
-use native.Mathlib.Omega.{arith}
+use Rattle.laws.proofs.All.{_≡_, ap, _∙_, _+_, _*_, _-_, _≤_, _<_, arith, needs}
 use Rattle.table.specs.Value.{wordAt, nextAt}
 use Rattle.text.specs.Texts.{Added}
 use Rattle.text.proofs.Adding.{added-same, _then_, begun}
 use Rattle.drawing.specs.Drawn.{others}
 use Rattle.drawing.proofs.Diagrams.{others-none, others-more}
-use borrow.Author.Needs.{needs}
 use Rattle.drawing.proofs.put_others.Statement.{statement}
 use Rattle.drawing.proofs.put_others.Tie as tie
 

@@ -1,13 +1,11 @@
 -- The refusal of the record, or what encoding under its table comes to.
 -- Assumes nothing.
-use denote.Ref.{now}
-use lib.ListN.{length}
+use Rattle.laws.proofs.All.{now, length, needs}
 use Rattle.checker.specs.Parse.{parse}
 use Rattle.codec.specs.Answers.{encoded, encodeUnder}
 use Rattle.codec.specs.With.{encodedWith}
 use Rattle.codec.proofs.Tabled.{declined}
 use Rattle.codec.proofs.Loaded.{handed, under-bad, encode-read}
-use borrow.Author.Needs.{needs}
 use Rattle.encoder.proofs.encode.Statement.{statement}
 use Rattle.encoder.proofs.encode.Tie as tie
 

@@ -1,13 +1,11 @@
 -- The refusal of the record up to 9 and 10, or what encoding under its table comes to.
 -- Assumes nothing.
-use denote.Ref.{now}
-use lib.ListN.{length}
+use Rattle.laws.proofs.All.{now, length, needs}
 use Rattle.record.specs.Checks.{fieldsChecked}
 use Rattle.codec.specs.Answers.{encoded, encodeChecked}
 use Rattle.codec.specs.With.{encodedWith}
 use Rattle.codec.proofs.Tabled.{declined}
 use Rattle.codec.proofs.Loaded.{handed, under-bad, encode-read}
-use borrow.Author.Needs.{needs}
 use Rattle.encoder.proofs.encode_checked.Statement.{statement}
 use Rattle.encoder.proofs.encode_checked.Tie as tie
 

@@ -1,14 +1,6 @@
 -- The checks in their order, then the words of the blocks and the closing words.
-use mathlib.Core.Path.{_≡_, sym, subst, _∙_}
-use mathlib.Core.Bool.{true}
-use Prim.Native.Nat.{_+_, _≤_}
-use native.Mathlib.Omega.{arith}
-use borrow.Author.Tests.{not-true, not-false, ltb-true, ltb-false}
-use denote.Ref.{now}
-use lib.Dec.{T}
-use lib.Pow.{pow-pos}
-use lib.ListN.{length}
-use Rattle.laws.specs.Sums.{Below}
+use Rattle.laws.proofs.All.{_≡_, sym, subst, _∙_, true, _+_, _≤_, arith, not-true, not-false, ltb-true, ltb-false}
+use Rattle.laws.proofs.All.{now, T, pow-pos, length, Below, needs}
 use Rattle.answer.specs.declared.Refusal.the-variants.{Field, BadByte, ShortOutput}
 use Rattle.table.specs.Paths.{recording}
 use Rattle.table.specs.Value.{Ready, ready, codeIn}
@@ -20,7 +12,6 @@ use Rattle.codec.specs.With.{encodedWith}
 use Rattle.answer.proofs.FirstBad.{below-firstBad, bad-le}
 use Rattle.codec.proofs.Writing.{recorded-in}
 use Rattle.codec.proofs.Tabled.{declined, finished, encode-7, encode-13, encode-11, encode-done}
-use borrow.Author.Needs.{needs}
 use Rattle.encoder.proofs.encode_with.Statement.{statement}
 use Rattle.encoder.proofs.encode_with.Tie as tie
 

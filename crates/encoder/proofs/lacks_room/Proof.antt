@@ -1,10 +1,5 @@
 -- Compared by a difference, so that no sum can wrap.
-use mathlib.Core.Path.{sym}
-use Prim.Native.Nat.{_+_, _-_}
-use native.Mathlib.Omega.{arith}
-use borrow.Author.Tests.{lt-ltb}
-use lib.Dec.{ltb, ltb→lt, lt→ltb}
-use Rattle.laws.proofs.Tests.{bool-eq}
+use Rattle.laws.proofs.All.{sym, _+_, _-_, arith, lt-ltb, ltb, ltb→lt, lt→ltb, bool-eq}
 use Rattle.encoder.proofs.lacks_room.Statement.{statement}
 use Rattle.encoder.proofs.lacks_room.Tie as tie
 

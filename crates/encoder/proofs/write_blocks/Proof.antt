@@ -1,15 +1,8 @@
 -- Each turn writes the word of one block and steps to its next state.
-use mathlib.Core.Path.{refl}
-use mathlib.Core.List.{[]}
-use Prim.Native.Nat.{_+_, _-_, _*_, _≤_, _<_}
-use native.Mathlib.Omega.{arith}
-use denote.Ref.{now}
-use lib.ListN.{length, getD}
-use Rattle.laws.proofs.Lists.{below-at}
+use Rattle.laws.proofs.All.{refl, [], _+_, _-_, _*_, _≤_, _<_, arith, now, length, getD, below-at, needs}
 use Rattle.table.specs.Edges.{Arrays, arrays, nextOf}
 use Rattle.table.proofs.RowsOf.{place-next}
 use Rattle.codec.proofs.Writing.{Writes, writes-start, writes-more, writes-end}
-use borrow.Author.Needs.{needs}
 use Rattle.encoder.proofs.write_blocks.Statement.{statement}
 use Rattle.encoder.proofs.write_blocks.Tie as tie
 

@@ -1,15 +1,9 @@
 -- Each turn writes the word of datum 0 and steps to its next state.
-use mathlib.Core.Path.{_≡_, sym}
-use mathlib.Core.List.{List}
-use Prim.Native.Nat.{ℕ, _+_, _-_, _*_, _≤_, _<_}
-use native.Mathlib.Omega.{arith}
-use denote.Ref.{now}
-use lib.ListN.{length, getD, take, replicate, length-replicate, getD-replicate, take-append-drop}
-use lib.Seq.{length-take-le}
+use Rattle.laws.proofs.All.{_≡_, sym, List, ℕ, _+_, _-_, _*_, _≤_, _<_, arith, now, length, getD, take, replicate}
+use Rattle.laws.proofs.All.{length-replicate, getD-replicate, take-append-drop, length-take-le, needs}
 use Rattle.table.specs.Edges.{Arrays, arrays, nextOf}
 use Rattle.table.proofs.RowsOf.{place-next}
 use Rattle.codec.proofs.Writing.{Writes, writes-start, writes-more, writes-end}
-use borrow.Author.Needs.{needs}
 use Rattle.encoder.proofs.write_closing.Statement.{statement}
 use Rattle.encoder.proofs.write_closing.Tie as tie
 

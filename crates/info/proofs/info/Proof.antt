@@ -1,10 +1,9 @@
 -- `info` meets its contract: a refused record ends the call, and the numbers of an accepted one fill the output.
 -- Assumes nothing.
-use denote.Ref.{now}
+use Rattle.laws.proofs.All.{now, needs}
 use Rattle.answer.proofs.Outcomes.{said-good, said-bad}
 use Rattle.table.specs.Value.{codeIn}
 use Rattle.info.proofs.Numbers.{ends, goes-on}
-use borrow.Author.Needs.{needs}
 use Rattle.info.proofs.info.Statement.{statement}
 use Rattle.info.proofs.info.Tie as tie
 

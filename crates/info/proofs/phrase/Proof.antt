@@ -1,11 +1,10 @@
 -- `phrase` meets its contract: the words fit the bytes that they are put into, and fill the output.
 -- Assumes nothing.
-use denote.Ref.{now}
+use Rattle.laws.proofs.All.{now, needs}
 use Rattle.text.proofs.Adding.{added-whole}
 use Rattle.views.proofs.Filled.{fill-same}
 use Rattle.refusals.proofs.Rows.{words-short}
 use Rattle.info.specs.Info.{phraseInto}
-use borrow.Author.Needs.{needs}
 use Rattle.info.proofs.phrase.Statement.{statement}
 use Rattle.info.proofs.phrase.Tie as tie
 

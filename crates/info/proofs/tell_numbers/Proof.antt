@@ -1,12 +1,10 @@
 -- `tell_numbers` meets its contract: each number fits a byte, and they fill the output.
 -- Assumes nothing.
-use native.Mathlib.Omega.{arith}
-use denote.Ref.{now}
+use Rattle.laws.proofs.All.{arith, now, needs}
 use Rattle.table.specs.Value.{tableHead}
 use Rattle.table.specs.Formed.{Ranges}
 use Rattle.views.proofs.Filled.{fill-same}
 use Rattle.info.proofs.Numbers.{in-range, numbers-are}
-use borrow.Author.Needs.{needs}
 use Rattle.info.proofs.tell_numbers.Statement.{statement}
 use Rattle.info.proofs.tell_numbers.Tie as tie
 

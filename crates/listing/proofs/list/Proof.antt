@@ -1,8 +1,6 @@
 -- `list` meets its contract: the listing of a job that compiles, and otherwise `refused` and the number.
 -- Assumes nothing.
-use mathlib.Core.Path.{_∙_, sym}
-use denote.Ref.{now}
-use borrow.Author.Needs.{needs}
+use Rattle.laws.proofs.All.{_∙_, sym, now, needs}
 use Rattle.listing.proofs.Printing.{list-done, list-told}
 use Rattle.listing.proofs.list.Statement.{statement}
 use Rattle.listing.proofs.list.Tie as tie

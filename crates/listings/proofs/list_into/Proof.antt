@@ -1,13 +1,11 @@
 -- `list_into` meets its contract: a refusal ends the call, and a table that was compiled goes on.
 -- Assumes nothing.
-use denote.Ref.{now}
-use lib.ListN.{length}
+use Rattle.laws.proofs.All.{now, length, needs}
 use Rattle.answer.specs.Outcomes.{fitting}
 use Rattle.views.specs.Listing.{listing}
 use Rattle.compiler.specs.Compile.{compile}
 use Rattle.job.specs.JobValues.{jobIn}
 use Rattle.compiler.proofs.Onward.{read-bad, read-done, ends-bad, goes-on}
-use borrow.Author.Needs.{needs}
 use Rattle.listings.proofs.list_into.Statement.{statement}
 use Rattle.listings.proofs.list_into.Tie as tie
 

@@ -1,14 +1,12 @@
 -- `list_run_length` meets its contract: a refusal of the bytes ends the call, and a job that was read goes on.
 -- Assumes nothing.
-use denote.Ref.{now}
-use lib.ListN.{length}
+use Rattle.laws.proofs.All.{now, length, needs}
 use Rattle.answer.proofs.Outcomes.{said-good, said-bad}
 use Rattle.job.specs.JobValues.{jobIn}
 use Rattle.job.specs.Jobs.{readRunLength}
 use Rattle.listings.specs.Listings.{listedInto}
 use Rattle.compiler.proofs.Onward.{ends-bad, goes-on}
 use Rattle.listings.proofs.Onward.{listed-so}
-use borrow.Author.Needs.{needs}
 use Rattle.listings.proofs.list_run_length.Statement.{statement}
 use Rattle.listings.proofs.list_run_length.Tie as tie
 

@@ -1,11 +1,9 @@
 -- `tell_refusal` meets its contract: the line fits the bytes that it is put into, and fills the output.
 -- Assumes nothing.
-use mathlib.Core.Path.{_∙_}
-use denote.Ref.{now}
+use Rattle.laws.proofs.All.{_∙_, now, needs}
 use Rattle.text.proofs.Adding.{added-same, added-whole}
 use Rattle.views.proofs.Filled.{fill-same}
 use Rattle.listings.proofs.Lengths.{refusal-is, refusal-short}
-use borrow.Author.Needs.{needs}
 use Rattle.listings.proofs.tell_refusal.Statement.{statement}
 use Rattle.listings.proofs.tell_refusal.Tie as tie
 

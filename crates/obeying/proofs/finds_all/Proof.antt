@@ -1,12 +1,5 @@
 -- The data below d find their way; the first that does not ends the loop.
-use mathlib.Core.Path.{sym, _∙_}
-use Prim.Native.Nat.{ℕ, _-_, _≤_, _<_}
-use native.Mathlib.Nat.{not-suc-le-zero}
-use native.Mathlib.Omega.{arith}
-use borrow.Author.Needs.{needs}
-use borrow.Author.Count.{below-more}
-use denote.Ref.{now}
-use lib.Dec.{T}
+use Rattle.laws.proofs.All.{sym, _∙_, ℕ, _-_, _≤_, _<_, not-suc-le-zero, arith, needs, below-more, now, T}
 use Rattle.obeying.specs.Obeying.{stateAfter, findsAt}
 use Rattle.table.proofs.LoopTests.{all-passed, all-failed}
 use Rattle.obeying.proofs.PairTests.{other-than, same-as}

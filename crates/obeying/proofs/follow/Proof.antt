@@ -1,16 +1,6 @@
 -- The list holds the members of the set, and those before i have been tested and followed; at its end all have been.
-use mathlib.Core.Path.{sym, _∙_}
-use mathlib.Core.Bool.{Bool}
-use Prim.Native.Nat.{ℕ, _-_, _≤_, _<_}
-use native.Mathlib.Nat.{not-suc-le-zero}
-use native.Mathlib.Omega.{arith}
-use borrow.Author.Needs.{needs}
-use borrow.Author.Tests.{not-true, not-false}
-use denote.Ref.{now}
-use lib.Dec.{T}
-use lib.ListN.{getD}
-use Rattle.laws.specs.Lists.{range, all}
-use Rattle.laws.proofs.Members.{member-lt}
+use Rattle.laws.proofs.All.{sym, _∙_, Bool, ℕ, _-_, _≤_, _<_, not-suc-le-zero, arith, needs, not-true, not-false}
+use Rattle.laws.proofs.All.{now, T, getD, range, all, member-lt}
 use Rattle.obeying.specs.Obeying.{pairAfter, findsAt}
 use Rattle.obeying.proofs.PairQueue.{
   Reaching,

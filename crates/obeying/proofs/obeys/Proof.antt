@@ -1,6 +1,6 @@
 -- The test of the places reached is `obeys` by the law `obeys-is`.
 use Rattle.obeying.proofs.PairPlaces.{obeys-is}
-use borrow.Author.Needs.{needs}
+use Rattle.laws.proofs.All.{needs}
 use Rattle.obeying.proofs.obeys.Statement.{statement}
 use Rattle.obeying.proofs.obeys.Tie as tie
 

@@ -1,8 +1,5 @@
 -- Each return is one side of the definition's test.
-use mathlib.Core.Path.{sym, ap₂, _∙_}
-use Prim.Native.Nat.{_+_, _*_}
-use borrow.Author.Needs.{needs}
-use denote.Ref.{now}
+use Rattle.laws.proofs.All.{sym, ap₂, _∙_, _+_, _*_, needs, now}
 use Rattle.obeying.specs.Obeying.{stateAfter}
 use Rattle.obeying.proofs.PairTests.{pick-same, pick-other}
 use Rattle.obeying.proofs.pair_after.Statement.{statement}

@@ -1,10 +1,6 @@
 -- A place of the set changes nothing; another has room in the list, since not all places are in the set.
-use native.Mathlib.Omega.{arith}
-use denote.Ref.{now}
-use lib.Dec.{T}
-use mathlib.Core.Path.{sym, subst}
+use Rattle.laws.proofs.All.{arith, now, T, sym, subst, needs}
 use Rattle.obeying.proofs.PairQueue.{queue-room, queue-put, queue-same}
-use borrow.Author.Needs.{needs}
 use Rattle.obeying.proofs.put.Statement.{statement}
 use Rattle.obeying.proofs.put.Tie as tie
 

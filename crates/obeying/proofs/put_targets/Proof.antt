@@ -1,8 +1,5 @@
 -- Each turn puts the place of one datum.
-use mathlib.Core.Path.{_≡_}
-use Prim.Native.Nat.{_-_, _≤_}
-use native.Mathlib.Omega.{arith}
-use borrow.Author.Needs.{needs}
+use Rattle.laws.proofs.All.{_≡_, _-_, _≤_, arith, needs}
 use Rattle.obeying.specs.Obeying.{pairAfter, Grown}
 use Rattle.obeying.proofs.PairQueue.{grown-none, grown-more}
 use Rattle.obeying.proofs.put_targets.Statement.{statement}

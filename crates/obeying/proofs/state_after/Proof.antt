@@ -1,9 +1,5 @@
 -- Both reads are at the places that the definition names.
-use mathlib.Core.Path.{ap, _∙_}
-use Prim.Native.Nat.{_+_, _*_, _%_}
-use denote.Ref.{now}
-use lib.ListN.{getD}
-use borrow.Author.Needs.{needs}
+use Rattle.laws.proofs.All.{ap, _∙_, _+_, _*_, _%_, now, getD, needs}
 use Rattle.obeying.proofs.state_after.Statement.{statement}
 use Rattle.obeying.proofs.state_after.Tie as tie
 

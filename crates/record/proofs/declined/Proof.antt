@@ -1,7 +1,6 @@
 -- `declined` meets its contract: the verdict is the refusal, and the table is the one that holds nothing.
 -- Assumes nothing.
-use mathlib.Core.Path.{refl}
-use Rattle.laws.proofs.Totals.{never}
+use Rattle.laws.proofs.All.{refl, never}
 use Rattle.record.specs.Checks.{noTable}
 use Rattle.record.proofs.declined.Statement.{statement}
 use Rattle.record.proofs.declined.Tie as tie

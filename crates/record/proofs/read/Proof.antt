@@ -1,11 +1,7 @@
 -- `read` meets its contract: each return follows the checks before it, in document 01's order.
 -- Assumes nothing.
-use mathlib.Core.Bool.{true}
-use mathlib.Core.Path.{_≡_, sym, ap, _∙_}
-use borrow.Author.Tests.{not-true, not-false, lt-leb, le-leb, eq-eqb, ne-eqb}
-use borrow.Author.Needs.{needs}
-use denote.Ref.{now}
-use lib.ListN.{length}
+use Rattle.laws.proofs.All.{true, _≡_, sym, ap, _∙_, not-true, not-false, lt-leb, le-leb, eq-eqb, ne-eqb, needs}
+use Rattle.laws.proofs.All.{now, length}
 use Rattle.answer.specs.Outcomes.{done}
 use Rattle.table.specs.Formed.{Ranges}
 use Rattle.record.specs.Parse.{goodHead}

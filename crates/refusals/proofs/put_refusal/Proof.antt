@@ -1,7 +1,6 @@
 -- `put_refusal` meets its contract: the number and the condition are put in a row.
 -- Assumes nothing.
-use mathlib.Core.Path.{ap}
-use borrow.Author.Needs.{needs}
+use Rattle.laws.proofs.All.{ap, needs}
 use Rattle.text.specs.Words.{told}
 use Rattle.text.proofs.Adding.{added-same, added-more}
 use Rattle.refusals.specs.Phrases.{refusalWords}

@@ -1,6 +1,6 @@
 -- `put_refusal_line` meets its contract: a newline is put behind the number and the condition.
 -- Assumes nothing.
-use borrow.Author.Needs.{needs}
+use Rattle.laws.proofs.All.{needs}
 use Rattle.text.proofs.Adding.{added-more}
 use Rattle.refusals.specs.Phrases.{refusalLine}
 use Rattle.refusals.proofs.put_refusal_line.Statement.{statement}

@@ -1,11 +1,7 @@
 -- While the search goes on, the best window with memory below m and the pairs of memory m are known; at its end, the
 -- best is the least.
-use mathlib.Core.Path.{_≡_, sym, subst, _∙_}
-use mathlib.Core.Bool.{true, false}
-use Prim.Native.Nat.{_+_, _-_, _≤_, _<_}
-use native.Mathlib.Omega.{arith}
-use denote.Ref.{now}
-use lib.ListN.{length-replicate}
+use Rattle.laws.proofs.All.{_≡_, sym, subst, _∙_, true, false, _+_, _-_, _≤_, _<_, arith, now, length-replicate}
+use Rattle.laws.proofs.All.{needs}
 use Rattle.windows.specs.Search.{window, pasts}
 use Rattle.table.specs.Edges.{Arrays, arrays, rowsOf}
 use Rattle.table.proofs.RowsOf.{length-rows, closed-rows}
@@ -15,7 +11,6 @@ use Rattle.windows.proofs.SetLaws.{all-of}
 use Rattle.windows.proofs.PastSets.{pasts-none}
 use Rattle.windows.proofs.Leading.{lead-start, lead-small}
 use Rattle.windows.proofs.Turns.{turn}
-use borrow.Author.Needs.{needs}
 use Rattle.search.proofs.least.Statement.{statement}
 use Rattle.search.proofs.least.Tie as tie
 

@@ -1,8 +1,5 @@
 -- The rest of the sum, or 15 where the rest is more.
-use mathlib.Core.Path.{refl}
-use mathlib.Core.Logic.{inl, inr}
-use native.Mathlib.Omega.{arith}
-use borrow.Author.Needs.{needs}
+use Rattle.laws.proofs.All.{refl, inl, inr, arith, needs}
 use Rattle.search.proofs.lookahead_limit.Statement.{statement}
 use Rattle.search.proofs.lookahead_limit.Tie as tie
 

@@ -1,8 +1,5 @@
 -- Memory past the last is not stepped to; where the pairs stay the same the search stops.
-use mathlib.Core.Path.{refl}
-use mathlib.Core.Logic.{inl, inr}
-use native.Mathlib.Omega.{arith}
-use borrow.Author.Needs.{needs}
+use Rattle.laws.proofs.All.{refl, inl, inr, arith, needs}
 use Rattle.search.proofs.stop_at.Statement.{statement}
 use Rattle.search.proofs.stop_at.Tie as tie
 

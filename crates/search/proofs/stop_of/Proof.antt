@@ -1,8 +1,5 @@
 -- A larger memory than the sum, or than 15, cannot be better.
-use mathlib.Core.Path.{refl}
-use mathlib.Core.Logic.{inl, inr}
-use native.Mathlib.Omega.{arith}
-use borrow.Author.Needs.{needs}
+use Rattle.laws.proofs.All.{refl, inl, inr, arith, needs}
 use Rattle.search.proofs.stop_of.Statement.{statement}
 use Rattle.search.proofs.stop_of.Tie as tie
 

@@ -1,9 +1,5 @@
 -- For memory m the least lookahead is found by steps; it is taken if the pairs of a clash are gone in time.
-use mathlib.Core.Path.{ap, subst, _∙_}
-use native.Mathlib.Omega.{arith}
-use Prim.Native.Nat.{_≤_, _<_}
-use denote.Ref.{now}
-use lib.ListN.{length}
+use Rattle.laws.proofs.All.{ap, subst, _∙_, arith, _≤_, _<_, now, length, needs}
 use Rattle.table.specs.Rows.{Size}
 use Rattle.table.specs.Paths.{Closed}
 use Rattle.windows.specs.Search.{hits, pasts}
@@ -12,7 +8,6 @@ use Rattle.table.proofs.RowsOf.{length-rows, closed-rows}
 use Rattle.windows.specs.Steps.{size, Emptied}
 use Rattle.windows.proofs.Lookahead.{fails-sooner, works-there}
 use Rattle.windows.proofs.Leading.{lead-small, lead-take, lead-skip}
-use borrow.Author.Needs.{needs}
 use Rattle.search.proofs.try_memory.Statement.{statement}
 use Rattle.search.proofs.try_memory.Tie as tie
 

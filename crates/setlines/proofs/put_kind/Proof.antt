@@ -2,7 +2,7 @@
 -- Assumes nothing.
 use Rattle.text.proofs.Adding.{added-more}
 use Rattle.setlines.specs.SetText.{kindText}
-use borrow.Author.Needs.{needs}
+use Rattle.laws.proofs.All.{needs}
 use Rattle.setlines.proofs.put_kind.Statement.{statement}
 use Rattle.setlines.proofs.put_kind.Tie as tie
 

@@ -1,13 +1,8 @@
 -- `put_record` meets its contract: the record stands where it is found.
 -- Assumes nothing.
-use mathlib.Core.Path.{_≡_, sym, _∙_}
-use Prim.Native.Nat.{_+_, _≤_}
-use native.Mathlib.Omega.{arith}
-use denote.Ref.{now}
-use lib.ListN.{length}
+use Rattle.laws.proofs.All.{_≡_, sym, _∙_, _+_, _≤_, arith, now, length, needs}
 use Rattle.text.proofs.Adding.{added-same}
 use Rattle.setlines.proofs.SetText.{record-within, text-nowhere, text-at, part-line}
-use borrow.Author.Needs.{needs}
 use Rattle.setlines.proofs.put_record.Statement.{statement}
 use Rattle.setlines.proofs.put_record.Tie as tie
 

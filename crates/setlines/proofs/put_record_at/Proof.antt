@@ -1,12 +1,10 @@
 -- `put_record_at` meets its contract: nothing for a bad record, the line of a good one.
 -- Assumes nothing.
-use denote.Ref.{now}
-use lib.ListN.{length}
+use Rattle.laws.proofs.All.{now, length, needs}
 use Rattle.checker.specs.Parse.{parse}
 use Rattle.text.proofs.Adding.{added-same, added-more}
 use Rattle.setlines.specs.SetText.{kindText}
 use Rattle.setlines.proofs.SetText.{line-bad, line-good}
-use borrow.Author.Needs.{needs}
 use Rattle.setlines.proofs.put_record_at.Statement.{statement}
 use Rattle.setlines.proofs.put_record_at.Tie as tie
 

@@ -1,11 +1,7 @@
 -- `put_records` meets its contract. The loop's invariant: the lines of the records passed stand in front. The measure
 -- is how many records are left.
 -- Assumes nothing.
-use mathlib.Core.Path.{_≡_, subst}
-use Prim.Native.Nat.{_-_, _≤_}
-use native.Mathlib.Omega.{arith}
-use denote.Ref.{now}
-use borrow.Author.Needs.{needs}
+use Rattle.laws.proofs.All.{_≡_, subst, _-_, _≤_, arith, now, needs}
 use Rattle.text.specs.Texts.{Added}
 use Rattle.setlines.specs.SetText.{linesTo}
 use Rattle.setlines.proofs.SetText.{no-lines, lines-more}

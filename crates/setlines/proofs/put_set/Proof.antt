@@ -2,7 +2,7 @@
 -- Assumes nothing.
 use Rattle.text.proofs.Adding.{added-more}
 use Rattle.setlines.specs.SetText.{setText}
-use borrow.Author.Needs.{needs}
+use Rattle.laws.proofs.All.{needs}
 use Rattle.setlines.proofs.put_set.Statement.{statement}
 use Rattle.setlines.proofs.put_set.Tie as tie
 

@@ -1,10 +1,6 @@
 -- `place_at` meets its contract: the two bytes of the length and as many more lie within the set, or they do not.
 -- Assumes nothing.
-use mathlib.Core.Path.{sym}
-use Prim.Native.Nat.{_+_}
-use native.Mathlib.Omega.{arith}
-use borrow.Author.Needs.{needs}
-use denote.Ref.{now}
+use Rattle.laws.proofs.All.{sym, _+_, arith, needs, now}
 use Rattle.sets.proofs.Offsets.{place-whole, place-cut}
 use Rattle.sets.proofs.place_at.Statement.{statement}
 use Rattle.sets.proofs.place_at.Tie as tie

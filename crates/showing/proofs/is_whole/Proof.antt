@@ -1,7 +1,6 @@
 -- `is_whole` meets its contract.
 -- Assumes nothing.
-use borrow.Author.Tests.{le-leb, lt-leb}
-use borrow.Author.Needs.{needs}
+use Rattle.laws.proofs.All.{le-leb, lt-leb, needs}
 use Rattle.showing.proofs.is_whole.Statement.{statement}
 use Rattle.showing.proofs.is_whole.Tie as tie
 

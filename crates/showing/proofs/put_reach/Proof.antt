@@ -2,7 +2,7 @@
 -- Assumes nothing.
 use Rattle.text.proofs.Adding.{added-same}
 use Rattle.showing.proofs.Shown.{reach-memory, reach-lookahead, reach-own}
-use borrow.Author.Needs.{needs}
+use Rattle.laws.proofs.All.{needs}
 use Rattle.showing.proofs.put_reach.Statement.{statement}
 use Rattle.showing.proofs.put_reach.Tie as tie
 

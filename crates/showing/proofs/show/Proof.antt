@@ -1,11 +1,8 @@
 -- `show` meets its contract: its lines are put in a row.
 -- Assumes nothing.
-use mathlib.Core.Path.{sym, subst, _∙_}
-use lib.Dec.{T}
-use borrow.Author.Tests.{not-true, not-false}
+use Rattle.laws.proofs.All.{sym, subst, _∙_, T, not-true, not-false, needs}
 use Rattle.text.proofs.Adding.{added-same, _then_}
 use Rattle.showing.proofs.Shown.{whole→, shown-is, nothing-shown}
-use borrow.Author.Needs.{needs}
 use Rattle.showing.proofs.show.Statement.{statement}
 use Rattle.showing.proofs.show.Tie as tie
 

@@ -1,10 +1,7 @@
 -- `folder` meets its contract. The measure is the number itself, which falls.
 -- Assumes nothing.
-use Prim.Native.Nat.{_≤_}
-use native.Mathlib.Omega.{arith}
-use lib.ListN.{length}
+use Rattle.laws.proofs.All.{_≤_, arith, length, needs}
 use Rattle.io.proofs.Counting.{counts}
-use borrow.Author.Needs.{needs}
 use Rattle.storing.proofs.folder.Statement.{statement}
 use Rattle.storing.proofs.folder.Tie as tie
 

@@ -2,7 +2,7 @@
 -- Assumes nothing.
 use mir.Syntax.{w32, w64}
 use mir.Facts.{sfits-widen, sfits-toZ, fits-ofZ}
-use borrow.Author.Needs.{needs}
+use Rattle.laws.proofs.All.{needs}
 use Rattle.storing.proofs.wide.Statement.{statement}
 use Rattle.storing.proofs.wide.Tie as tie
 

@@ -1,12 +1,8 @@
 -- `write_bytes` meets its contract. The loop's invariant: what was taken is no more than there is. The measure is what
 -- is left.
 -- Assumes nothing.
-use Prim.Native.Nat.{_+_, _-_, _^_, _≤_, _<_}
-use native.Mathlib.Omega.{arith}
-use denote.Ref.{now}
-use lib.ListN.{length}
+use Rattle.laws.proofs.All.{_+_, _-_, _^_, _≤_, _<_, arith, now, length, needs}
 use Rattle.storing.proofs.Parts.{rest-long}
-use borrow.Author.Needs.{needs}
 use Rattle.storing.proofs.write_bytes.Statement.{statement}
 use Rattle.storing.proofs.write_bytes.Tie as tie
 

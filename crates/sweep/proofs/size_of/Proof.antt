@@ -1,8 +1,6 @@
 -- `size_of` meets its contract: no count is above the length.
 -- Assumes nothing.
-use mathlib.Core.Path.{refl}
-use native.Mathlib.Omega.{arith}
-use borrow.Author.Needs.{needs}
+use Rattle.laws.proofs.All.{refl, arith, needs}
 use Rattle.io.proofs.Counting.{counts}
 use Rattle.sweep.proofs.size_of.Statement.{statement}
 use Rattle.sweep.proofs.size_of.Tie as tie

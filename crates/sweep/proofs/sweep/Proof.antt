@@ -1,8 +1,6 @@
 -- `sweep` is safe. The loop's invariant: i is within the numbers. The measure is what is left of them.
 -- Assumes nothing.
-use Prim.Native.Nat.{_-_, _≤_}
-use native.Mathlib.Omega.{arith}
-use borrow.Author.Needs.{needs}
+use Rattle.laws.proofs.All.{_-_, _≤_, arith, needs}
 use Rattle.sweep.proofs.sweep.Statement.{statement}
 use Rattle.sweep.proofs.sweep.Tie as tie
 

@@ -1,8 +1,7 @@
 -- `is_same` meets its contract: the answer of the kit's test is true exactly of the same text.
 -- Assumes nothing.
-use denote.Ref.{now}
+use Rattle.laws.proofs.All.{now, needs}
 use Rattle.text.proofs.Words.{same-is}
-use borrow.Author.Needs.{needs}
 use Rattle.text.proofs.is_same.Statement.{statement}
 use Rattle.text.proofs.is_same.Tie as tie
 

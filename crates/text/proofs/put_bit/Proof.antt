@@ -1,12 +1,8 @@
 -- `put_bit` meets its contract: the bit is 0 or 1.
 -- Assumes nothing.
-use mathlib.Core.Path.{_≡_, subst}
-use Prim.Native.Nat.{_/_, _%_, _^_}
-use native.Mathlib.Omega.{arith}
-use lib.Pow.{pow-pos}
+use Rattle.laws.proofs.All.{_≡_, subst, _/_, _%_, _^_, arith, pow-pos, needs}
 use Rattle.text.proofs.Adding.{added-same}
 use Rattle.text.proofs.Words.{bit-none, bit-one}
-use borrow.Author.Needs.{needs}
 use Rattle.text.proofs.put_bit.Statement.{statement}
 use Rattle.text.proofs.put_bit.Tie as tie
 

@@ -1,9 +1,8 @@
 -- `put_hex` meets its contract: the digits are the fewest that hold the number.
 -- Assumes nothing.
-use mathlib.Core.Path.{_∙_}
+use Rattle.laws.proofs.All.{_∙_, needs}
 use Rattle.text.proofs.Adding.{added-same}
 use Rattle.text.proofs.Numbers.{hex-is}
-use borrow.Author.Needs.{needs}
 use Rattle.text.proofs.put_hex.Statement.{statement}
 use Rattle.text.proofs.put_hex.Tie as tie
 

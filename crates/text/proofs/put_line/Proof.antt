@@ -1,7 +1,7 @@
 -- `put_line` meets its contract: name, number and newline are put in a row.
 -- Assumes nothing.
 use Rattle.text.proofs.Adding.{added-more}
-use borrow.Author.Needs.{needs}
+use Rattle.laws.proofs.All.{needs}
 use Rattle.text.proofs.put_line.Statement.{statement}
 use Rattle.text.proofs.put_line.Tie as tie
 

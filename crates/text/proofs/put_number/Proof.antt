@@ -1,7 +1,7 @@
 -- `put_number` meets its contract: name and number are put in a row.
 -- Assumes nothing.
 use Rattle.text.proofs.Adding.{added-more}
-use borrow.Author.Needs.{needs}
+use Rattle.laws.proofs.All.{needs}
 use Rattle.text.proofs.put_number.Statement.{statement}
 use Rattle.text.proofs.put_number.Tie as tie
 

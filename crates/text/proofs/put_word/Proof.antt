@@ -1,14 +1,11 @@
 -- `put_word` meets its contract. The loop's invariant: the text put since the loop began, with the last k
 -- digits behind it, is the word. The measure is k.
 -- Assumes nothing.
-use mathlib.Core.Path.{_≡_, refl, sym, ap, _∙_}
-use mathlib.Core.List.{List, [], _∷_, _++_, append-nil}
-use Prim.Native.Nat.{ℕ, _-_, _/_, _%_, _^_, _≤_}
-use native.Mathlib.Omega.{arith}
+use Rattle.laws.proofs.All.{_≡_, refl, sym, ap, _∙_, List, [], _∷_, _++_, append-nil, ℕ, _-_, _/_, _%_, _^_, _≤_}
+use Rattle.laws.proofs.All.{arith, needs}
 use Rattle.text.specs.Texts.{Added}
 use Rattle.text.proofs.Adding.{added-same, _then_, begun}
 use Rattle.text.specs.Words.{digit, binary}
-use borrow.Author.Needs.{needs}
 use Rattle.text.proofs.Words.{binary-more}
 use Rattle.text.proofs.put_word.Statement.{statement}
 use Rattle.text.proofs.put_word.Tie as tie

@@ -1,8 +1,7 @@
 -- `main` meets its contract: the file that was read is within the bytes lent for it.
 -- Assumes nothing.
-use native.Mathlib.Omega.{arith}
+use Rattle.laws.proofs.All.{arith, needs}
 use Rattle.files.proofs.Fitting.{whole-fits}
-use borrow.Author.Needs.{needs}
 use Rattle.vectors.proofs.main.Statement.{statement}
 use Rattle.vectors.proofs.main.Tie as tie
 

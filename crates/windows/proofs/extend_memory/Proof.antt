@@ -1,11 +1,8 @@
 -- One step forward, with the start's pair; where nothing changes, nothing is copied.
-use mathlib.Core.Path.{refl, sym, subst, _∙_}
-use denote.Ref.{now}
-use lib.Dec.{T}
+use Rattle.laws.proofs.All.{refl, sym, subst, _∙_, now, T, needs}
 use Rattle.table.specs.Edges.{Arrays, arrays, rowsOf}
 use Rattle.table.proofs.RowsOf.{length-rows}
 use Rattle.windows.proofs.SetLaws.{start-put, same-pairs}
-use borrow.Author.Needs.{needs}
 use Rattle.windows.proofs.extend_memory.Statement.{statement}
 use Rattle.windows.proofs.extend_memory.Tie as tie
 

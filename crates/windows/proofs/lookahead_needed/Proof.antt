@@ -1,8 +1,5 @@
 -- After k turns the set is the one after k steps, and none of the sets before it was empty.
-use Prim.Native.Nat.{_-_}
-use mathlib.Core.Path.{refl, sym, _∙_}
-use native.Mathlib.Omega.{arith}
-use denote.Ref.{now}
+use Rattle.laws.proofs.All.{_-_, refl, sym, _∙_, arith, now, needs}
 use Rattle.table.specs.Edges.{Arrays, arrays, rowsOf}
 use Rattle.table.proofs.RowsOf.{length-rows}
 use Rattle.windows.specs.PairSets.{pairsIn, Long}
@@ -15,7 +12,6 @@ use Rattle.windows.proofs.Steps.{
   stepped-end,
   stepped-rest,
 }
-use borrow.Author.Needs.{needs}
 use Rattle.windows.proofs.lookahead_needed.Statement.{statement}
 use Rattle.windows.proofs.lookahead_needed.Tie as tie
 

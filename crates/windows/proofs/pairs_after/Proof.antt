@@ -1,8 +1,5 @@
 -- After i turns the pairs are those of memory i; once they stay the same they are those of every larger memory.
-use Prim.Native.Nat.{_+_, _-_, _≤_}
-use mathlib.Core.Path.{_≡_, sym, ap, _∙_}
-use native.Mathlib.Omega.{arith}
-use denote.Ref.{now}
+use Rattle.laws.proofs.All.{_+_, _-_, _≤_, _≡_, sym, ap, _∙_, arith, now, needs}
 use Rattle.table.specs.Paths.{Closed}
 use Rattle.windows.specs.Search.{pasts}
 use Rattle.table.specs.Edges.{Arrays, arrays, rowsOf}
@@ -10,7 +7,6 @@ use Rattle.table.proofs.RowsOf.{closed-rows}
 use Rattle.windows.specs.PairSets.{pairsIn, Long}
 use Rattle.windows.specs.Steps.{withWord}
 use Rattle.windows.proofs.PastSets.{pasts-none, pasts-more, pasts-rest}
-use borrow.Author.Needs.{needs}
 use Rattle.windows.proofs.pairs_after.Statement.{statement}
 use Rattle.windows.proofs.pairs_after.Tie as tie
 

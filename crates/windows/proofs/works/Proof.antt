@@ -1,10 +1,9 @@
 -- The chains of the table's edges serve the test.
-use mathlib.Core.Path.{ap, _∙_}
+use Rattle.laws.proofs.All.{ap, _∙_, needs}
 use Rattle.windows.specs.Works.{works}
 use Rattle.table.specs.Edges.{arrays, rowsOf}
 use Rattle.table.proofs.RowsOf.{fits-lent}
 use Rattle.windows.specs.Steps.{size}
-use borrow.Author.Needs.{needs}
 use Rattle.windows.proofs.works.Statement.{statement}
 use Rattle.windows.proofs.works.Tie as tie
 

@@ -1,16 +1,11 @@
 -- The pairs of a clash are gone after as many words as the lookahead exactly when the window works.
-use mathlib.Core.Path.{ap, subst, _∙_}
-use mathlib.Core.Bool.{true, false}
-use native.Mathlib.Omega.{arith}
-use denote.Ref.{now}
-use lib.ListN.{length-replicate}
+use Rattle.laws.proofs.All.{ap, subst, _∙_, true, false, arith, now, length-replicate, needs}
 use Rattle.windows.specs.Search.{hits}
 use Rattle.table.specs.Edges.{Arrays, arrays, rowsOf}
 use Rattle.table.proofs.RowsOf.{length-rows, closed-rows}
 use Rattle.windows.specs.Steps.{Emptied}
 use Rattle.windows.proofs.SetLaws.{all-of}
 use Rattle.windows.proofs.Lookahead.{works-emptied}
-use borrow.Author.Needs.{needs}
 use Rattle.windows.proofs.works_by.Statement.{statement}
 use Rattle.windows.proofs.works_by.Tie as tie
 

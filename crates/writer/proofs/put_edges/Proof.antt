@@ -1,14 +1,8 @@
 -- `put_edges` meets its contract. The loop's invariant: the edges passed stand behind the constraint, and all other
 -- bits are as lent. The measure is what is left.
 -- Assumes nothing.
-use mathlib.Core.Path.{_≡_, refl, ap, _∙_}
-use Prim.Native.Nat.{_+_, _*_, _-_, _/_, _%_, _^_, _≤_, _<_}
-use native.Mathlib.Nat.{mul-le-mul-right, mod-lt, div-lt-iff-lt-mul}
-use native.Mathlib.Omega.{arith}
-use borrow.Author.Needs.{needs}
-use denote.Ref.{now}
-use lib.ListN.{length, getD}
-use lib.Pow.{pow-pos, pow-mono}
+use Rattle.laws.proofs.All.{_≡_, refl, ap, _∙_, _+_, _*_, _-_, _/_, _%_, _^_, _≤_, _<_, mul-le-mul-right, mod-lt}
+use Rattle.laws.proofs.All.{div-lt-iff-lt-mul, arith, needs, now, length, getD, pow-pos, pow-mono}
 use Rattle.bits.specs.Bytes.{spliced}
 use Rattle.bits.specs.Fields.{bitsOf}
 use Rattle.bits.proofs.Puts.{length-bitsOf}

@@ -1,9 +1,6 @@
 -- `put_front` meets its contract: the seven fields stand one behind the other.
 -- Assumes nothing.
-use mathlib.Core.Path.{refl, _∙_}
-use native.Mathlib.Omega.{arith}
-use borrow.Author.Needs.{needs}
-use denote.Ref.{now}
+use Rattle.laws.proofs.All.{refl, _∙_, arith, needs, now}
 use Rattle.bits.specs.Fields.{bitsOf}
 use Rattle.bits.proofs.Puts.{length-bitsOf}
 use Rattle.record.proofs.RecordParts.{front-spliced}

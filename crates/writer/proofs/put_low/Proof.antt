@@ -1,10 +1,6 @@
 -- `put_low` meets its contract: the bits above the width do not matter.
 -- Assumes nothing.
-use mathlib.Core.Path.{_∙_}
-use native.Mathlib.Nat.{mod-lt}
-use borrow.Author.Needs.{needs}
-use denote.Ref.{now}
-use lib.Pow.{pow-pos}
+use Rattle.laws.proofs.All.{_∙_, mod-lt, needs, now, pow-pos}
 use Rattle.bits.specs.Fields.{bitsOf}
 use Rattle.record.proofs.RecordParts.{put-low-is}
 use Rattle.writer.proofs.put_low.Statement.{statement}

@@ -1,8 +1,6 @@
 -- `put_next` meets its contract: the five bits of an absent next state are 0, those of a present one begin with 1.
 -- Assumes nothing.
-use mathlib.Core.Path.{_∙_}
-use borrow.Author.Needs.{needs}
-use denote.Ref.{now}
+use Rattle.laws.proofs.All.{_∙_, needs, now}
 use Rattle.bits.specs.Fields.{bitsOf}
 use Rattle.record.proofs.RecordParts.{put-absent, put-present}
 use Rattle.writer.proofs.put_next.Statement.{statement}

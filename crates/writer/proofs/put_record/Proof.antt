@@ -1,12 +1,7 @@
 -- `put_record` meets its contract: the four parts stand one behind the other and fill the record's bytes.
 -- Assumes nothing.
-use mathlib.Core.Path.{_≡_, refl, sym, ap, ap₂, subst, _∙_}
-use Prim.Native.Nat.{_+_, _*_, _-_, _^_, _≤_}
-use native.Mathlib.Omega.{arith}
-use borrow.Author.Needs.{needs}
-use denote.Ref.{now}
-use lib.ListN.{length}
-use lib.Pow.{pow-pos}
+use Rattle.laws.proofs.All.{_≡_, refl, sym, ap, ap₂, subst, _∙_, _+_, _*_, _-_, _^_, _≤_, arith, needs, now, length}
+use Rattle.laws.proofs.All.{pow-pos}
 use Rattle.bits.specs.Bytes.{spliced}
 use Rattle.bits.specs.Fields.{bitsOf}
 use Rattle.bits.proofs.Runs.{size-holds}

@@ -1,14 +1,7 @@
 -- `put_states` meets its contract. The loop's invariant: the states passed stand behind the numbers in front, and all
 -- other bits are as lent. The measure is what is left.
 -- Assumes nothing.
-use mathlib.Core.Path.{_≡_, refl, ap, _∙_}
-use mathlib.Core.List.{map}
-use Prim.Native.Nat.{_-_, _≤_}
-use native.Mathlib.Omega.{arith}
-use borrow.Author.Needs.{needs}
-use denote.Ref.{now}
-use lib.ListN.{length}
-use Rattle.laws.specs.Lists.{range}
+use Rattle.laws.proofs.All.{_≡_, refl, ap, _∙_, map, _-_, _≤_, arith, needs, now, length, range}
 use Rattle.bits.specs.Bytes.{spliced}
 use Rattle.bits.specs.Fields.{bitsOf}
 use Rattle.bits.proofs.Puts.{length-bitsOf}

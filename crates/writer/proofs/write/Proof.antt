@@ -1,12 +1,6 @@
 -- `write` meets its contract: refusals 7 and 13 before any byte is written, otherwise the whole record.
 -- Assumes nothing.
-use mathlib.Core.Path.{_≡_, sym, ap, subst, _∙_}
-use mathlib.Core.Bool.{true}
-use borrow.Author.Tests.{not-true, not-false}
-use borrow.Author.Needs.{needs}
-use denote.Ref.{now}
-use lib.Dec.{T}
-use lib.ListN.{length}
+use Rattle.laws.proofs.All.{_≡_, sym, ap, subst, _∙_, true, not-true, not-false, needs, now, T, length}
 use Rattle.answer.specs.declared.Answer.the-variants.{Done}
 use Rattle.answer.specs.Outcomes.{answerOf, outputOf}
 use Rattle.table.specs.Value.{tableHead, ready, Ready}

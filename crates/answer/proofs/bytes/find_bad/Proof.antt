@@ -1,13 +1,7 @@
 -- The bytes passed are below n; the first that is not ends the loop.
-use mathlib.Core.Path.{_≡_, sym, ap, _∙_}
-use Prim.Native.Nat.{_+_, _-_, _≤_}
-use native.Mathlib.Nat.{zero-add, add-zero}
-use native.Mathlib.Omega.{arith}
-use denote.Ref.{now}
-use lib.ListN.{length, drop}
+use Rattle.laws.proofs.All.{_≡_, sym, ap, _∙_, _+_, _-_, _≤_, zero-add, add-zero, arith, now, length, drop, needs}
 use Rattle.answer.specs.FirstBad.{firstBad}
 use Rattle.answer.proofs.FirstBad.{bad-here, bad-later, bad-end}
-use borrow.Author.Needs.{needs}
 use Rattle.answer.proofs.bytes.find_bad.Statement.{statement}
 use Rattle.answer.proofs.bytes.find_bad.Tie as tie
 

@@ -1,5 +1,5 @@
 -- Where the greatest byte is below n, no byte is bad.
-use borrow.Author.Needs.{needs}
+use Rattle.laws.proofs.All.{needs}
 use Rattle.answer.proofs.bytes.first_bad.Statement.{statement}
 use Rattle.answer.proofs.bytes.first_bad.Tie as tie
 

@@ -1,13 +1,8 @@
 -- The bytes passed are below every bound above `top`.
-use mathlib.Core.Path.{_≡_, sym, ap, _∙_}
-use Prim.Native.Nat.{ℕ, _+_, _-_, _≤_, _<_}
-use native.Mathlib.Nat.{zero-add, add-zero}
-use native.Mathlib.Omega.{arith}
-use denote.Ref.{now}
-use lib.ListN.{length, drop}
+use Rattle.laws.proofs.All.{_≡_, sym, ap, _∙_, ℕ, _+_, _-_, _≤_, _<_, zero-add, add-zero, arith, now, length, drop}
+use Rattle.laws.proofs.All.{needs}
 use Rattle.answer.specs.FirstBad.{firstBad}
 use Rattle.answer.proofs.FirstBad.{bad-later, bad-end}
-use borrow.Author.Needs.{needs}
 use Rattle.answer.proofs.bytes.greatest.Statement.{statement}
 use Rattle.answer.proofs.bytes.greatest.Tie as tie
 

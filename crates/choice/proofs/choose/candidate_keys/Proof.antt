@@ -1,9 +1,7 @@
 -- The first edge to a lighter state is the first of the edges with that test; the others are the first n − 1 with
 -- another key.
-use native.Mathlib.Omega.{arith}
+use Rattle.laws.proofs.All.{arith, needs, needs}
 use Rattle.choice.proofs.Candidates.{candidates-keys}
-use borrow.Author.Needs.{needs}
-use borrow.Author.Needs.{needs}
 use Rattle.choice.proofs.choose.candidate_keys.Statement.{statement}
 use Rattle.choice.proofs.choose.candidate_keys.Tie as tie
 

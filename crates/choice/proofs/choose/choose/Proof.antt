@@ -1,9 +1,6 @@
 -- The lowest source of an edge that leads from a state of the greatest weight to a lighter one.
-use mathlib.Core.Path.{_≡_, refl, sym, subst}
-use Prim.Native.Nat.{_+_, _-_, _≤_}
-use native.Mathlib.Omega.{arith}
+use Rattle.laws.proofs.All.{_≡_, refl, sym, subst, _+_, _-_, _≤_, arith, needs}
 use Rattle.choice.proofs.Choosing.{Lowest, lowest-none, lowest-more, lightens, sourceAt, choose-is}
-use borrow.Author.Needs.{needs}
 use Rattle.choice.proofs.choose.choose.Statement.{statement}
 use Rattle.choice.proofs.choose.choose.Tie as tie
 

@@ -1,14 +1,8 @@
 -- The greatest of the weights passed so far.
-use mathlib.Core.Path.{_≡_, refl, ap, _∙_}
-use mathlib.Core.Logic.{⊎-elim}
-use mathlib.Core.List.{map}
-use Prim.Native.Nat.{_-_, _≤_}
-use native.Mathlib.Omega.{arith}
-use Rattle.laws.specs.Lists.{range}
+use Rattle.laws.proofs.All.{_≡_, refl, ap, _∙_, ⊎-elim, map, _-_, _≤_, arith, range, needs}
 use Rattle.graph.specs.Splitting.{greatest}
 use Rattle.graph.specs.Value.{weightAt}
 use Rattle.choice.proofs.Choosing.{greatest-more}
-use borrow.Author.Needs.{needs}
 use Rattle.choice.proofs.choose.greatest_weight.Statement.{statement}
 use Rattle.choice.proofs.choose.greatest_weight.Tie as tie
 

@@ -1,6 +1,5 @@
 -- The tests are those of the definition, one after the other.
-use native.Mathlib.Omega.{arith}
-use borrow.Author.Tests.{le-ltb, lt-ltb, eq-eqb, ne-eqb}
+use Rattle.laws.proofs.All.{arith, le-ltb, lt-ltb, eq-eqb, ne-eqb}
 use Rattle.choice.proofs.choose.lower_source.Statement.{statement}
 use Rattle.choice.proofs.choose.lower_source.Tie as tie
 

@@ -1,11 +1,6 @@
 -- The places are tried from the first on, and the first that ends a run ends the search.
-use mathlib.Core.Path.{_≡_, subst}
-use Prim.Native.Nat.{_-_, _≤_}
-use native.Mathlib.Omega.{arith}
-use lib.ListN.{length, take}
-use lib.Seq.{length-take-le}
+use Rattle.laws.proofs.All.{_≡_, subst, _-_, _≤_, arith, length, take, length-take-le, needs}
 use Rattle.choice.proofs.RunSearch.{Without, without-more, first-found, first-nowhere}
-use borrow.Author.Needs.{needs}
 use Rattle.choice.proofs.find_run.first_run.Statement.{statement}
 use Rattle.choice.proofs.find_run.first_run.Tie as tie
 

@@ -1,10 +1,6 @@
 -- The weights are summed from place j back, and the first sum that n divides is that of the shortest run.
-use mathlib.Core.Path.{_≡_}
-use Prim.Native.Nat.{_+_, _-_, _≤_}
-use native.Mathlib.Omega.{arith}
-use lib.ListN.{length, take}
+use Rattle.laws.proofs.All.{_≡_, _+_, _-_, _≤_, arith, length, take, needs}
 use Rattle.choice.proofs.RunSearch.{Summed, summed-none, summed-more, stretch-small, run-found, run-none}
-use borrow.Author.Needs.{needs}
 use Rattle.choice.proofs.find_run.run_to.Statement.{statement}
 use Rattle.choice.proofs.find_run.run_to.Tie as tie
 

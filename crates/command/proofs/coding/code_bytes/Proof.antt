@@ -1,10 +1,8 @@
 -- `code_bytes` is safe: the result lies within the bytes that are lent for it.
 -- Assumes nothing.
-use denote.Ref.{now}
-use lib.ListN.{length}
+use Rattle.laws.proofs.All.{now, length, needs}
 use Rattle.actions.specs.Doing.{coded}
 use Rattle.actions.proofs.Results.{result-within}
-use borrow.Author.Needs.{needs}
 use Rattle.command.proofs.coding.code_bytes.Statement.{statement}
 use Rattle.command.proofs.coding.code_bytes.Tie as tie
 

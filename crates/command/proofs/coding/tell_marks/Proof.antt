@@ -1,10 +1,7 @@
 -- `tell_marks` is safe: the blocks lie within the bytes.
 -- Assumes nothing.
-use mathlib.Core.Path.{sym}
-use denote.Ref.{now}
-use lib.Seq.{length-take-le}
+use Rattle.laws.proofs.All.{sym, now, length-take-le, needs}
 use Rattle.actions.proofs.Results.{front-long}
-use borrow.Author.Needs.{needs}
 use Rattle.command.proofs.coding.tell_marks.Statement.{statement}
 use Rattle.command.proofs.coding.tell_marks.Tie as tie
 

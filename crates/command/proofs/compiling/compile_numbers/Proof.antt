@@ -1,10 +1,8 @@
 -- `compile_numbers` is safe: the result lies within the bytes that are lent for it, and goes where the action writes.
 -- Assumes nothing.
-use denote.Ref.{now}
-use lib.ListN.{length}
+use Rattle.laws.proofs.All.{now, length, needs}
 use Rattle.compiler.specs.Compile.{compileRunLength}
 use Rattle.actions.proofs.Results.{result-within}
-use borrow.Author.Needs.{needs}
 use Rattle.command.proofs.compiling.compile_numbers.Statement.{statement}
 use Rattle.command.proofs.compiling.compile_numbers.Tie as tie
 

@@ -1,11 +1,8 @@
 -- `traced` meets its contract, by the answer of the call.
 -- Assumes nothing.
-use mathlib.Core.Path.{sym, _∙_}
-use denote.Ref.{now}
-use lib.ListN.{length}
+use Rattle.laws.proofs.All.{sym, _∙_, now, length, needs}
 use Rattle.compiler.specs.Compile.{compileRunLength}
 use Rattle.command.proofs.Ending.{end-refused, end-done}
-use borrow.Author.Needs.{needs}
 use Rattle.command.proofs.compiling.traced.Statement.{statement}
 use Rattle.command.proofs.compiling.traced.Tie as tie
 

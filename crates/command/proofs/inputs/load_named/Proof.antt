@@ -1,10 +1,7 @@
 -- `load_named` meets its contract: what was read lies within the bytes.
 -- Assumes nothing.
-use mathlib.Core.Path.{sym}
-use native.Mathlib.Omega.{arith}
-use lib.Seq.{length-take-le}
+use Rattle.laws.proofs.All.{sym, arith, length-take-le, needs}
 use Rattle.files.proofs.Fitting.{whole-fits}
-use borrow.Author.Needs.{needs}
 use Rattle.command.proofs.inputs.load_named.Statement.{statement}
 use Rattle.command.proofs.inputs.load_named.Tie as tie
 

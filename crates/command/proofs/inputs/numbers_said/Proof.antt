@@ -1,7 +1,6 @@
 -- `numbers_said` is safe and ends. The measure is how many numbers are left.
 -- Assumes nothing.
-use Prim.Native.Nat.{_-_, _≤_}
-use borrow.Author.Needs.{needs}
+use Rattle.laws.proofs.All.{_-_, _≤_, needs}
 use Rattle.command.proofs.inputs.numbers_said.Statement.{statement}
 use Rattle.command.proofs.inputs.numbers_said.Tie as tie
 

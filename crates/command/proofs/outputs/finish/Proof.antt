@@ -1,10 +1,7 @@
 -- `finish` meets its contract: the result lies within the bytes.
 -- Assumes nothing.
-use mathlib.Core.Path.{sym}
-use denote.Ref.{now}
-use lib.Seq.{length-take-le}
+use Rattle.laws.proofs.All.{sym, now, length-take-le, needs}
 use Rattle.actions.proofs.Results.{front-long}
-use borrow.Author.Needs.{needs}
 use Rattle.command.proofs.outputs.finish.Statement.{statement}
 use Rattle.command.proofs.outputs.finish.Tie as tie
 

@@ -1,11 +1,9 @@
 -- `compile_into` meets its contract: a refusal ends the call, and a table that was compiled goes on.
 -- Assumes nothing.
-use denote.Ref.{now}
-use lib.ListN.{length}
+use Rattle.laws.proofs.All.{now, length, needs}
 use Rattle.record.specs.Parse.{packInto}
 use Rattle.compiler.specs.Compile.{compile}
 use Rattle.job.specs.JobValues.{jobIn}
-use borrow.Author.Needs.{needs}
 use Rattle.compiler.proofs.Accepted.{compiled-ready}
 use Rattle.compiler.proofs.Onward.{read-bad, read-done, ends-bad, goes-packed}
 use Rattle.compiler.proofs.bytes.compile_into.Statement.{statement}

@@ -1,14 +1,11 @@
 -- `compile_run_length` meets its contract: a refusal of the bytes ends the call, and a job that was read goes on.
 -- Assumes nothing.
-use denote.Ref.{now}
-use lib.ListN.{length}
+use Rattle.laws.proofs.All.{now, length, needs, needs}
 use Rattle.answer.proofs.Outcomes.{said-good, said-bad}
 use Rattle.job.specs.JobValues.{jobIn}
 use Rattle.job.specs.Jobs.{readRunLength}
 use Rattle.compiler.specs.Compile.{compileInto, compileRunLength}
 use Rattle.compiler.proofs.Onward.{ends-bad, goes-on}
-use borrow.Author.Needs.{needs}
-use borrow.Author.Needs.{needs}
 use Rattle.compiler.proofs.bytes.compile_run_length.Statement.{statement}
 use Rattle.compiler.proofs.bytes.compile_run_length.Tie as tie
 

@@ -1,13 +1,10 @@
 -- `compile` meets its contract: each return follows the checks before it, in document 01's order.
 -- Assumes nothing.
-use mathlib.Core.Path.{sym, _∙_}
-use native.Mathlib.Omega.{arith}
+use Rattle.laws.proofs.All.{sym, _∙_, arith, needs, needs}
 use Rattle.compiler.specs.Compile.{ways, componentOf}
 use Rattle.job.specs.JobValues.{jobIn}
 use Rattle.compiler.proofs.Compile.{compile-none}
 use Rattle.compiler.proofs.CompileSteps.{compile-heavy, compile-crowded, crowded-stays}
-use borrow.Author.Needs.{needs}
-use borrow.Author.Needs.{needs}
 use Rattle.compiler.proofs.compiling.compile.Statement.{statement}
 use Rattle.compiler.proofs.compiling.compile.Tie as tie
 

@@ -1,7 +1,7 @@
 -- `component_of` meets its contract: the power table holds the words that the constraint allows, so weights and
 -- component are the job's.
 -- Assumes nothing.
-use native.Mathlib.Omega.{arith}
+use Rattle.laws.proofs.All.{arith}
 use Rattle.job.specs.JobValues.{jobIn}
 use Rattle.compiler.proofs.Compile.{ways-pos}
 use Rattle.compiler.proofs.CompileSteps.{has-states, held-powers, held-component}

@@ -1,12 +1,10 @@
 -- `split_and_window` meets its contract: splitting ends with n ways out of each state or with too many edges, and the
 -- table of the finished graph is the job's.
 -- Assumes nothing.
-use mathlib.Core.Path.{sym, _∙_}
+use Rattle.laws.proofs.All.{sym, _∙_, needs, needs}
 use Rattle.job.specs.JobValues.{jobIn}
 use Rattle.compiler.proofs.CompileSteps.{compile-crowded, begun-splits, begun-crowded, begun-finished}
 use Rattle.compiler.proofs.CompileTable.{table-ready, table-code}
-use borrow.Author.Needs.{needs}
-use borrow.Author.Needs.{needs}
 use Rattle.compiler.proofs.compiling.split_and_window.Statement.{statement}
 use Rattle.compiler.proofs.compiling.split_and_window.Tie as tie
 

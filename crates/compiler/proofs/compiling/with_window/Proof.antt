@@ -1,12 +1,10 @@
 -- `with_window` meets its contract: the search finds the least window, and memory 16 stands for none.
 -- Assumes nothing.
-use mathlib.Core.Path.{sym, ap, subst, _∙_}
+use Rattle.laws.proofs.All.{sym, ap, subst, _∙_, needs, needs}
 use Rattle.answer.specs.Outcomes.{done}
 use Rattle.table.specs.Value.{codeIn}
 use Rattle.compiler.specs.Stages.{Whole}
 use Rattle.compiler.proofs.CompileTable.{windowed-none, windowed-found, whole-with}
-use borrow.Author.Needs.{needs}
-use borrow.Author.Needs.{needs}
 use Rattle.compiler.proofs.compiling.with_window.Statement.{statement}
 use Rattle.compiler.proofs.compiling.with_window.Tie as tie
 

@@ -1,15 +1,7 @@
 -- Where s is not in the component, nothing is added.
-use mathlib.Core.Path.{sym, subst}
-use mathlib.Core.List.{[]}
-use mathlib.Core.Bool.{false}
-use borrow.Author.Tests.{le-ltb, lt-ltb}
-use denote.Ref.{now}
-use lib.ListN.{getD}
-use Rattle.laws.specs.Lists.{if_then_else_}
+use Rattle.laws.proofs.All.{sym, subst, [], false, le-ltb, lt-ltb, now, getD, if_then_else_, needs, needs}
 use Rattle.component.specs.ComponentParts.{rowArcs, Added}
 use Rattle.component.proofs.AppendedRows.{added-none}
-use borrow.Author.Needs.{needs}
-use borrow.Author.Needs.{needs}
 use Rattle.component.proofs.component_graph.add_state.Statement.{statement}
 use Rattle.component.proofs.component_graph.add_state.Tie as tie
 

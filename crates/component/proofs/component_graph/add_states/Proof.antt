@@ -1,11 +1,7 @@
 -- State by state, until there are too many edges.
-use mathlib.Core.Path.{_≡_, subst}
-use Prim.Native.Nat.{_-_, _≤_}
-use native.Mathlib.Omega.{arith}
-use denote.Ref.{now}
+use Rattle.laws.proofs.All.{_≡_, subst, _-_, _≤_, arith, now, needs}
 use Rattle.component.specs.ComponentParts.{rowOfState}
 use Rattle.component.proofs.AppendedRows.{Done, done-none, done-more, done-over, done-end}
-use borrow.Author.Needs.{needs}
 use Rattle.component.proofs.component_graph.add_states.Statement.{statement}
 use Rattle.component.proofs.component_graph.add_states.Tie as tie
 

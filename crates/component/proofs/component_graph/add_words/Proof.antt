@@ -1,13 +1,7 @@
 -- Each word that leads into the component is appended; that there would be too many edges is said before a store.
-use mathlib.Core.Path.{_≡_, refl, subst}
-use mathlib.Core.Logic.{⊎-elim}
-use Prim.Native.Nat.{_-_, _≤_}
-use native.Mathlib.Omega.{arith}
-use denote.Ref.{now}
-use lib.ListN.{length, getD}
+use Rattle.laws.proofs.All.{_≡_, refl, subst, ⊎-elim, _-_, _≤_, arith, now, length, getD, needs}
 use Rattle.component.proofs.AppendedRows.{Rowed, rowed-yes, rowed-no, rowed-over, rowed-end}
 use Rattle.graph.proofs.Values.{appended-none}
-use borrow.Author.Needs.{needs}
 use Rattle.component.proofs.component_graph.add_words.Statement.{statement}
 use Rattle.component.proofs.component_graph.add_words.Tie as tie
 

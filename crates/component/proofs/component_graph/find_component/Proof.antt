@@ -1,15 +1,10 @@
 -- The parts in their order; the law `found-in` puts them together.
-use mathlib.Core.Path.{_≡_}
-use native.Mathlib.Omega.{arith}
-use denote.Ref.{now}
-use lib.ListN.{length, take}
+use Rattle.laws.proofs.All.{_≡_, arith, now, length, take, needs, needs}
 use Rattle.graph.specs.Component.{within, live, reachings}
 use Rattle.weights.specs.PowerTable.{tabled}
 use Rattle.reach.specs.ReachSets.{rowsOf}
 use Rattle.component.proofs.LiveArcs.{linked-is}
 use Rattle.component.proofs.ComponentValue.{state-low, found-in}
-use borrow.Author.Needs.{needs}
-use borrow.Author.Needs.{needs}
 use Rattle.component.proofs.component_graph.find_component.Statement.{statement}
 use Rattle.component.proofs.component_graph.find_component.Tie as tie
 

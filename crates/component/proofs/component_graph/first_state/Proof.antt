@@ -1,9 +1,5 @@
 -- The list is empty, or has a first state.
-use mathlib.Core.Path.{sym}
-use native.Mathlib.Omega.{arith}
-use lib.Seq.{getD-take}
-use borrow.Author.Needs.{needs}
-use borrow.Author.Needs.{needs}
+use Rattle.laws.proofs.All.{sym, arith, getD-take, needs, needs}
 use Rattle.component.proofs.component_graph.first_state.Statement.{statement}
 use Rattle.component.proofs.component_graph.first_state.Tie as tie
 

@@ -1,7 +1,5 @@
 -- The test is that of the definition.
-use borrow.Author.Tests.{le-ltb, lt-ltb}
-use borrow.Author.Needs.{needs}
-use borrow.Author.Needs.{needs}
+use Rattle.laws.proofs.All.{le-ltb, lt-ltb, needs, needs}
 use Rattle.component.proofs.component_graph.place_of.Statement.{statement}
 use Rattle.component.proofs.component_graph.place_of.Tie as tie
 

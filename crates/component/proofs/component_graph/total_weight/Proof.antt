@@ -1,12 +1,6 @@
 -- The weights are summed one by one.
-use mathlib.Core.Path.{_≡_, refl, ap, _∙_}
-use mathlib.Core.List.{map}
-use Prim.Native.Nat.{_-_, _*_, _≤_}
-use native.Mathlib.Omega.{arith}
-use lib.ListN.{length, getD, take}
-use Rattle.laws.specs.Lists.{sum}
-use Rattle.laws.proofs.Totals.{tot-take-more}
-use borrow.Author.Needs.{needs}
+use Rattle.laws.proofs.All.{_≡_, refl, ap, _∙_, map, _-_, _*_, _≤_, arith, length, getD, take, sum, tot-take-more}
+use Rattle.laws.proofs.All.{needs}
 use Rattle.component.proofs.component_graph.total_weight.Statement.{statement}
 use Rattle.component.proofs.component_graph.total_weight.Tie as tie
 

@@ -1,11 +1,6 @@
 -- Place i gets the weight of the component's state i.
-use mathlib.Core.Path.{_≡_, refl, subst}
-use Prim.Native.Nat.{_-_, _≤_}
-use native.Mathlib.Omega.{arith}
-use lib.ListN.{length, getD}
-use Rattle.laws.proofs.Arrays.{Filled, fill-none, fill-more}
+use Rattle.laws.proofs.All.{_≡_, refl, subst, _-_, _≤_, arith, length, getD, Filled, fill-none, fill-more, needs}
 use Rattle.component.proofs.ComponentWeights.{weights-filled}
-use borrow.Author.Needs.{needs}
 use Rattle.component.proofs.component_graph.with_weights.Statement.{statement}
 use Rattle.component.proofs.component_graph.with_weights.Tie as tie
 

@@ -1,7 +1,7 @@
 -- `column_x` meets its contract.
 -- Assumes nothing.
 use Rattle.drawing.proofs.Cells.{column-is}
-use borrow.Author.Needs.{needs}
+use Rattle.laws.proofs.All.{needs}
 use Rattle.drawing.proofs.matrix.column_x.Statement.{statement}
 use Rattle.drawing.proofs.matrix.column_x.Tie as tie
 

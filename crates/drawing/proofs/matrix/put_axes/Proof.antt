@@ -2,7 +2,7 @@
 -- Assumes nothing.
 use Rattle.text.proofs.Adding.{added-same, _then_}
 use Rattle.drawing.proofs.Cells.{axes-are}
-use borrow.Author.Needs.{needs}
+use Rattle.laws.proofs.All.{needs}
 use Rattle.drawing.proofs.matrix.put_axes.Statement.{statement}
 use Rattle.drawing.proofs.matrix.put_axes.Tie as tie
 

@@ -1,11 +1,9 @@
 -- `put_cell` meets its contract: its parts are put in a row.
 -- Assumes nothing.
-use mathlib.Core.Path.{ap₂}
-use Prim.Native.Nat.{_+_, _*_, _/_, _%_}
+use Rattle.laws.proofs.All.{ap₂, _+_, _*_, _/_, _%_, needs}
 use Rattle.text.proofs.Adding.{added-same, _then_}
 use Rattle.text.specs.Texts.{bytes}
 use Rattle.drawing.specs.Matrix.{place, cell}
-use borrow.Author.Needs.{needs}
 use Rattle.drawing.proofs.matrix.put_cell.Statement.{statement}
 use Rattle.drawing.proofs.matrix.put_cell.Tie as tie
 

@@ -1,15 +1,12 @@
 -- `put_cells` meets its contract. The loop's invariant: the text put since the loop began has the lines of the edges
 -- passed. The measure is what is left of the edges.
 -- Assumes nothing.
-use mathlib.Core.Path.{_≡_, ap, _∙_}
-use Prim.Native.Nat.{_*_, _-_, _≤_}
-use native.Mathlib.Omega.{arith}
+use Rattle.laws.proofs.All.{_≡_, ap, _∙_, _*_, _-_, _≤_, arith, needs}
 use Rattle.text.specs.Texts.{Added}
 use Rattle.text.proofs.Adding.{added-same, _then_, begun}
 use Rattle.drawing.specs.Matrix.{cell}
 use Rattle.views.specs.Edges.{linesTo}
 use Rattle.views.proofs.Edges.{edges-few, EdgeAt, edge-good, lines-none, lines-more, lineOf}
-use borrow.Author.Needs.{needs}
 use Rattle.drawing.proofs.matrix.put_cells.Statement.{statement}
 use Rattle.drawing.proofs.matrix.put_cells.Tie as tie
 

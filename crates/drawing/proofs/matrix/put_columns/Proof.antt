@@ -1,13 +1,10 @@
 -- `put_columns` meets its contract. The loop's invariant: the text put since the loop began has the texts passed.
 -- Assumes nothing.
-use mathlib.Core.Path.{_≡_, ap, _∙_}
-use Prim.Native.Nat.{_-_, _≤_}
-use native.Mathlib.Omega.{arith}
+use Rattle.laws.proofs.All.{_≡_, ap, _∙_, _-_, _≤_, arith, needs}
 use Rattle.text.specs.Texts.{Added}
 use Rattle.text.proofs.Adding.{added-same, _then_, begun}
 use Rattle.drawing.specs.Matrix.{columnText, inRow}
 use Rattle.drawing.proofs.Cells.{row-none, row-more}
-use borrow.Author.Needs.{needs}
 use Rattle.drawing.proofs.matrix.put_columns.Statement.{statement}
 use Rattle.drawing.proofs.matrix.put_columns.Tie as tie
 

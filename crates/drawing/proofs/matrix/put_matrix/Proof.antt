@@ -1,12 +1,10 @@
 -- `put_matrix` meets its contract: axes, entries and the end are put in a row.
 -- Assumes nothing.
-use mathlib.Core.Path.{sym, subst}
-use Prim.Native.Nat.{_≤_}
+use Rattle.laws.proofs.All.{sym, subst, _≤_, needs}
 use Rattle.table.proofs.RowsOf.{ways-small}
 use Rattle.text.specs.Texts.{bytes}
 use Rattle.text.proofs.Adding.{added-same, _then_}
 use Rattle.drawing.proofs.Cells.{matrix-is}
-use borrow.Author.Needs.{needs}
 use Rattle.drawing.proofs.matrix.put_matrix.Statement.{statement}
 use Rattle.drawing.proofs.matrix.put_matrix.Tie as tie
 

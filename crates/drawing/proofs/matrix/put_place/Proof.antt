@@ -3,7 +3,7 @@
 use Rattle.text.proofs.Adding.{_then_}
 use Rattle.text.specs.Texts.{bytes}
 use Rattle.drawing.specs.Matrix.{place}
-use borrow.Author.Needs.{needs}
+use Rattle.laws.proofs.All.{needs}
 use Rattle.drawing.proofs.matrix.put_place.Statement.{statement}
 use Rattle.drawing.proofs.matrix.put_place.Tie as tie
 

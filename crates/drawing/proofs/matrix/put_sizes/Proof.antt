@@ -3,7 +3,7 @@
 use Rattle.text.proofs.Adding.{_then_}
 use Rattle.text.specs.Texts.{bytes}
 use Rattle.drawing.specs.Matrix.{sizes}
-use borrow.Author.Needs.{needs}
+use Rattle.laws.proofs.All.{needs}
 use Rattle.drawing.proofs.matrix.put_sizes.Statement.{statement}
 use Rattle.drawing.proofs.matrix.put_sizes.Tie as tie
 

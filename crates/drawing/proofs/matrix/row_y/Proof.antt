@@ -1,8 +1,7 @@
 -- `row_y` meets its contract.
 -- Assumes nothing.
-use native.Mathlib.Omega.{arith}
+use Rattle.laws.proofs.All.{arith, needs}
 use Rattle.drawing.proofs.Cells.{row-small, row-is}
-use borrow.Author.Needs.{needs}
 use Rattle.drawing.proofs.matrix.row_y.Statement.{statement}
 use Rattle.drawing.proofs.matrix.row_y.Tie as tie
 

@@ -1,7 +1,6 @@
 -- `words_of` meets its contract.
 -- Assumes nothing.
-use native.Mathlib.Omega.{arith}
-use borrow.Author.Needs.{needs}
+use Rattle.laws.proofs.All.{arith, needs}
 use Rattle.drawing.proofs.Cells.{words-few}
 use Rattle.drawing.proofs.matrix.words_of.Statement.{statement}
 use Rattle.drawing.proofs.matrix.words_of.Tie as tie

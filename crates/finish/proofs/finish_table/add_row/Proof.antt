@@ -1,7 +1,5 @@
 -- The row is that of the state's first edges.
-use mathlib.Core.Path.{_≡_, sym, subst}
-use Prim.Native.Nat.{_%_, _<_}
-use lib.ListN.{getD}
+use Rattle.laws.proofs.All.{_≡_, sym, subst, _%_, _<_, getD}
 use Rattle.finish.proofs.Tables.{list-long, list-at, key-lt, key-inside}
 use Rattle.finish.proofs.RowPuts.{put-keys}
 use Rattle.finish.proofs.finish_table.add_row.Statement.{statement}

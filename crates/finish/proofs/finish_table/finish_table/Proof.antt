@@ -1,17 +1,12 @@
 -- Row after row, in rising order of the states that are reached.
-use mathlib.Core.Path.{_≡_, refl, subst}
-use mathlib.Core.Logic.{⊎-elim}
-use Prim.Native.Nat.{ℕ, _-_, _≤_, _<_}
-use native.Mathlib.Omega.{arith}
-use lib.ListN.{getD, length-replicate}
-use Rattle.laws.specs.Sets.{member}
+use Rattle.laws.proofs.All.{_≡_, refl, subst, ⊎-elim, ℕ, _-_, _≤_, _<_, arith, getD, length-replicate, member}
+use Rattle.laws.proofs.All.{needs}
 use Rattle.graph.specs.Component.{reachings, reaches}
 use Rattle.finish.specs.TableOf.{firstEdges}
 use Rattle.graph.specs.Value.{workIn}
 use Rattle.finish.specs.Finishing.{Finished, rank}
 use Rattle.finish.proofs.Ranks.{rank-small}
 use Rattle.finish.proofs.Tables.{Laid, laid-none, laid-yes, laid-no, laid-end}
-use borrow.Author.Needs.{needs}
 use Rattle.finish.proofs.finish_table.finish_table.Statement.{statement}
 use Rattle.finish.proofs.finish_table.finish_table.Tie as tie
 

@@ -1,16 +1,8 @@
 -- Each edge marks the state to which it leads.
-use mathlib.Core.Path.{_≡_, refl, sym, ap, _∙_}
-use mathlib.Core.Bool.{_||_, or-false}
-use Prim.Native.Nat.{ℕ, _-_, _%_, _≤_, _<_}
-use native.Mathlib.Nat.{mod-lt}
-use native.Mathlib.Omega.{arith}
-use lib.Dec.{lit<}
-use lib.ListN.{length, getD, take, set, length-set}
-use Rattle.laws.specs.Lists.{any}
-use Rattle.laws.specs.Sets.{member}
+use Rattle.laws.proofs.All.{_≡_, refl, sym, ap, _∙_, _||_, or-false, ℕ, _-_, _%_, _≤_, _<_, mod-lt, arith, lit<}
+use Rattle.laws.proofs.All.{length, getD, take, set, length-set, any, member, needs}
 use Rattle.finish.specs.Finishing.{enteredBy}
 use Rattle.finish.proofs.Marks.{mark-more}
-use borrow.Author.Needs.{needs}
 use Rattle.finish.proofs.finish_table.mark_targets.Statement.{statement}
 use Rattle.finish.proofs.finish_table.mark_targets.Tie as tie
 

@@ -1,11 +1,5 @@
 -- The states are tried from the lowest on.
-use mathlib.Core.Path.{_≡_, sym, _∙_}
-use mathlib.Core.Bool.{false, not, _&&_}
-use Prim.Native.Nat.{ℕ, _-_, _≤_, _<_}
-use native.Mathlib.Omega.{arith}
-use borrow.Author.Count.{below-more}
-use Rattle.laws.specs.Sets.{member}
-use borrow.Author.Needs.{needs}
+use Rattle.laws.proofs.All.{_≡_, sym, _∙_, false, not, _&&_, ℕ, _-_, _≤_, _<_, arith, below-more, member, needs}
 use Rattle.finish.proofs.finish_table.next_open.Statement.{statement}
 use Rattle.finish.proofs.finish_table.next_open.Tie as tie
 

@@ -1,13 +1,8 @@
 -- The edges are laid one by one.
-use mathlib.Core.Path.{_≡_, subst}
-use Prim.Native.Nat.{_-_, _/_, _≤_, _<_}
-use native.Mathlib.Nat.{div-lt-iff-lt-mul, mod-lt}
-use native.Mathlib.Omega.{arith}
-use lib.Dec.{lit<}
-use lib.ListN.{length, getD}
+use Rattle.laws.proofs.All.{_≡_, subst, _-_, _/_, _≤_, _<_, div-lt-iff-lt-mul, mod-lt, arith, lit<, length, getD}
+use Rattle.laws.proofs.All.{needs}
 use Rattle.finish.specs.Finishing.{RowPut}
 use Rattle.finish.proofs.RowPuts.{put-start, put-more}
-use borrow.Author.Needs.{needs}
 use Rattle.finish.proofs.finish_table.put_row.Statement.{statement}
 use Rattle.finish.proofs.finish_table.put_row.Tie as tie
 

@@ -1,12 +1,7 @@
 -- The count so far is the rank.
-use mathlib.Core.Path.{_≡_, sym}
-use mathlib.Core.Logic.{⊎-elim}
-use Prim.Native.Nat.{_-_, _≤_}
-use native.Mathlib.Omega.{arith}
+use Rattle.laws.proofs.All.{_≡_, sym, ⊎-elim, _-_, _≤_, arith, Filled, fill-none, fill-more, needs}
 use Rattle.finish.specs.Finishing.{rank}
-use Rattle.laws.proofs.Arrays.{Filled, fill-none, fill-more}
 use Rattle.finish.proofs.Ranks.{rank-none, rank-yes, rank-no}
-use borrow.Author.Needs.{needs}
 use Rattle.finish.proofs.finish_table.ranks.Statement.{statement}
 use Rattle.finish.proofs.finish_table.ranks.Tie as tie
 

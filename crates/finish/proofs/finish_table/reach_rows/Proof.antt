@@ -1,17 +1,10 @@
 -- The edges of each state reached are followed once; in the end no edge leads out of the set.
-use mathlib.Core.Path.{_≡_, refl, ap, _∙_}
-use mathlib.Core.Bool.{true, false, _||_}
-use native.Mathlib.Omega.{arith}
-use lib.Dec.{eqb}
-use lib.ListN.{length, replicate, length-replicate, length-set}
-use Rattle.laws.specs.Sets.{member}
-use Rattle.laws.proofs.Grids.{missing}
-use Rattle.laws.proofs.Members.{put-member, member-blank}
+use Rattle.laws.proofs.All.{_≡_, refl, ap, _∙_, true, false, _||_, arith, eqb, length, replicate, length-replicate}
+use Rattle.laws.proofs.All.{length-set, member, missing, put-member, member-blank, needs}
 use Rattle.order.specs.EdgeKeys.{keysIn}
 use Rattle.finish.specs.Finishing.{Finished, Open}
 use Rattle.finish.proofs.Closure.{Forward, forward-start, forward-step, forward-end}
 use Rattle.finish.proofs.Marks.{missing-put, open-set, open-done}
-use borrow.Author.Needs.{needs}
 use Rattle.finish.proofs.finish_table.reach_rows.Statement.{statement}
 use Rattle.finish.proofs.finish_table.reach_rows.Tie as tie
 

@@ -1,8 +1,6 @@
 -- `declined` meets its contract: the verdict is the refusal.
 -- Assumes nothing.
-use mathlib.Core.Path.{_≡_, refl}
-use Prim.Native.Nat.{ℕ}
-use native.Mathlib.Omega.{arith}
+use Rattle.laws.proofs.All.{_≡_, refl, ℕ, arith}
 use Rattle.job.proofs.reading.declined.Statement.{statement}
 use Rattle.job.proofs.reading.declined.Tie as tie
 

@@ -1,8 +1,6 @@
 -- `good_next` meets its contract: the first next state decides where it is bad, otherwise the second does.
 -- Assumes nothing.
-use borrow.Author.Tests.{not-true, not-false}
-use borrow.Author.Needs.{needs}
-use borrow.Author.Needs.{needs}
+use Rattle.laws.proofs.All.{not-true, not-false, needs, needs}
 use Rattle.job.proofs.reading.good_next.Statement.{statement}
 use Rattle.job.proofs.reading.good_next.Tie as tie
 

@@ -1,6 +1,6 @@
 -- `good_state` meets its contract: 255 stands for none, and any other number is compared.
 -- Assumes nothing.
-use borrow.Author.Tests.{eq-eqb, ne-eqb}
+use Rattle.laws.proofs.All.{eq-eqb, ne-eqb}
 use Rattle.job.proofs.reading.good_state.Statement.{statement}
 use Rattle.job.proofs.reading.good_state.Tie as tie
 

@@ -1,17 +1,10 @@
 -- `good_states` meets its contract. The loop's invariant: the next states of every state passed are states or none.
 -- The measure is what is left.
 -- Assumes nothing.
-use mathlib.Core.Path.{_≡_, sym, subst, _∙_}
-use mathlib.Core.Bool.{true}
-use Prim.Native.Nat.{ℕ, _-_, _≤_, _<_}
-use native.Mathlib.Omega.{arith}
-use borrow.Author.Count.{below-more}
-use borrow.Author.Tests.{not-true, not-false}
-use denote.Ref.{now}
-use lib.Dec.{T}
+use Rattle.laws.proofs.All.{_≡_, sym, subst, _∙_, true, ℕ, _-_, _≤_, _<_, arith, below-more, not-true, not-false}
+use Rattle.laws.proofs.All.{now, T, needs}
 use Rattle.table.proofs.LoopTests.{all-passed, all-failed}
 use Rattle.job.specs.JobValues.{goodStateAt}
-use borrow.Author.Needs.{needs}
 use Rattle.job.proofs.reading.good_states.Statement.{statement}
 use Rattle.job.proofs.reading.good_states.Tie as tie
 

@@ -1,19 +1,10 @@
 -- `read_job` meets its contract: each return follows the checks before it, in document 01's order.
 -- Assumes nothing.
-use mathlib.Core.Path.{_≡_, sym, _∙_}
-use mathlib.Core.Bool.{_&&_, true}
-use mathlib.Core.List.{List}
-use Prim.Native.Nat.{ℕ, _+_, _*_, _≤_}
-use native.Mathlib.Omega.{arith}
-use borrow.Author.Tests.{not-true, not-false, le-leb, lt-leb, eq-eqb, ne-eqb}
-use denote.Ref.{now}
-use lib.Dec.{leb, eqb}
-use lib.ListN.{length, getD}
+use Rattle.laws.proofs.All.{_≡_, sym, _∙_, _&&_, true, List, ℕ, _+_, _*_, _≤_, arith, not-true, not-false, le-leb}
+use Rattle.laws.proofs.All.{lt-leb, eq-eqb, ne-eqb, now, leb, eqb, length, getD, needs, needs}
 use Rattle.job.specs.Jobs.{goodParameters}
 use Rattle.job.proofs.JobSteps.{in-range, jobOf, job-short, job-parameters, job-count, job-length}
 use Rattle.job.proofs.JobSteps.{job-states, job-good, job-ready}
-use borrow.Author.Needs.{needs}
-use borrow.Author.Needs.{needs}
 use Rattle.job.proofs.reading.read_job.Statement.{statement}
 use Rattle.job.proofs.reading.read_job.Tie as tie
 

@@ -1,19 +1,10 @@
 -- `read_run_length` meets its contract: each return follows the checks before it, in document 01's order.
 -- Assumes nothing.
-use mathlib.Core.Path.{_≡_, sym, _∙_}
-use mathlib.Core.Bool.{_&&_, true}
-use mathlib.Core.List.{List}
-use Prim.Native.Nat.{ℕ}
-use native.Mathlib.Omega.{arith}
-use borrow.Author.Tests.{not-true, not-false, eq-eqb, ne-eqb}
-use denote.Ref.{now}
-use lib.Dec.{leb, eqb}
-use lib.ListN.{length, getD}
+use Rattle.laws.proofs.All.{_≡_, sym, _∙_, _&&_, true, List, ℕ, arith, not-true, not-false, eq-eqb, ne-eqb, now}
+use Rattle.laws.proofs.All.{leb, eqb, length, getD, needs, needs}
 use Rattle.job.specs.Jobs.{goodParameters}
 use Rattle.job.proofs.JobSteps.{in-range, jobOf, run-length-size, run-length-parameters, run-length-range}
 use Rattle.job.proofs.JobSteps.{run-length-good, run-length-ready}
-use borrow.Author.Needs.{needs}
-use borrow.Author.Needs.{needs}
 use Rattle.job.proofs.reading.read_run_length.Statement.{statement}
 use Rattle.job.proofs.reading.read_run_length.Tie as tie
 

@@ -1,17 +1,11 @@
 -- `states_of` meets its contract. The loop's invariant: the arrays hold the next states of every state passed. The
 -- measure is what is left.
 -- Assumes nothing.
-use mathlib.Core.Path.{refl, ap₂}
-use Prim.Native.Nat.{_+_, _*_, _-_, _≤_}
-use native.Mathlib.Omega.{arith}
-use denote.Ref.{now}
-use lib.ListN.{getD}
+use Rattle.laws.proofs.All.{refl, ap₂, _+_, _*_, _-_, _≤_, arith, now, getD, map-range-same, needs}
 use Rattle.constraint.specs.Walking.{none, NextStates}
 use Rattle.constraint.specs.PowerTable.{Filled}
-use Rattle.laws.proofs.Ranges.{map-range-same}
 use Rattle.constraint.proofs.Values.{fill-none, fill-more, filled-read}
 use Rattle.job.specs.JobValues.{stateAt}
-use borrow.Author.Needs.{needs}
 use Rattle.job.proofs.reading.states_of.Statement.{statement}
 use Rattle.job.proofs.reading.states_of.Tie as tie
 

@@ -1,15 +1,9 @@
 -- The states are tried from the lowest on.
-use mathlib.Core.Path.{_≡_, sym, _∙_}
-use mathlib.Core.Bool.{false, _&&_}
-use Prim.Native.Nat.{ℕ, _-_, _≤_, _<_}
-use native.Mathlib.Omega.{arith}
-use borrow.Author.Count.{below-more}
-use denote.Ref.{now}
-use lib.ListN.{length, take}
+use Rattle.laws.proofs.All.{_≡_, sym, _∙_, false, _&&_, ℕ, _-_, _≤_, _<_, arith, below-more, now, length, take}
+use Rattle.laws.proofs.All.{needs}
 use Rattle.graph.specs.Component.{returning, weighs, live}
 use Rattle.reach.specs.ReachSets.{rowsOf}
 use Rattle.reach.proofs.ComponentMembers.{lowest-at, lowest-none}
-use borrow.Author.Needs.{needs}
 use Rattle.reach.proofs.reaching.first_returning.Statement.{statement}
 use Rattle.reach.proofs.reaching.first_returning.Tie as tie
 

@@ -1,15 +1,9 @@
 -- The two tests one after the other.
-use mathlib.Core.Path.{_≡_, sym, ap, _∙_}
-use mathlib.Core.Bool.{true, false, _&&_}
-use native.Mathlib.Omega.{arith}
-use borrow.Author.Tests.{le-ltb, lt-ltb}
-use denote.Ref.{now}
-use lib.ListN.{length, getD, take}
+use Rattle.laws.proofs.All.{_≡_, sym, ap, _∙_, true, false, _&&_, arith, le-ltb, lt-ltb, now, length, getD, take}
+use Rattle.laws.proofs.All.{needs, needs}
 use Rattle.graph.specs.Component.{returning, weighs, live}
 use Rattle.reach.specs.ReachSets.{rowsOf}
 use Rattle.reach.proofs.ComponentMembers.{weighs-at}
-use borrow.Author.Needs.{needs}
-use borrow.Author.Needs.{needs}
 use Rattle.reach.proofs.reaching.is_returning.Statement.{statement}
 use Rattle.reach.proofs.reaching.is_returning.Tie as tie
 

@@ -1,16 +1,7 @@
 -- The states are tried one by one.
-use mathlib.Core.Path.{_≡_, refl, sym, ap, ap₂, _∙_}
-use mathlib.Core.Logic.{⊎-elim}
-use mathlib.Core.Bool.{true, false, _&&_}
-use Prim.Native.Nat.{_+_, _-_, _*_, _≤_}
-use native.Mathlib.Omega.{arith}
-use denote.Ref.{now}
-use lib.ListN.{getD}
-use Rattle.laws.specs.Lists.{range, any}
-use Rattle.laws.proofs.Tests.{T→true, →any-below}
+use Rattle.laws.proofs.All.{_≡_, refl, sym, ap, ap₂, _∙_, ⊎-elim, true, false, _&&_, _+_, _-_, _*_, _≤_, arith, now}
+use Rattle.laws.proofs.All.{getD, range, any, T→true, →any-below, any-range-no, needs}
 use Rattle.reach.specs.ReachSets.{passesOn}
-use Rattle.laws.proofs.Ranges.{any-range-no}
-use borrow.Author.Needs.{needs}
 use Rattle.reach.proofs.reaching.leads_any.Statement.{statement}
 use Rattle.reach.proofs.reaching.leads_any.Tie as tie
 

@@ -1,16 +1,9 @@
 -- The states that pass are appended, and each gets its place as its number.
-use mathlib.Core.Path.{_≡_, sym, subst, _∙_}
-use mathlib.Core.Logic.{⊎-elim}
-use mathlib.Core.Bool.{Bool, _&&_}
-use Prim.Native.Nat.{ℕ, _-_, _≤_}
-use native.Mathlib.Omega.{arith}
-use denote.Ref.{now}
-use lib.Dec.{ltb}
-use lib.ListN.{length, getD}
+use Rattle.laws.proofs.All.{_≡_, sym, subst, _∙_, ⊎-elim, Bool, _&&_, ℕ, _-_, _≤_, arith, now, ltb, length, getD}
+use Rattle.laws.proofs.All.{needs}
 use Rattle.reach.specs.ReachSets.{reachAt}
 use Rattle.reach.proofs.ComponentMembers.{component-is}
 use Rattle.reach.proofs.Numbering.{Numbered, numbered-none, numbered-yes, numbered-no, numbered-end}
-use borrow.Author.Needs.{needs}
 use Rattle.reach.proofs.reaching.list_members.Statement.{statement}
 use Rattle.reach.proofs.reaching.list_members.Tie as tie
 

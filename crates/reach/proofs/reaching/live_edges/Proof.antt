@@ -1,13 +1,7 @@
 -- Place x is for the state x / 16 and the state x % 16.
-use mathlib.Core.Bool.{false}
-use Prim.Native.Nat.{_-_, _≤_}
-use native.Mathlib.Nat.{div-lt-iff-lt-mul, mod-lt}
-use native.Mathlib.Omega.{arith}
-use denote.Ref.{now}
-use lib.Dec.{lit<}
+use Rattle.laws.proofs.All.{false, _-_, _≤_, div-lt-iff-lt-mul, mod-lt, arith, now, lit<, Filled, fill-none}
+use Rattle.laws.proofs.All.{fill-more, needs}
 use Rattle.reach.specs.ReachSets.{liveEdge}
-use Rattle.laws.proofs.Arrays.{Filled, fill-none, fill-more}
-use borrow.Author.Needs.{needs}
 use Rattle.reach.proofs.reaching.live_edges.Statement.{statement}
 use Rattle.reach.proofs.reaching.live_edges.Tie as tie
 

@@ -1,11 +1,6 @@
 -- Rounds until nothing changes; further rounds change nothing, and as many as states are always enough.
-use mathlib.Core.Path.{_≡_}
-use Prim.Native.Nat.{_-_, _≤_}
-use native.Mathlib.Omega.{arith}
-use denote.Ref.{now}
-use lib.ListN.{length}
+use Rattle.laws.proofs.All.{_≡_, _-_, _≤_, arith, now, length, needs}
 use Rattle.reach.proofs.ReachRounds.{Rounds, rounds-start, rounds-more, rounds-still, rounds-end}
-use borrow.Author.Needs.{needs}
 use Rattle.reach.proofs.reaching.reach_all.Statement.{statement}
 use Rattle.reach.proofs.reaching.reach_all.Tie as tie
 

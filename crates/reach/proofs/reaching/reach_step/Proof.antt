@@ -1,13 +1,7 @@
 -- The new places go into a fresh array.
-use mathlib.Core.Bool.{false, _||_}
-use Prim.Native.Nat.{_-_, _/_, _%_, _≤_}
-use native.Mathlib.Omega.{arith}
-use denote.Ref.{now}
-use lib.ListN.{getD}
-use Rattle.laws.specs.Lists.{range, any}
+use Rattle.laws.proofs.All.{false, _||_, _-_, _/_, _%_, _≤_, arith, now, getD, range, any, Filled, fill-none}
+use Rattle.laws.proofs.All.{fill-more, needs}
 use Rattle.reach.specs.ReachSets.{passesOn}
-use Rattle.laws.proofs.Arrays.{Filled, fill-none, fill-more}
-use borrow.Author.Needs.{needs}
 use Rattle.reach.proofs.reaching.reach_step.Statement.{statement}
 use Rattle.reach.proofs.reaching.reach_step.Tie as tie
 

@@ -1,15 +1,7 @@
 -- The two tests one after the other.
-use mathlib.Core.Path.{sym, ap, _∙_}
-use mathlib.Core.Bool.{_||_}
-use Prim.Native.Nat.{_/_, _%_, _<_}
-use native.Mathlib.Nat.{div-lt-iff-lt-mul, mod-lt}
-use native.Mathlib.Omega.{arith}
-use denote.Ref.{now}
-use lib.Dec.{lit<}
-use Rattle.laws.specs.Lists.{range, any}
+use Rattle.laws.proofs.All.{sym, ap, _∙_, _||_, _/_, _%_, _<_, div-lt-iff-lt-mul, mod-lt, arith, now, lit<, range}
+use Rattle.laws.proofs.All.{any, needs, needs}
 use Rattle.reach.specs.ReachSets.{passesOn}
-use borrow.Author.Needs.{needs}
-use borrow.Author.Needs.{needs}
 use Rattle.reach.proofs.reaching.reaches_on.Statement.{statement}
 use Rattle.reach.proofs.reaching.reaches_on.Tie as tie
 

@@ -1,13 +1,6 @@
 -- The states are tried one by one.
-use mathlib.Core.Path.{_≡_, sym, _∙_}
-use mathlib.Core.Bool.{false}
-use Prim.Native.Nat.{ℕ, _-_, _≤_, _<_}
-use native.Mathlib.Omega.{arith}
-use borrow.Author.Count.{below-more}
-use denote.Ref.{now}
-use lib.ListN.{length}
+use Rattle.laws.proofs.All.{_≡_, sym, _∙_, false, ℕ, _-_, _≤_, _<_, arith, below-more, now, length, needs}
 use Rattle.reach.proofs.ReturnTests.{failsAt, fails-yes, fails-no}
-use borrow.Author.Needs.{needs}
 use Rattle.reach.proofs.reaching.returns_all.Statement.{statement}
 use Rattle.reach.proofs.reaching.returns_all.Tie as tie
 

@@ -1,11 +1,5 @@
 -- The places are compared one by one.
-use mathlib.Core.Path.{_≡_}
-use mathlib.Core.Bool.{false}
-use Prim.Native.Nat.{ℕ, _-_, _≤_, _<_}
-use native.Mathlib.Omega.{arith}
-use borrow.Author.Count.{below-more}
-use lib.ListN.{getD}
-use borrow.Author.Needs.{needs}
+use Rattle.laws.proofs.All.{_≡_, false, ℕ, _-_, _≤_, _<_, arith, below-more, getD, needs}
 use Rattle.reach.proofs.ReachRounds.{same-bool}
 use Rattle.reach.proofs.reaching.same_places.Statement.{statement}
 use Rattle.reach.proofs.reaching.same_places.Tie as tie

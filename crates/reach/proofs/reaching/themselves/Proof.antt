@@ -1,11 +1,5 @@
 -- Place x is for the state x / 16 and the state x % 16.
-use mathlib.Core.Path.{refl}
-use mathlib.Core.Bool.{false}
-use Prim.Native.Nat.{_-_, _/_, _%_, _≤_}
-use native.Mathlib.Omega.{arith}
-use lib.Dec.{eqb}
-use Rattle.laws.proofs.Arrays.{Filled, fill-none, fill-more}
-use borrow.Author.Needs.{needs}
+use Rattle.laws.proofs.All.{refl, false, _-_, _/_, _%_, _≤_, arith, eqb, Filled, fill-none, fill-more, needs}
 use Rattle.reach.proofs.reaching.themselves.Statement.{statement}
 use Rattle.reach.proofs.reaching.themselves.Tie as tie
 

@@ -1,17 +1,11 @@
 -- The loop goes along the run of the word from its last edge to its first, so the datum in hand is that of the first
 -- edge passed that leads from the one set into the other.
-use mathlib.Core.Path.{sym, _∙_}
-use mathlib.Core.Logic.{⊎-elim}
-use Prim.Native.Nat.{ℕ, _+_, _-_, _*_, _<_}
-use native.Mathlib.Omega.{arith}
-use denote.Ref.{now}
-use lib.ListN.{getD}
+use Rattle.laws.proofs.All.{sym, _∙_, ⊎-elim, ℕ, _+_, _-_, _*_, _<_, arith, now, getD, needs}
 use Rattle.table.specs.Edges.{Arrays, arrays, nextOf}
 use Rattle.runs.proofs.EdgeRuns.{RunOf, run-of}
 use Rattle.runs.proofs.RunTurns.{on-edge, edge-small, next-small}
 use Rattle.reading.proofs.FirstTurns.{Finding, finding-start, finding-yes, finding-no, finding-done}
 use Rattle.reading.proofs.FirstReading.{readsAt, read-in, read-out, read-only, first-reading}
-use borrow.Author.Needs.{needs}
 use Rattle.reading.proofs.blocks.datum_by.Statement.{statement}
 use Rattle.reading.proofs.blocks.datum_by.Tie as tie
 

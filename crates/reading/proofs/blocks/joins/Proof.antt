@@ -1,11 +1,5 @@
 -- The edge's state first, then its next state.
-use mathlib.Core.Path.{sym, ap}
-use mathlib.Core.Bool.{_&&_}
-use native.Mathlib.Omega.{arith}
-use denote.Ref.{now}
-use lib.ListN.{getD}
-use Rattle.laws.specs.Sets.{member}
-use borrow.Author.Needs.{needs}
+use Rattle.laws.proofs.All.{sym, ap, _&&_, arith, now, getD, member, needs}
 use Rattle.reading.proofs.blocks.joins.Statement.{statement}
 use Rattle.reading.proofs.blocks.joins.Tie as tie
 

@@ -1,14 +1,10 @@
 -- State 0 and all words below m, otherwise all states and the last m words.
-use mathlib.Core.Path.{ap₂, _∙_}
-use denote.Ref.{now}
-use lib.Dec.{lit<}
-use lib.Seq.{slice}
+use Rattle.laws.proofs.All.{ap₂, _∙_, now, lit<, slice, needs}
 use Rattle.table.specs.Edges.{arrays, rowsOf}
 use Rattle.table.proofs.RowsOf.{length-rows}
 use Rattle.stepping.specs.StateSets.{alongAll}
 use Rattle.stepping.proofs.StateSteps.{states-every, states-one}
 use Rattle.reading.proofs.Windowed.{past-start, past-later}
-use borrow.Author.Needs.{needs}
 use Rattle.reading.proofs.blocks.past_set.Statement.{statement}
 use Rattle.reading.proofs.blocks.past_set.Tie as tie
 

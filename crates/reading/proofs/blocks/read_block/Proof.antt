@@ -1,8 +1,7 @@
 -- The past set, the states that can read the words ahead, and the datum between them.
-use denote.Ref.{now}
+use Rattle.laws.proofs.All.{now, needs}
 use Rattle.table.specs.Edges.{arrays, rowsOf}
 use Rattle.reading.proofs.Windowed.{block-cut}
-use borrow.Author.Needs.{needs}
 use Rattle.reading.proofs.blocks.read_block.Statement.{statement}
 use Rattle.reading.proofs.blocks.read_block.Tie as tie
 

@@ -1,11 +1,7 @@
 -- `column` meets its contract. The loop's invariant: the array holds the field of every edge passed. The measure is
 -- what is left.
 -- Assumes nothing.
-use mathlib.Core.Path.{_≡_, subst}
-use Prim.Native.Nat.{ℕ, _*_, _-_, _≤_, _<_}
-use native.Mathlib.Omega.{arith}
-use denote.Ref.{now}
-use lib.ListN.{length, length-replicate}
+use Rattle.laws.proofs.All.{_≡_, subst, ℕ, _*_, _-_, _≤_, _<_, arith, now, length, length-replicate}
 use Rattle.bits.specs.Fields.{bitsOf}
 use Rattle.record.proofs.Fills.{reach-spot, reach-step, reach-end, column-more}
 use Rattle.record.specs.Places.{spot, Column}

@@ -1,8 +1,6 @@
 -- `next_of` meets its contract: the field "present" says whether there is a next state.
 -- Assumes nothing.
-use native.Mathlib.Omega.{arith}
-use borrow.Author.Tests.{eq-eqb, ne-eqb}
-use borrow.Author.Needs.{needs}
+use Rattle.laws.proofs.All.{arith, eq-eqb, ne-eqb, needs}
 use Rattle.record.proofs.columns.next_of.Statement.{statement}
 use Rattle.record.proofs.columns.next_of.Tie as tie
 

@@ -1,12 +1,8 @@
 -- `states_of` meets its contract. The loop's invariant: the arrays hold the next states of every state passed. The
 -- measure is what is left.
 -- Assumes nothing.
-use mathlib.Core.Path.{_≡_, ap₂, refl}
-use Prim.Native.Nat.{ℕ, _+_, _*_, _-_, _≤_, _<_}
-use native.Mathlib.Omega.{arith}
-use denote.Ref.{now}
-use lib.ListN.{length, getD, length-set}
-use Rattle.laws.proofs.Ranges.{map-range-same}
+use Rattle.laws.proofs.All.{_≡_, ap₂, refl, ℕ, _+_, _*_, _-_, _≤_, _<_, arith, now, length, getD, length-set}
+use Rattle.laws.proofs.All.{map-range-same}
 use Rattle.bits.specs.Fields.{bitsOf}
 use Rattle.record.specs.Layout.{headerBits, stateSize}
 use Rattle.record.specs.Places.{nextIn}

@@ -1,9 +1,6 @@
 -- `table_of` meets its contract: the constraint and both arrays are read from the places where their fields stand.
 -- Assumes nothing.
-use native.Mathlib.Omega.{arith}
-use borrow.Author.Needs.{needs}
-use denote.Ref.{now}
-use lib.ListN.{length}
+use Rattle.laws.proofs.All.{arith, needs, now, length}
 use Rattle.bits.specs.Fields.{bitsOf}
 use Rattle.record.proofs.Sizes.{edge-count-le, reach-words, reach-nexts}
 use Rattle.record.proofs.RecordTables.{code-is}

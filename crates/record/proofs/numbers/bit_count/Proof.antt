@@ -1,9 +1,6 @@
 -- `bit_count` meets its contract: the numbers are small, so nothing wraps.
 -- Assumes nothing.
-use mathlib.Core.Path.{ap}
-use Prim.Native.Nat.{_+_, _*_}
-use native.Mathlib.Omega.{arith}
-use borrow.Author.Needs.{needs}
+use Rattle.laws.proofs.All.{ap, _+_, _*_, arith, needs}
 use Rattle.record.specs.Layout.{headerBits, stateSize}
 use Rattle.record.proofs.Sizes.{row-le, edges-le}
 use Rattle.record.proofs.numbers.bit_count.Statement.{statement}

@@ -1,7 +1,6 @@
 -- `front_of` meets its contract: each number is the field at its place.
 -- Assumes nothing.
-use borrow.Author.Needs.{needs}
-use denote.Ref.{now}
+use Rattle.laws.proofs.All.{needs, now}
 use Rattle.bits.specs.Fields.{bitsOf}
 use Rattle.record.proofs.Sizes.{front-is}
 use Rattle.record.proofs.numbers.front_of.Statement.{statement}

@@ -1,7 +1,6 @@
 -- `good_front` meets its contract: each return follows the first test that fails, or the last test.
 -- Assumes nothing.
-use borrow.Author.Tests.{not-true, not-false}
-use borrow.Author.Needs.{needs}
+use Rattle.laws.proofs.All.{not-true, not-false, needs}
 use Rattle.record.proofs.numbers.good_front.Statement.{statement}
 use Rattle.record.proofs.numbers.good_front.Tie as tie
 

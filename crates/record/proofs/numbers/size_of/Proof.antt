@@ -1,7 +1,6 @@
 -- `size_of` meets its contract: the bits, rounded up to bytes.
 -- Assumes nothing.
-use native.Mathlib.Omega.{arith}
-use borrow.Author.Needs.{needs}
+use Rattle.laws.proofs.All.{arith, needs}
 use Rattle.record.proofs.Sizes.{bitCount-le}
 use Rattle.record.proofs.numbers.size_of.Statement.{statement}
 use Rattle.record.proofs.numbers.size_of.Tie as tie

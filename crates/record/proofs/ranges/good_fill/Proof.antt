@@ -1,11 +1,6 @@
 -- `good_fill` meets its contract: the fill stands behind the last field and ends with the last byte.
 -- Assumes nothing.
-use mathlib.Core.Path.{ap, ap₂, _∙_}
-use Prim.Native.Nat.{_-_, _*_}
-use native.Mathlib.Omega.{arith}
-use borrow.Author.Needs.{needs}
-use denote.Ref.{now}
-use lib.Dec.{eqb}
+use Rattle.laws.proofs.All.{ap, ap₂, _∙_, _-_, _*_, arith, needs, now, eqb}
 use Rattle.bits.specs.Fields.{bitsOf, field}
 use Rattle.record.proofs.Sizes.{bitCount-le}
 use Rattle.record.proofs.ranges.good_fill.Statement.{statement}

@@ -1,8 +1,6 @@
 -- `good_next` meets its contract: the field "present" says which test is made of the other.
 -- Assumes nothing.
-use native.Mathlib.Omega.{arith}
-use borrow.Author.Tests.{eq-eqb, ne-eqb}
-use borrow.Author.Needs.{needs}
+use Rattle.laws.proofs.All.{arith, eq-eqb, ne-eqb, needs}
 use Rattle.record.proofs.ranges.good_next.Statement.{statement}
 use Rattle.record.proofs.ranges.good_next.Tie as tie
 

@@ -1,13 +1,6 @@
 -- `good_rest` meets its contract: each return follows the first of the three checks that fails, or the last check.
 -- Assumes nothing.
-use mathlib.Core.Path.{ap, _∙_}
-use Prim.Native.Nat.{_*_}
-use native.Mathlib.Omega.{arith}
-use borrow.Author.Tests.{not-true, not-false}
-use borrow.Author.Needs.{needs}
-use denote.Ref.{now}
-use lib.ListN.{length}
-use Rattle.laws.specs.Lists.{all, range}
+use Rattle.laws.proofs.All.{ap, _∙_, _*_, arith, not-true, not-false, needs, now, length, all, range}
 use Rattle.bits.specs.Fields.{bitsOf}
 use Rattle.record.specs.Places.{goodTargetAt}
 use Rattle.record.proofs.Sizes.{edge-count-le, edges-end}

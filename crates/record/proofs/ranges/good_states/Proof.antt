@@ -1,14 +1,8 @@
 -- `good_states` meets its contract. The loop's invariant: every next state passed is in range. The measure is what is
 -- left.
 -- Assumes nothing.
-use mathlib.Core.Path.{_≡_, sym, _∙_}
-use mathlib.Core.Bool.{true}
-use Prim.Native.Nat.{ℕ, _*_, _-_, _≤_, _<_}
-use native.Mathlib.Omega.{arith}
-use borrow.Author.Count.{below-more}
-use borrow.Author.Tests.{not-true, not-false}
-use denote.Ref.{now}
-use Rattle.laws.proofs.Ranges.{all-range-true, all-range-false}
+use Rattle.laws.proofs.All.{_≡_, sym, _∙_, true, ℕ, _*_, _-_, _≤_, _<_, arith, below-more, not-true, not-false, now}
+use Rattle.laws.proofs.All.{all-range-true, all-range-false}
 use Rattle.bits.specs.Fields.{bitsOf}
 use Rattle.record.specs.Places.{goodAt}
 use Rattle.record.proofs.ranges.good_states.Statement.{statement}

@@ -1,17 +1,8 @@
 -- `good_targets` meets its contract. The loop's invariant: every edge passed leads to a state. The measure is what is
 -- left.
 -- Assumes nothing.
-use mathlib.Core.Path.{ap, _≡_, sym, _∙_}
-use mathlib.Core.Bool.{true}
-use Prim.Native.Nat.{ℕ, _+_, _*_, _-_, _≤_, _<_}
-use native.Mathlib.Omega.{arith}
-use borrow.Author.Count.{below-more}
-use borrow.Author.Needs.{needs}
-use borrow.Author.Tests.{lt-ltb, le-ltb}
-use denote.Ref.{now}
-use lib.ListN.{length}
-use lib.Dec.{ltb}
-use Rattle.laws.proofs.Ranges.{all-range-true, all-range-false}
+use Rattle.laws.proofs.All.{ap, _≡_, sym, _∙_, true, ℕ, _+_, _*_, _-_, _≤_, _<_, arith, below-more, needs, lt-ltb}
+use Rattle.laws.proofs.All.{le-ltb, now, length, ltb, all-range-true, all-range-false}
 use Rattle.bits.specs.Fields.{bitsOf, field}
 use Rattle.record.specs.Layout.{headerBits, stateSize}
 use Rattle.record.specs.Places.{goodTargetAt}

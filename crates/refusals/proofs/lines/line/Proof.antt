@@ -1,12 +1,7 @@
 -- `line` meets its contract: it is the part from the start of the line to its end.
 -- Assumes nothing.
-use mathlib.Core.Path.{_≡_, ap, _∙_}
-use Prim.Native.Nat.{_-_}
-use native.Mathlib.Omega.{arith}
-use denote.Ref.{now}
-use lib.ListN.{take, drop}
+use Rattle.laws.proofs.All.{_≡_, ap, _∙_, _-_, arith, now, take, drop, needs}
 use Rattle.refusals.specs.TextLines.{lineEnd}
-use borrow.Author.Needs.{needs}
 use Rattle.refusals.proofs.lines.line.Statement.{statement}
 use Rattle.refusals.proofs.lines.line.Tie as tie
 

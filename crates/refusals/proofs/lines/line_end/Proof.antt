@@ -1,14 +1,9 @@
 -- `line_end` meets its contract. The loop's invariant: the line's end, counted from the place passed, is its end. The
 -- measure is what is left of the text.
 -- Assumes nothing.
-use mathlib.Core.Path.{_≡_, refl}
-use Prim.Native.Nat.{_+_, _-_, _≤_}
-use native.Mathlib.Omega.{arith}
-use denote.Ref.{now}
-use lib.ListN.{length, drop}
+use Rattle.laws.proofs.All.{_≡_, refl, _+_, _-_, _≤_, arith, now, length, drop, needs}
 use Rattle.refusals.specs.TextLines.{lineEnd}
 use Rattle.refusals.proofs.TextLines.{end-here, end-on, end-none}
-use borrow.Author.Needs.{needs}
 use Rattle.refusals.proofs.lines.line_end.Statement.{statement}
 use Rattle.refusals.proofs.lines.line_end.Tie as tie
 

@@ -1,14 +1,9 @@
 -- `line_start` meets its contract. The loop's invariant: from the place on stands the text without its first i lines.
 -- The measure is what is left of the n lines.
 -- Assumes nothing.
-use mathlib.Core.Path.{_≡_, refl, ap, _∙_}
-use Prim.Native.Nat.{_-_, _≤_}
-use native.Mathlib.Omega.{arith}
-use denote.Ref.{now}
-use lib.ListN.{length, drop}
+use Rattle.laws.proofs.All.{_≡_, refl, ap, _∙_, _-_, _≤_, arith, now, length, drop, needs}
 use Rattle.refusals.specs.TextLines.{rest}
 use Rattle.refusals.proofs.TextLines.{rest-next}
-use borrow.Author.Needs.{needs}
 use Rattle.refusals.proofs.lines.line_start.Statement.{statement}
 use Rattle.refusals.proofs.lines.line_start.Tie as tie
 

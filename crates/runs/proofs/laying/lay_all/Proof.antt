@@ -1,13 +1,9 @@
 -- Each turn lays the edges of one word behind those of the words before it.
-use mathlib.Core.Path.{_≡_, sym, ap, _∙_}
-use Prim.Native.Nat.{ℕ, _+_, _-_, _*_, _≤_}
-use native.Mathlib.Omega.{arith}
-use denote.Ref.{now}
-use lib.ListN.{length, length-set, length-replicate}
+use Rattle.laws.proofs.All.{_≡_, sym, ap, _∙_, ℕ, _+_, _-_, _*_, _≤_, arith, now, length, length-set}
+use Rattle.laws.proofs.All.{length-replicate, needs}
 use Rattle.table.specs.Edges.{Arrays, arrays}
 use Rattle.runs.specs.EdgeRuns.{count, before, Laying}
 use Rattle.runs.proofs.EdgeRuns.{before-more, before-zero, before-le, laying-start, laying-more}
-use borrow.Author.Needs.{needs}
 use Rattle.runs.proofs.laying.lay_all.Statement.{statement}
 use Rattle.runs.proofs.laying.lay_all.Tie as tie
 

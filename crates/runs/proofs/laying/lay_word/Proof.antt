@@ -1,16 +1,10 @@
 -- The loop goes along the chain of the word; what is left of it is below `cur`, and there is room for all of it.
-use mathlib.Core.Path.{_≡_, refl, sym, ap, _∙_}
-use mathlib.Core.Bool.{true}
-use Prim.Native.Nat.{ℕ, _+_, _-_, _*_, _≤_, _<_}
-use native.Mathlib.Omega.{arith}
-use denote.Ref.{now}
-use lib.ListN.{length, getD, length-set}
-use lib.Seq.{getD-set-other}
+use Rattle.laws.proofs.All.{_≡_, refl, sym, ap, _∙_, true, ℕ, _+_, _-_, _*_, _≤_, _<_, arith, now, length, getD}
+use Rattle.laws.proofs.All.{length-set, getD-set-other, needs}
 use Rattle.table.specs.Edges.{Arrays, arrays, bears, lastBelow}
 use Rattle.table.proofs.Edges.{link-below, on-le, on-bears}
 use Rattle.runs.specs.EdgeRuns.{count, Run}
 use Rattle.runs.proofs.EdgeRuns.{count-more, count-below, count-none, run-start, run-more}
-use borrow.Author.Needs.{needs}
 use Rattle.runs.proofs.laying.lay_word.Statement.{statement}
 use Rattle.runs.proofs.laying.lay_word.Tie as tie
 

@@ -1,10 +1,6 @@
 -- `check_set` meets its contract: before each turn the answer of the whole set is that of the walk from the offset on.
 -- Assumes nothing.
-use mathlib.Core.Path.{sym, _∙_}
-use Prim.Native.Nat.{_-_, _≤_}
-use native.Mathlib.Omega.{arith}
-use borrow.Author.Needs.{needs}
-use denote.Ref.{now}
+use Rattle.laws.proofs.All.{sym, _∙_, _-_, _≤_, arith, needs, now}
 use Rattle.sets.proofs.Walks.{set-empty, Walking, walking-start, walking-stop, walking-on}
 use Rattle.sets.proofs.Walks.{walking-left, walking-end}
 use Rattle.sets.proofs.walking.check_set.Statement.{statement}

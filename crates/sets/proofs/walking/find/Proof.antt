@@ -1,11 +1,6 @@
 -- `find` meets its contract: the loop goes from the offset of one record to that of the next.
 -- Assumes nothing.
-use mathlib.Core.Path.{_≡_, refl, sym, ap, _∙_}
-use Prim.Native.Nat.{_+_, _-_, _≤_, _<_}
-use native.Mathlib.Omega.{arith}
-use borrow.Author.Needs.{needs}
-use denote.Ref.{now}
-use lib.ListN.{length, getD}
+use Rattle.laws.proofs.All.{_≡_, refl, sym, ap, _∙_, _+_, _-_, _≤_, _<_, arith, needs, now, length, getD}
 use Rattle.sets.specs.Offsets.{placeAt, offsetOf}
 use Rattle.sets.proofs.Offsets.{record-none, record-empty, record-at, record-cut, record-next}
 use Rattle.sets.proofs.walking.find.Statement.{statement}

@@ -1,11 +1,6 @@
 -- `step_at` meets its contract: 8 for a record that is cut off, otherwise the checker's answer on its bytes.
 -- Assumes nothing.
-use mathlib.Core.Path.{sym, _∙_}
-use Prim.Native.Nat.{_+_, _≤_}
-use native.Mathlib.Omega.{arith}
-use borrow.Author.Needs.{needs}
-use denote.Ref.{now}
-use lib.ListN.{length}
+use Rattle.laws.proofs.All.{sym, _∙_, _+_, _≤_, arith, needs, now, length}
 use Rattle.sets.proofs.Offsets.{place→, nowhere→}
 use Rattle.sets.proofs.Walks.{step-cut, step-stop, step-on}
 use Rattle.sets.proofs.walking.step_at.Statement.{statement}

@@ -1,6 +1,6 @@
 -- `is_alike` meets its contract: bit 0 is compared first, then bit 1.
 -- Assumes nothing.
-use borrow.Author.Tests.{eq-eqb, ne-eqb}
+use Rattle.laws.proofs.All.{eq-eqb, ne-eqb}
 use Rattle.showing.proofs.limits.is_alike.Statement.{statement}
 use Rattle.showing.proofs.limits.is_alike.Tie as tie
 

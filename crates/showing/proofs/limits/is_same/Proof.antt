@@ -1,13 +1,7 @@
 -- `is_same` meets its contract: the states below i are alike; the first that is not ends the loop.
 -- Assumes nothing.
-use mathlib.Core.Path.{sym, subst, _∙_}
-use Prim.Native.Nat.{ℕ, _-_, _≤_, _<_}
-use native.Mathlib.Nat.{not-suc-le-zero}
-use native.Mathlib.Omega.{arith}
-use borrow.Author.Needs.{needs}
-use borrow.Author.Count.{below-more}
-use borrow.Author.Tests.{not-true, not-false}
-use lib.Dec.{T}
+use Rattle.laws.proofs.All.{sym, subst, _∙_, ℕ, _-_, _≤_, _<_, not-suc-le-zero, arith, needs, below-more, not-true}
+use Rattle.laws.proofs.All.{not-false, T}
 use Rattle.constraint.specs.Value.{nextStatesAt}
 use Rattle.table.proofs.LoopTests.{all-passed, all-failed}
 use Rattle.showing.specs.Limits.{alike}

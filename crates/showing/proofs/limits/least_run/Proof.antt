@@ -1,12 +1,7 @@
 -- `least_run` meets its contract: with no d passed is the constraint (d, k); the first with which it is ends the loop.
 -- Assumes nothing.
-use mathlib.Core.Path.{_≡_, sym, subst, _∙_}
-use mathlib.Core.Bool.{false}
-use Prim.Native.Nat.{ℕ, _-_, _≤_, _<_}
-use native.Mathlib.Nat.{not-suc-le-zero}
-use native.Mathlib.Omega.{arith}
-use borrow.Author.Needs.{needs}
-use borrow.Author.Count.{below-more}
+use Rattle.laws.proofs.All.{_≡_, sym, subst, _∙_, false, ℕ, _-_, _≤_, _<_, not-suc-le-zero, arith, needs}
+use Rattle.laws.proofs.All.{below-more}
 use Rattle.constraint.specs.Value.{constraintOf}
 use Rattle.showing.specs.Limits.{isRuns}
 use Rattle.showing.proofs.LimitLines.{same-runs, run-least, run-none}

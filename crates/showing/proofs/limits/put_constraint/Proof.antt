@@ -2,7 +2,7 @@
 -- Assumes nothing.
 use Rattle.text.proofs.Adding.{added-same, _then_}
 use Rattle.showing.proofs.LimitLines.{runs-told, states-told}
-use borrow.Author.Needs.{needs}
+use Rattle.laws.proofs.All.{needs}
 use Rattle.showing.proofs.limits.put_constraint.Statement.{statement}
 use Rattle.showing.proofs.limits.put_constraint.Tie as tie
 

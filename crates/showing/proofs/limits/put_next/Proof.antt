@@ -2,7 +2,7 @@
 -- Assumes nothing.
 use Rattle.text.proofs.Adding.{added-same, _then_}
 use Rattle.showing.proofs.LimitLines.{next-none, next-some}
-use borrow.Author.Needs.{needs}
+use Rattle.laws.proofs.All.{needs}
 use Rattle.showing.proofs.limits.put_next.Statement.{statement}
 use Rattle.showing.proofs.limits.put_next.Tie as tie
 

@@ -1,15 +1,12 @@
 -- `put_states` meets its contract. The loop's invariant: the text put since the loop began has the lines of the states
 -- passed.
 -- Assumes nothing.
-use mathlib.Core.Path.{_≡_, ap, _∙_}
-use Prim.Native.Nat.{_-_, _≤_}
-use native.Mathlib.Omega.{arith}
+use Rattle.laws.proofs.All.{_≡_, ap, _∙_, _-_, _≤_, arith, needs}
 use Rattle.constraint.specs.Value.{constraintOf}
 use Rattle.text.specs.Texts.{Added}
 use Rattle.text.proofs.Adding.{added-same, _then_, begun}
 use Rattle.showing.specs.Limits.{statesTo}
 use Rattle.showing.proofs.LimitLines.{states-none, states-more}
-use borrow.Author.Needs.{needs}
 use Rattle.showing.proofs.limits.put_states.Statement.{statement}
 use Rattle.showing.proofs.limits.put_states.Tie as tie
 

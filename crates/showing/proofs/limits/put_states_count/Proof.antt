@@ -3,7 +3,7 @@
 use Rattle.text.proofs.Adding.{_then_}
 use Rattle.text.specs.Texts.{bytes}
 use Rattle.showing.specs.Limits.{countLine}
-use borrow.Author.Needs.{needs}
+use Rattle.laws.proofs.All.{needs}
 use Rattle.showing.proofs.limits.put_states_count.Statement.{statement}
 use Rattle.showing.proofs.limits.put_states_count.Tie as tie
 

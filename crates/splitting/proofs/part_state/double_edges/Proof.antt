@@ -1,12 +1,7 @@
 -- Each edge into s is appended once more, to the new state. There is room, since the edges after it were counted.
-use mathlib.Core.Path.{_≡_, refl, subst}
-use mathlib.Core.Logic.{⊎-elim}
-use Prim.Native.Nat.{_-_, _≤_, _<_}
-use native.Mathlib.Omega.{arith}
-use lib.ListN.{length}
+use Rattle.laws.proofs.All.{_≡_, refl, subst, ⊎-elim, _-_, _≤_, _<_, arith, length, needs}
 use Rattle.splitting.proofs.Doubling.{Grown, grown-yes, grown-no, grown-room, grown-end}
 use Rattle.graph.proofs.Values.{appended-none}
-use borrow.Author.Needs.{needs}
 use Rattle.splitting.proofs.part_state.double_edges.Statement.{statement}
 use Rattle.splitting.proofs.part_state.double_edges.Tie as tie
 

@@ -1,11 +1,6 @@
 -- The edges into s are counted.
-use mathlib.Core.Path.{_≡_, refl, ap, _∙_}
-use mathlib.Core.Logic.{⊎-elim}
-use Prim.Native.Nat.{_-_, _≤_}
-use native.Mathlib.Omega.{arith}
-use lib.ListN.{length}
+use Rattle.laws.proofs.All.{_≡_, refl, ap, _∙_, ⊎-elim, _-_, _≤_, arith, length, needs}
 use Rattle.splitting.proofs.Doubling.{entered, entered-no, count-yes}
-use borrow.Author.Needs.{needs}
 use Rattle.splitting.proofs.part_state.enter_count.Statement.{statement}
 use Rattle.splitting.proofs.part_state.enter_count.Tie as tie
 

@@ -1,10 +1,6 @@
 -- Each edge out of s whose key is not in the run gets the new state as its source.
-use mathlib.Core.Path.{_≡_, refl, sym, subst, _∙_}
-use mathlib.Core.Logic.{⊎-elim}
-use mathlib.Core.List.{map}
-use Prim.Native.Nat.{_-_, _≤_}
-use native.Mathlib.Omega.{arith}
-use lib.ListN.{length, take, drop}
+use Rattle.laws.proofs.All.{_≡_, refl, sym, subst, _∙_, ⊎-elim, map, _-_, _≤_, arith, length, take, drop, needs}
+use Rattle.laws.proofs.All.{not-true, not-false}
 use Rattle.order.specs.EdgeKeys.{keysIn, arcOf}
 use Rattle.splitting.specs.SplitParts.{keptArcs}
 use Rattle.splitting.proofs.MovedSources.{
@@ -19,8 +15,6 @@ use Rattle.splitting.proofs.MovedSources.{
   new-moved,
 }
 use Rattle.order.proofs.KeptKeys.{among-kept}
-use borrow.Author.Needs.{needs}
-use borrow.Author.Tests.{not-true, not-false}
 use Rattle.splitting.proofs.part_state.move_edges.Statement.{statement}
 use Rattle.splitting.proofs.part_state.move_edges.Tie as tie
 

@@ -1,12 +1,7 @@
 -- The steps of the rule in their order; the law `parted-is` puts them together.
-use mathlib.Core.Path.{_≡_, sym, ap, subst, _∙_}
-use Prim.Native.Nat.{_/_, _≤_}
-use native.Mathlib.Omega.{arith}
-use lib.ListN.{length, getD}
-use Rattle.laws.proofs.Tests.{map-range-at}
+use Rattle.laws.proofs.All.{_≡_, sym, ap, subst, _∙_, _/_, _≤_, arith, length, getD, map-range-at, needs}
 use Rattle.graph.specs.Value.{weightAt}
 use Rattle.splitting.proofs.SplitState.{Keyed, weights-low, inside-run, share-le, room-moved, parted-is}
-use borrow.Author.Needs.{needs}
 use Rattle.splitting.proofs.part_state.part_state.Statement.{statement}
 use Rattle.splitting.proofs.part_state.part_state.Tie as tie
 

@@ -1,10 +1,6 @@
 -- Two stores: the weight of s, and that of the new state.
-use mathlib.Core.Path.{_≡_}
-use lib.ListN.{length}
-use native.Mathlib.Omega.{arith}
+use Rattle.laws.proofs.All.{_≡_, length, arith, needs, needs}
 use Rattle.splitting.proofs.Doubling.{weigh-is}
-use borrow.Author.Needs.{needs}
-use borrow.Author.Needs.{needs}
 use Rattle.splitting.proofs.part_state.weigh.Statement.{statement}
 use Rattle.splitting.proofs.part_state.weigh.Tie as tie
 

@@ -1,11 +1,6 @@
 -- The states are tried one by one.
-use mathlib.Core.Path.{sym}
-use Prim.Native.Nat.{ℕ, _-_, _≤_, _<_}
-use native.Mathlib.Omega.{arith}
-use borrow.Author.Count.{below-more}
-use lib.ListN.{getD}
+use Rattle.laws.proofs.All.{sym, ℕ, _-_, _≤_, _<_, arith, below-more, getD, needs}
 use Rattle.splitting.proofs.SplitLoop.{unfinished-yes, unfinished-no}
-use borrow.Author.Needs.{needs}
 use Rattle.splitting.proofs.split_graph.is_unfinished.Statement.{statement}
 use Rattle.splitting.proofs.split_graph.is_unfinished.Tie as tie
 

@@ -1,10 +1,6 @@
 -- Each edge counts at its source.
-use mathlib.Core.Path.{_≡_, refl, ap, _∙_}
-use Prim.Native.Nat.{_-_, _≤_, _<_}
-use native.Mathlib.Omega.{arith}
-use lib.ListN.{length, getD}
+use Rattle.laws.proofs.All.{_≡_, refl, ap, _∙_, _-_, _≤_, _<_, arith, length, getD, needs}
 use Rattle.splitting.proofs.SplitLoop.{Counted, counted-none, counted-more, left}
-use borrow.Author.Needs.{needs}
 use Rattle.splitting.proofs.split_graph.out_counts.Statement.{statement}
 use Rattle.splitting.proofs.split_graph.out_counts.Tie as tie
 

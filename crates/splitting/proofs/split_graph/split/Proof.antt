@@ -1,8 +1,6 @@
 -- The edges after the split are counted first; then the state that the rule names is split.
-use native.Mathlib.Omega.{arith}
+use Rattle.laws.proofs.All.{arith, needs, needs}
 use Rattle.splitting.proofs.OneSplit.{crowded-into, parted-into, chosen-heavy, chosen-light}
-use borrow.Author.Needs.{needs}
-use borrow.Author.Needs.{needs}
 use Rattle.splitting.proofs.split_graph.split.Statement.{statement}
 use Rattle.splitting.proofs.split_graph.split.Tie as tie
 

@@ -1,9 +1,6 @@
 -- Each split makes one state more, and no state weighs 0, so the loop ends; the splits left lead from the graph in
 -- work to the end.
-use mathlib.Core.Path.{_≡_, sym, _∙_}
-use Prim.Native.Nat.{_-_}
-use native.Mathlib.Omega.{arith}
-use mathlib.Core.Bool.{true}
+use Rattle.laws.proofs.All.{_≡_, sym, _∙_, _-_, arith, true}
 use Rattle.graph.specs.Splitting.{unfinished}
 use Rattle.graph.specs.Value.{workIn}
 use Rattle.splitting.proofs.SplitLoop.{

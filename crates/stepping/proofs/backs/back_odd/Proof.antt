@@ -1,16 +1,10 @@
 -- No word, or the last one.
-use mathlib.Core.Path.{_≡_, sym, ap, _∙_}
-use Prim.Native.Nat.{_-_, _+_}
-use native.Mathlib.Omega.{arith}
-use denote.Ref.{now}
-use lib.ListN.{getD}
-use lib.Seq.{slice}
+use Rattle.laws.proofs.All.{_≡_, sym, ap, _∙_, _-_, _+_, arith, now, getD, slice, needs}
 use Rattle.table.specs.Edges.{arrays, rowsOf}
 use Rattle.table.proofs.RowsOf.{length-rows}
 use Rattle.stepping.specs.StateSets.{back, able}
 use Rattle.stepping.proofs.StateSteps.{states-every}
 use Rattle.stepping.proofs.StateWords.{able-first, able-end}
-use borrow.Author.Needs.{needs}
 use Rattle.stepping.proofs.backs.back_odd.Statement.{statement}
 use Rattle.stepping.proofs.backs.back_odd.Tie as tie
 

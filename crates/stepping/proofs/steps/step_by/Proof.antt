@@ -1,16 +1,11 @@
 -- The loop goes along the run of the word from its last edge to its first; what is left to mark is below the edge
 -- before place k.
-use mathlib.Core.Logic.{⊎-elim}
-use Prim.Native.Nat.{ℕ, _+_, _-_, _*_, _<_}
-use native.Mathlib.Omega.{arith}
-use denote.Ref.{now}
-use lib.ListN.{getD}
+use Rattle.laws.proofs.All.{⊎-elim, ℕ, _+_, _-_, _*_, _<_, arith, now, getD, needs}
 use Rattle.table.specs.Edges.{Arrays, arrays, nextOf}
 use Rattle.runs.proofs.EdgeRuns.{RunOf, run-of}
 use Rattle.runs.proofs.RunTurns.{on-edge, edge-small, next-small}
 use Rattle.runs.proofs.RunTurns.{Marking, marking-start, marking-put, marking-skip, marking-done}
 use Rattle.stepping.proofs.StateSteps.{leadsAt, lead-in, lead-out, lead-only, along-places}
-use borrow.Author.Needs.{needs}
 use Rattle.stepping.proofs.steps.step_by.Statement.{statement}
 use Rattle.stepping.proofs.steps.step_by.Tie as tie
 

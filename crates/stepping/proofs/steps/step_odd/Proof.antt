@@ -1,14 +1,9 @@
 -- No word, or one.
-use mathlib.Core.Path.{sym, ap, _∙_}
-use native.Mathlib.Omega.{arith}
-use Prim.Native.Nat.{_+_}
-use denote.Ref.{now}
-use lib.Seq.{slice}
+use Rattle.laws.proofs.All.{sym, ap, _∙_, arith, _+_, now, slice, needs}
 use Rattle.table.specs.Edges.{arrays, rowsOf}
 use Rattle.stepping.specs.StateSets.{alongAll}
 use Rattle.stepping.specs.StateSets.{statesIn}
 use Rattle.stepping.proofs.StateWords.{along-first}
-use borrow.Author.Needs.{needs}
 use Rattle.stepping.proofs.steps.step_odd.Statement.{statement}
 use Rattle.stepping.proofs.steps.step_odd.Tie as tie
 

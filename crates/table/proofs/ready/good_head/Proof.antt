@@ -1,6 +1,5 @@
 -- Each return follows the first number that is not in range, or the last test.
-use borrow.Author.Tests.{not-true, not-false, lt-ltb, le-ltb}
-use borrow.Author.Needs.{needs}
+use Rattle.laws.proofs.All.{not-true, not-false, lt-ltb, le-ltb, needs}
 use Rattle.table.proofs.ready.good_head.Statement.{statement}
 use Rattle.table.proofs.ready.good_head.Tie as tie
 

@@ -1,8 +1,5 @@
 -- The next state for bit 0 is tested first, then that for bit 1.
-use mathlib.Core.Path.{sym, ap, _∙_}
-use mathlib.Core.Bool.{_&&_}
-use borrow.Author.Tests.{not-true, not-false}
-use borrow.Author.Needs.{needs}
+use Rattle.laws.proofs.All.{sym, ap, _∙_, _&&_, not-true, not-false, needs}
 use Rattle.table.specs.Formed.{goodState}
 use Rattle.table.proofs.ready.good_next.Statement.{statement}
 use Rattle.table.proofs.ready.good_next.Tie as tie

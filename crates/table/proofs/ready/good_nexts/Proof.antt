@@ -1,12 +1,6 @@
 -- The constraint states below s have good next states; the first that has not ends the loop.
-use mathlib.Core.Path.{sym, subst, _∙_}
-use Prim.Native.Nat.{ℕ, _-_, _≤_, _<_}
-use native.Mathlib.Nat.{not-suc-le-zero}
-use native.Mathlib.Omega.{arith}
-use borrow.Author.Needs.{needs}
-use borrow.Author.Count.{below-more}
-use borrow.Author.Tests.{not-true, not-false}
-use lib.Dec.{T}
+use Rattle.laws.proofs.All.{sym, subst, _∙_, ℕ, _-_, _≤_, _<_, not-suc-le-zero, arith, needs, below-more, not-true}
+use Rattle.laws.proofs.All.{not-false, T}
 use Rattle.table.specs.Entries.{goodNextAt}
 use Rattle.table.proofs.LoopTests.{all-passed, all-failed}
 use Rattle.table.proofs.ready.good_nexts.Statement.{statement}

@@ -1,9 +1,5 @@
 -- None is good by itself, and any other next state is compared.
-use mathlib.Core.Path.{sym, ap, ap₂}
-use mathlib.Core.Bool.{_||_}
-use borrow.Author.Tests.{eq-eqb, ne-eqb}
-use borrow.Author.Needs.{needs}
-use lib.Dec.{ltb}
+use Rattle.laws.proofs.All.{sym, ap, ap₂, _||_, eq-eqb, ne-eqb, needs, ltb}
 use Rattle.constraint.specs.Walking.{none}
 use Rattle.table.proofs.ready.good_state.Statement.{statement}
 use Rattle.table.proofs.ready.good_state.Tie as tie

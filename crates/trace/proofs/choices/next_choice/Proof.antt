@@ -1,10 +1,7 @@
 -- `next_choice` meets its contract: the parts of a split are found in the rule's order.
 -- Assumes nothing.
-use mathlib.Core.Path.{_≡_}
-use native.Mathlib.Omega.{arith}
-use lib.ListN.{length}
+use Rattle.laws.proofs.All.{_≡_, arith, length, needs}
 use Rattle.trace.proofs.Chosen.{light, low, chosen-in}
-use borrow.Author.Needs.{needs}
 use Rattle.trace.proofs.choices.next_choice.Statement.{statement}
 use Rattle.trace.proofs.choices.next_choice.Tie as tie
 

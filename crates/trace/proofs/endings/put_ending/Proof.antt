@@ -1,11 +1,10 @@
 -- `put_ending` meets its contract, verdict by verdict.
 -- Assumes nothing.
-use mathlib.Core.Path.{sym, ap}
+use Rattle.laws.proofs.All.{sym, ap, needs}
 use Rattle.answer.specs.Outcomes.{verdictOn}
 use Rattle.table.specs.Value.{codeIn}
 use Rattle.text.proofs.Adding.{added-same}
 use Rattle.trace.specs.Lines.{ending}
-use borrow.Author.Needs.{needs}
 use Rattle.trace.proofs.endings.put_ending.Statement.{statement}
 use Rattle.trace.proofs.endings.put_ending.Tie as tie
 

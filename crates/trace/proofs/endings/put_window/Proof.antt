@@ -3,7 +3,7 @@
 use Rattle.text.specs.Texts.{bytes}
 use Rattle.text.proofs.Adding.{_then_}
 use Rattle.trace.specs.Lines.{windowLine}
-use borrow.Author.Needs.{needs}
+use Rattle.laws.proofs.All.{needs}
 use Rattle.trace.proofs.endings.put_window.Statement.{statement}
 use Rattle.trace.proofs.endings.put_window.Tie as tie
 

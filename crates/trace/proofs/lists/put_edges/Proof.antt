@@ -1,17 +1,11 @@
 -- `put_edges` meets its contract. The loop's invariant: the text put since the loop began has the edges passed. The
 -- measure is what is left of them.
 -- Assumes nothing.
-use mathlib.Core.Path.{_≡_, refl, ap, _∙_}
-use mathlib.Core.List.{map}
-use Prim.Native.Nat.{_-_, _≤_}
-use native.Mathlib.Omega.{arith}
-use lib.ListN.{length, take, drop}
-use Rattle.laws.specs.Lists.{concat}
+use Rattle.laws.proofs.All.{_≡_, refl, ap, _∙_, map, _-_, _≤_, arith, length, take, drop, concat, needs}
 use Rattle.text.specs.Texts.{Added}
 use Rattle.text.proofs.Adding.{added-same, _then_, begun}
 use Rattle.trace.specs.ChoiceParts.{keyText}
 use Rattle.trace.proofs.Pieces.{part-next, part-all, part-within}
-use borrow.Author.Needs.{needs}
 use Rattle.trace.proofs.lists.put_edges.Statement.{statement}
 use Rattle.trace.proofs.lists.put_edges.Tie as tie
 

@@ -1,7 +1,7 @@
 -- `put_item` meets its contract.
 -- Assumes nothing.
 use Rattle.text.specs.Texts.{bytes}
-use borrow.Author.Needs.{needs}
+use Rattle.laws.proofs.All.{needs}
 use Rattle.trace.proofs.lists.put_item.Statement.{statement}
 use Rattle.trace.proofs.lists.put_item.Tie as tie
 

@@ -1,15 +1,11 @@
 -- `put_list` meets its contract. The loop's invariant: the text put since the loop began has the numbers passed. The
 -- measure is what is left of them.
 -- Assumes nothing.
-use mathlib.Core.Path.{_≡_, refl, _∙_}
-use Prim.Native.Nat.{_-_, _≤_}
-use native.Mathlib.Omega.{arith}
-use lib.ListN.{length, take}
+use Rattle.laws.proofs.All.{_≡_, refl, _∙_, _-_, _≤_, arith, length, take, needs}
 use Rattle.text.specs.Texts.{Added}
 use Rattle.text.proofs.Adding.{added-same, _then_, begun}
 use Rattle.trace.specs.Lines.{listed}
 use Rattle.trace.proofs.Pieces.{listed-none, listed-next, listed-all}
-use borrow.Author.Needs.{needs}
 use Rattle.trace.proofs.lists.put_list.Statement.{statement}
 use Rattle.trace.proofs.lists.put_list.Tie as tie
 

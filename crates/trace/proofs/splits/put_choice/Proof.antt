@@ -1,13 +1,11 @@
 -- `put_choice` meets its contract: its parts are put in a row.
 -- Assumes nothing.
-use mathlib.Core.Path.{_∙_}
-use lib.ListN.{take, drop}
+use Rattle.laws.proofs.All.{_∙_, take, drop, needs}
 use Rattle.order.specs.EdgeKeys.{keysIn}
 use Rattle.text.proofs.Adding.{added-same, _then_}
 use Rattle.text.specs.Texts.{bytes}
 use Rattle.trace.specs.Lines.{partLine}
 use Rattle.trace.proofs.Pieces.{keys-arcs}
-use borrow.Author.Needs.{needs}
 use Rattle.trace.proofs.splits.put_choice.Statement.{statement}
 use Rattle.trace.proofs.splits.put_choice.Tie as tie
 

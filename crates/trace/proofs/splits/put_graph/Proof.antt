@@ -3,7 +3,7 @@
 use Rattle.text.specs.Texts.{bytes}
 use Rattle.text.proofs.Adding.{_then_}
 use Rattle.trace.specs.Lines.{sizeText}
-use borrow.Author.Needs.{needs}
+use Rattle.laws.proofs.All.{needs}
 use Rattle.trace.proofs.splits.put_graph.Statement.{statement}
 use Rattle.trace.proofs.splits.put_graph.Tie as tie
 

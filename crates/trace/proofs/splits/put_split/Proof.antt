@@ -2,7 +2,7 @@
 -- Assumes nothing.
 use Rattle.text.proofs.Adding.{added-same}
 use Rattle.trace.proofs.Chosen.{chosen-line}
-use borrow.Author.Needs.{needs}
+use Rattle.laws.proofs.All.{needs}
 use Rattle.trace.proofs.splits.put_split.Statement.{statement}
 use Rattle.trace.proofs.splits.put_split.Tie as tie
 

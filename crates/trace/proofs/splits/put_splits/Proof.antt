@@ -1,16 +1,12 @@
 -- `put_splits` meets its contract. The loop's invariant: the splits left lead from the graph in work to the end, and
 -- their lines are those that are left. Each split makes one state more, and there are at most 128.
 -- Assumes nothing.
-use mathlib.Core.Path.{_≡_, sym, _∙_}
-use mathlib.Core.Bool.{true}
-use Prim.Native.Nat.{_-_, _<_}
-use native.Mathlib.Omega.{arith}
+use Rattle.laws.proofs.All.{_≡_, sym, _∙_, true, _-_, _<_, arith, needs}
 use Rattle.graph.specs.Splitting.{unfinished}
 use Rattle.graph.specs.Value.{workIn}
 use Rattle.splitting.proofs.SplitLoop.{Going, going-start, going-room, going-splits, going-on, going-grows}
 use Rattle.text.proofs.Adding.{_then_, begun}
 use Rattle.trace.proofs.SplitTexts.{Told, told-start, told-more, told-crowded, told-end}
-use borrow.Author.Needs.{needs}
 use Rattle.trace.proofs.splits.put_splits.Statement.{statement}
 use Rattle.trace.proofs.splits.put_splits.Tie as tie
 

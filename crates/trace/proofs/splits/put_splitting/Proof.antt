@@ -6,7 +6,7 @@ use Rattle.compiler.proofs.CompileSteps.{begun-splits, begun-finished}
 use Rattle.text.proofs.Adding.{added-same, _then_}
 use Rattle.text.specs.Texts.{bytes}
 use Rattle.trace.proofs.SplitTexts.{graph-line, split-crowded, split-done}
-use borrow.Author.Needs.{needs}
+use Rattle.laws.proofs.All.{needs}
 use Rattle.trace.proofs.splits.put_splitting.Statement.{statement}
 use Rattle.trace.proofs.splits.put_splitting.Tie as tie
 

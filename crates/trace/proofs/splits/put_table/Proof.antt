@@ -3,7 +3,7 @@
 use Rattle.text.specs.Texts.{bytes}
 use Rattle.text.proofs.Adding.{_then_}
 use Rattle.trace.specs.Lines.{tableLine}
-use borrow.Author.Needs.{needs}
+use Rattle.laws.proofs.All.{needs}
 use Rattle.trace.proofs.splits.put_table.Statement.{statement}
 use Rattle.trace.proofs.splits.put_table.Tie as tie
 

@@ -1,13 +1,10 @@
 -- `component_states` meets its contract: the parts of the component are found as for its graph.
 -- Assumes nothing.
-use mathlib.Core.Path.{_≡_, _∙_}
-use denote.Ref.{now}
-use lib.ListN.{length, take}
+use Rattle.laws.proofs.All.{_≡_, _∙_, now, length, take, needs}
 use Rattle.graph.specs.Component.{within, live}
 use Rattle.weights.specs.PowerTable.{tabled}
 use Rattle.component.proofs.LiveArcs.{linked-is}
 use Rattle.trace.proofs.StageTexts.{members-are}
-use borrow.Author.Needs.{needs}
 use Rattle.trace.proofs.stages.component_states.Statement.{statement}
 use Rattle.trace.proofs.stages.component_states.Tie as tie
 

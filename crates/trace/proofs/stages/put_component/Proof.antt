@@ -1,11 +1,9 @@
 -- `put_component` meets its contract: its parts are put in a row.
 -- Assumes nothing.
-use mathlib.Core.Path.{ap}
-use mathlib.Core.List.{_++_}
+use Rattle.laws.proofs.All.{ap, _++_, needs}
 use Rattle.text.specs.Texts.{bytes, decimal}
 use Rattle.text.proofs.Adding.{added-same, _then_}
 use Rattle.trace.specs.Lines.{componentLine}
-use borrow.Author.Needs.{needs}
 use Rattle.trace.proofs.stages.put_component.Statement.{statement}
 use Rattle.trace.proofs.stages.put_component.Tie as tie
 

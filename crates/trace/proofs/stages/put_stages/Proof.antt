@@ -1,8 +1,6 @@
 -- `put_stages` meets its contract: each return follows the checks of compiling, in document 01's order.
 -- Assumes nothing.
-use mathlib.Core.Path.{_≡_, sym, ap, ap₂, _∙_}
-use native.Mathlib.Omega.{arith}
-use lib.ListN.{getD, take}
+use Rattle.laws.proofs.All.{_≡_, sym, ap, ap₂, _∙_, arith, getD, take}
 use Rattle.graph.specs.Component.{componentStates}
 use Rattle.component.specs.ComponentParts.{FoundIn}
 use Rattle.compiler.specs.Compile.{graphOf, weightsOf}

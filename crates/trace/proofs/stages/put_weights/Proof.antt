@@ -3,7 +3,7 @@
 use Rattle.text.specs.Texts.{bytes}
 use Rattle.text.proofs.Adding.{_then_}
 use Rattle.trace.specs.Lines.{weightsLine}
-use borrow.Author.Needs.{needs}
+use Rattle.laws.proofs.All.{needs}
 use Rattle.trace.proofs.stages.put_weights.Statement.{statement}
 use Rattle.trace.proofs.stages.put_weights.Tie as tie
 

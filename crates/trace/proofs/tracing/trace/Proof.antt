@@ -1,10 +1,9 @@
 -- `trace` meets its contract: the steps, and then what compiling comes to.
 -- Assumes nothing.
-use mathlib.Core.Path.{ap, _∙_}
+use Rattle.laws.proofs.All.{ap, _∙_, needs}
 use Rattle.text.proofs.Adding.{added-same, _then_}
 use Rattle.trace.specs.Lines.{ending}
 use Rattle.trace.specs.Traced.{traced}
-use borrow.Author.Needs.{needs}
 use Rattle.trace.proofs.tracing.trace.Statement.{statement}
 use Rattle.trace.proofs.tracing.trace.Tie as tie
 

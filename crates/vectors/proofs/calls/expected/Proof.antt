@@ -1,11 +1,6 @@
 -- `expected` meets its contract: below the length the default does not matter.
 -- Assumes nothing.
-use mathlib.Core.Path.{sym}
-use native.Mathlib.Omega.{arith}
-use denote.Ref.{now}
-use lib.ListN.{List·getD-eq-default}
-use Rattle.laws.proofs.Lists.{getD-any}
-use borrow.Author.Needs.{needs}
+use Rattle.laws.proofs.All.{sym, arith, now, List·getD-eq-default, getD-any, needs}
 use Rattle.vectors.proofs.calls.expected.Statement.{statement}
 use Rattle.vectors.proofs.calls.expected.Tie as tie
 

@@ -1,8 +1,6 @@
 -- `is_same` meets its contract: number, value and output are compared.
 -- Assumes nothing.
-use mathlib.Core.Path.{sym, subst}
-use borrow.Author.Needs.{needs}
-use lib.Dec.{T}
+use Rattle.laws.proofs.All.{sym, subst, needs, T}
 use Rattle.vectors.specs.Comparing.{Same}
 use Rattle.vectors.proofs.calls.is_same.Statement.{statement}
 use Rattle.vectors.proofs.calls.is_same.Tie as tie

@@ -1,13 +1,7 @@
 -- `stands` meets its contract. The loop's invariant: the bytes passed are as expected. The measure is what is left of
 -- the bytes.
 -- Assumes nothing.
-use mathlib.Core.Path.{_≡_, sym, subst, _∙_}
-use Prim.Native.Nat.{ℕ, _-_, _≤_, _<_}
-use native.Mathlib.Omega.{arith}
-use borrow.Author.Count.{below-more}
-use borrow.Author.Needs.{needs}
-use lib.Dec.{T}
-use lib.ListN.{length, getD}
+use Rattle.laws.proofs.All.{_≡_, sym, subst, _∙_, ℕ, _-_, _≤_, _<_, arith, below-more, needs, T, length, getD}
 use Rattle.vectors.specs.Comparing.{Stands}
 use Rattle.vectors.proofs.calls.stands.Statement.{statement}
 use Rattle.vectors.proofs.calls.stands.Tie as tie

@@ -1,7 +1,6 @@
 -- `byte` meets its contract: a byte is below 256.
 -- Assumes nothing.
-use native.Mathlib.Omega.{arith}
-use borrow.Author.Needs.{needs}
+use Rattle.laws.proofs.All.{arith, needs}
 use Rattle.vectors.proofs.cases.byte.Statement.{statement}
 use Rattle.vectors.proofs.cases.byte.Tie as tie
 

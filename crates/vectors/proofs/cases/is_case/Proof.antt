@@ -1,10 +1,6 @@
 -- `is_case` meets its contract: the kind and the end are compared.
 -- Assumes nothing.
-use mathlib.Core.Path.{sym, subst}
-use native.Mathlib.Omega.{arith}
-use borrow.Author.Needs.{needs}
-use borrow.Author.Tests.{leb-true}
-use lib.Dec.{T}
+use Rattle.laws.proofs.All.{sym, subst, arith, needs, leb-true, T}
 use Rattle.vectors.specs.Cases.{Whole}
 use Rattle.vectors.proofs.cases.is_case.Statement.{statement}
 use Rattle.vectors.proofs.cases.is_case.Tie as tie

@@ -1,8 +1,6 @@
 -- `case_agrees` meets its contract: it answers true only behind its test of the kind.
 -- Assumes nothing.
-use mathlib.Core.Path.{sym, subst}
-use borrow.Author.Needs.{needs}
-use lib.Dec.{T}
+use Rattle.laws.proofs.All.{sym, subst, needs, T}
 use Rattle.vectors.proofs.walk.case_agrees.Statement.{statement}
 use Rattle.vectors.proofs.walk.case_agrees.Tie as tie
 

@@ -1,8 +1,6 @@
 -- `judge` meets its contract: the case is counted by its test.
 -- Assumes nothing.
-use mathlib.Core.Path.{sym, ap}
-use native.Mathlib.Omega.{arith}
-use borrow.Author.Needs.{needs}
+use Rattle.laws.proofs.All.{sym, ap, arith, needs}
 use Rattle.vectors.specs.Counting.{differs}
 use Rattle.vectors.proofs.walk.judge.Statement.{statement}
 use Rattle.vectors.proofs.walk.judge.Tie as tie

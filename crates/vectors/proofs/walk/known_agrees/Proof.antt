@@ -1,11 +1,6 @@
 -- `known_agrees` is safe: the parts of the case are lent to the call, and the room of the output.
 -- Assumes nothing.
-use mathlib.Core.Path.{sym}
-use Prim.Native.Nat.{_≤_}
-use native.Mathlib.Omega.{arith}
-use borrow.Author.Needs.{needs}
-use lib.ListN.{length}
-use lib.Seq.{length-take-le}
+use Rattle.laws.proofs.All.{sym, _≤_, arith, needs, length, length-take-le}
 use Rattle.vectors.proofs.walk.known_agrees.Statement.{statement}
 use Rattle.vectors.proofs.walk.known_agrees.Tie as tie
 

@@ -1,8 +1,6 @@
 -- `lent` meets its contract: as many bytes as the array repeats.
 -- Assumes nothing.
-use mathlib.Core.Path.{sym}
-use Prim.Native.Nat.{ℕ}
-use lib.ListN.{length-replicate}
+use Rattle.laws.proofs.All.{sym, ℕ, length-replicate}
 use Rattle.vectors.proofs.walk.lent.Statement.{statement}
 use Rattle.vectors.proofs.walk.lent.Tie as tie
 

@@ -1,7 +1,6 @@
 -- `step` meets its contract: the case is compared, judged and counted.
 -- Assumes nothing.
-use native.Mathlib.Omega.{arith}
-use borrow.Author.Needs.{needs}
+use Rattle.laws.proofs.All.{arith, needs}
 use Rattle.vectors.proofs.walk.step.Statement.{statement}
 use Rattle.vectors.proofs.walk.step.Tie as tie
 

@@ -1,10 +1,7 @@
 -- `walk` is safe. The loop's invariant: the place reached is within the file, the counts are small, and the case read
 -- there has its parts in order. The measure is what is left of the file.
 -- Assumes nothing.
-use Prim.Native.Nat.{_-_, _≤_, _<_}
-use native.Mathlib.Omega.{arith}
-use borrow.Author.Needs.{needs}
-use lib.ListN.{length}
+use Rattle.laws.proofs.All.{_-_, _≤_, _<_, arith, needs, length}
 use Rattle.vectors.specs.Cases.{Placed}
 use Rattle.vectors.specs.Counting.{Few}
 use Rattle.vectors.proofs.walk.walk.Statement.{statement}

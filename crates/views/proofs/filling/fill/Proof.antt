@@ -1,8 +1,7 @@
 -- `fill` meets its contract: the kit copies the whole text.
 -- Assumes nothing.
-use denote.Ref.{now}
+use Rattle.laws.proofs.All.{now, needs}
 use Rattle.views.proofs.Filled.{fill-short, fill-done}
-use borrow.Author.Needs.{needs}
 use Rattle.views.proofs.filling.fill.Statement.{statement}
 use Rattle.views.proofs.filling.fill.Tie as tie
 

@@ -1,10 +1,9 @@
 -- `list` meets its contract: the listing fits the bytes that it is put into, and fills the output.
 -- Assumes nothing.
-use denote.Ref.{now}
+use Rattle.laws.proofs.All.{now, needs}
 use Rattle.text.proofs.Adding.{added-whole}
 use Rattle.views.proofs.Filled.{fill-same}
 use Rattle.views.proofs.Listings.{listing-most, ready-small}
-use borrow.Author.Needs.{needs}
 use Rattle.views.proofs.listing.list.Statement.{statement}
 use Rattle.views.proofs.listing.list.Tie as tie
 

@@ -2,7 +2,7 @@
 -- Assumes nothing.
 use Rattle.text.proofs.Adding.{added-same, _then_}
 use Rattle.views.proofs.Listings.{entry-is}
-use borrow.Author.Needs.{needs}
+use Rattle.laws.proofs.All.{needs}
 use Rattle.views.proofs.listing.put_entry.Statement.{statement}
 use Rattle.views.proofs.listing.put_entry.Tie as tie
 

@@ -2,7 +2,7 @@
 -- Assumes nothing.
 use Rattle.text.proofs.Adding.{added-same, _then_}
 use Rattle.views.proofs.Listings.{listing-is}
-use borrow.Author.Needs.{needs}
+use Rattle.laws.proofs.All.{needs}
 use Rattle.views.proofs.listing.put_listing.Statement.{statement}
 use Rattle.views.proofs.listing.put_listing.Tie as tie
 

@@ -2,7 +2,7 @@
 -- Assumes nothing.
 use Rattle.text.proofs.Adding.{added-same}
 use Rattle.views.proofs.Behind.{plural-one, plural-more}
-use borrow.Author.Needs.{needs}
+use Rattle.laws.proofs.All.{needs}
 use Rattle.views.proofs.phrases.put_plural.Statement.{statement}
 use Rattle.views.proofs.phrases.put_plural.Tie as tie
 

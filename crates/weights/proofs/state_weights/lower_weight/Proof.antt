@@ -1,14 +1,7 @@
 -- The terms are summed over the states.
-use mathlib.Core.Path.{_≡_, ap, _∙_}
-use Prim.Native.Nat.{_+_, _-_, _*_, _/_, _≤_}
-use native.Mathlib.Omega.{arith}
-use denote.Ref.{now}
-use Rattle.laws.specs.Lists.{range}
-use Rattle.laws.specs.Sums.{tot}
+use Rattle.laws.proofs.All.{_≡_, ap, _∙_, _+_, _-_, _*_, _/_, _≤_, arith, now, range, tot, tot-more, needs}
 use Rattle.weights.specs.PowerTable.{termBy, lowerBy}
 use Rattle.weights.proofs.WeightRounds.{term-small}
-use Rattle.laws.proofs.Ranges.{tot-more}
-use borrow.Author.Needs.{needs}
 use Rattle.weights.proofs.state_weights.lower_weight.Statement.{statement}
 use Rattle.weights.proofs.state_weights.lower_weight.Tie as tie
 

@@ -1,10 +1,6 @@
 -- The new weights go into a fresh array, so that all are replaced together.
-use Prim.Native.Nat.{_-_, _≤_}
-use native.Mathlib.Omega.{arith}
-use denote.Ref.{now}
+use Rattle.laws.proofs.All.{_-_, _≤_, arith, now, Filled, fill-none, fill-more, needs}
 use Rattle.weights.specs.PowerTable.{lowerBy}
-use Rattle.laws.proofs.Arrays.{Filled, fill-none, fill-more}
-use borrow.Author.Needs.{needs}
 use Rattle.weights.proofs.state_weights.lower_weights.Statement.{statement}
 use Rattle.weights.proofs.state_weights.lower_weights.Tie as tie
 

@@ -1,10 +1,5 @@
 -- The weights are compared one by one.
-use mathlib.Core.Path.{_≡_}
-use Prim.Native.Nat.{ℕ, _-_, _≤_, _<_}
-use native.Mathlib.Omega.{arith}
-use borrow.Author.Count.{below-more}
-use lib.ListN.{getD}
-use borrow.Author.Needs.{needs}
+use Rattle.laws.proofs.All.{_≡_, ℕ, _-_, _≤_, _<_, arith, below-more, getD, needs}
 use Rattle.weights.proofs.state_weights.same_weights.Statement.{statement}
 use Rattle.weights.proofs.state_weights.same_weights.Tie as tie
 

@@ -1,14 +1,8 @@
 -- Rounds until nothing changes; further rounds change nothing, and K × cap rounds are always enough.
-use mathlib.Core.Path.{_≡_, refl, sym, subst}
-use Prim.Native.Nat.{_-_, _*_, _≤_}
-use native.Mathlib.Nat.{mul-le-mul}
-use native.Mathlib.Omega.{arith}
-use denote.Ref.{now}
-use lib.ListN.{length, getD, take}
+use Rattle.laws.proofs.All.{_≡_, refl, sym, subst, _-_, _*_, _≤_, mul-le-mul, arith, now, length, getD, take, needs}
 use Rattle.weights.specs.PowerTable.{tabled}
 use Rattle.weights.proofs.WeightRounds.{Round, round-start, round-more, round-still, round-end}
 use Rattle.weights.proofs.WeightRounds.{lowered-is, lower-le}
-use borrow.Author.Needs.{needs}
 use Rattle.weights.proofs.state_weights.state_weights.Statement.{statement}
 use Rattle.weights.proofs.state_weights.state_weights.Tie as tie
 

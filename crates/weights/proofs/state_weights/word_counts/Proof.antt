@@ -1,13 +1,8 @@
 -- Place x gets the count for state x / 16 and target x % 16.
-use Prim.Native.Nat.{_-_, _/_, _%_, _≤_}
-use native.Mathlib.Nat.{div-lt-iff-lt-mul, mod-lt}
-use native.Mathlib.Omega.{arith}
-use denote.Ref.{now}
-use lib.Dec.{lit<}
+use Rattle.laws.proofs.All.{_-_, _/_, _%_, _≤_, div-lt-iff-lt-mul, mod-lt, arith, now, lit<, Filled, fill-none}
+use Rattle.laws.proofs.All.{fill-more, needs}
 use Rattle.weights.specs.PowerTable.{wordCount}
-use Rattle.laws.proofs.Arrays.{Filled, fill-none, fill-more}
 use Rattle.weights.proofs.WeightRounds.{count-le}
-use borrow.Author.Needs.{needs}
 use Rattle.weights.proofs.state_weights.word_counts.Statement.{statement}
 use Rattle.weights.proofs.state_weights.word_counts.Tie as tie
 

@@ -1,12 +1,7 @@
 -- The words are tried one by one.
-use mathlib.Core.Path.{_≡_, sym, ap, _∙_}
-use mathlib.Core.Logic.{⊎-elim}
-use Prim.Native.Nat.{_-_, _≤_}
-use native.Mathlib.Omega.{arith}
-use denote.Ref.{now}
+use Rattle.laws.proofs.All.{_≡_, sym, ap, _∙_, ⊎-elim, _-_, _≤_, arith, now, needs}
 use Rattle.weights.specs.PowerTable.{wordCount}
 use Rattle.weights.proofs.WeightRounds.{count-none, count-yes, count-no}
-use borrow.Author.Needs.{needs}
 use Rattle.weights.proofs.state_weights.words_between.Statement.{statement}
 use Rattle.weights.proofs.state_weights.words_between.Tie as tie
 

@@ -1,13 +1,7 @@
 -- The places that the loop has passed hold no pair.
-use mathlib.Core.Path.{_≡_, refl, _∙_}
-use mathlib.Core.Bool.{false}
-use Prim.Native.Nat.{ℕ, _-_, _*_, _≤_, _<_}
-use native.Mathlib.Omega.{arith}
-use lib.ListN.{length, length-set}
-use Rattle.laws.specs.Sets.{member}
+use Rattle.laws.proofs.All.{_≡_, refl, _∙_, false, ℕ, _-_, _*_, _≤_, _<_, arith, length, length-set, member, needs}
 use Rattle.windows.specs.PairSets.{Long}
 use Rattle.windows.proofs.SetLaws.{set-more}
-use borrow.Author.Needs.{needs}
 use Rattle.windows.proofs.pair_sets.clear.Statement.{statement}
 use Rattle.windows.proofs.pair_sets.clear.Tie as tie
 

@@ -1,13 +1,7 @@
 -- The places that the loop has passed hold what those of the set hold.
-use mathlib.Core.Path.{_≡_, refl, _∙_}
-use Prim.Native.Nat.{ℕ, _-_, _*_, _≤_, _<_}
-use native.Mathlib.Omega.{arith}
-use denote.Ref.{now}
-use lib.ListN.{length, length-set}
-use Rattle.laws.specs.Sets.{member}
+use Rattle.laws.proofs.All.{_≡_, refl, _∙_, ℕ, _-_, _*_, _≤_, _<_, arith, now, length, length-set, member, needs}
 use Rattle.windows.specs.PairSets.{Long}
 use Rattle.windows.proofs.SetLaws.{set-more, copied}
-use borrow.Author.Needs.{needs}
 use Rattle.windows.proofs.pair_sets.copy.Statement.{statement}
 use Rattle.windows.proofs.pair_sets.copy.Tie as tie
 

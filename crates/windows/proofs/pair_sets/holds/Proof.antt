@@ -1,11 +1,5 @@
 -- The two answers of the test of the second state.
-use mathlib.Core.Path.{sym, ap}
-use mathlib.Core.Bool.{_&&_}
-use Prim.Native.Nat.{_%_}
-use borrow.Author.Tests.{lt-ltb, le-ltb}
-use denote.Ref.{now}
-use Rattle.laws.specs.Sets.{member}
-use borrow.Author.Needs.{needs}
+use Rattle.laws.proofs.All.{sym, ap, _&&_, _%_, lt-ltb, le-ltb, now, member, needs}
 use Rattle.windows.proofs.pair_sets.holds.Statement.{statement}
 use Rattle.windows.proofs.pair_sets.holds.Tie as tie
 

@@ -1,14 +1,9 @@
 -- The loop has found no pair at the places that it has passed.
-use mathlib.Core.Path.{_≡_, sym, ap, _∙_}
-use mathlib.Core.Bool.{true, false, not}
-use Prim.Native.Nat.{_-_, _*_, _≤_}
-use native.Mathlib.Omega.{arith}
-use denote.Ref.{now}
+use Rattle.laws.proofs.All.{_≡_, sym, ap, _∙_, true, false, not, _-_, _*_, _≤_, arith, now, needs}
 use Rattle.table.specs.Marks.{some}
 use Rattle.table.proofs.Marks.{none-start, none-more, some-stop}
 use Rattle.windows.specs.PairSets.{holdsAt}
 use Rattle.windows.proofs.SetLaws.{empty-of}
-use borrow.Author.Needs.{needs}
 use Rattle.windows.proofs.pair_sets.is_empty.Statement.{statement}
 use Rattle.windows.proofs.pair_sets.is_empty.Tie as tie
 

@@ -1,13 +1,8 @@
 -- The loop has found no place that differs among those that it has passed.
-use mathlib.Core.Path.{_≡_, sym, ap, _∙_}
-use mathlib.Core.Bool.{false, not}
-use Prim.Native.Nat.{_-_, _*_, _≤_}
-use native.Mathlib.Omega.{arith}
-use denote.Ref.{now}
+use Rattle.laws.proofs.All.{_≡_, sym, ap, _∙_, false, not, _-_, _*_, _≤_, arith, now, needs}
 use Rattle.table.specs.Marks.{some}
 use Rattle.table.proofs.Marks.{none-start, none-more, some-stop}
 use Rattle.windows.specs.PairSets.{differsAt}
-use borrow.Author.Needs.{needs}
 use Rattle.windows.proofs.pair_sets.same_pairs.Statement.{statement}
 use Rattle.windows.proofs.pair_sets.same_pairs.Tie as tie
 

@@ -1,8 +1,7 @@
 -- What two edges with one word lead to is the pairs that a clash leads to, where data differ.
-use denote.Ref.{now}
+use Rattle.laws.proofs.All.{now, needs}
 use Rattle.table.specs.Edges.{arrays}
 use Rattle.windows.proofs.TwoEdges.{hits-pairs}
-use borrow.Author.Needs.{needs}
 use Rattle.windows.proofs.pairs.clashes.Statement.{statement}
 use Rattle.windows.proofs.pairs.clashes.Tie as tie
 

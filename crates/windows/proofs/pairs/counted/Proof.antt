@@ -1,8 +1,6 @@
 -- The two answers of the test of a datum.
-use mathlib.Core.Path.{sym}
-use denote.Ref.{now}
+use Rattle.laws.proofs.All.{sym, now, needs}
 use Rattle.windows.proofs.Joins.{count-same, count-other}
-use borrow.Author.Needs.{needs}
 use Rattle.windows.proofs.pairs.counted.Statement.{statement}
 use Rattle.windows.proofs.pairs.counted.Tie as tie
 

@@ -1,8 +1,7 @@
 -- What two edges with one word lead to is one step forward.
-use denote.Ref.{now}
+use Rattle.laws.proofs.All.{now, needs}
 use Rattle.table.specs.Edges.{arrays}
 use Rattle.windows.proofs.TwoEdges.{step-pairs}
-use borrow.Author.Needs.{needs}
 use Rattle.windows.proofs.pairs.forward.Statement.{statement}
 use Rattle.windows.proofs.pairs.forward.Tie as tie
 

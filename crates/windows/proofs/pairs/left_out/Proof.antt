@@ -1,7 +1,5 @@
 -- The two answers by `apart`.
-use mathlib.Core.Path.{sym, ap}
-use Prim.Native.Nat.{_%_}
-use Rattle.laws.specs.Lists.{if_then_else_}
+use Rattle.laws.proofs.All.{sym, ap, _%_, if_then_else_}
 use Rattle.windows.proofs.pairs.left_out.Statement.{statement}
 use Rattle.windows.proofs.pairs.left_out.Tie as tie
 

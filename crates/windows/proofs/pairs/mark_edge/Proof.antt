@@ -1,17 +1,11 @@
 -- The loop goes along the chain of the word of i from its last edge to its first; what is left to mark is below `cur`.
-use mathlib.Core.Path.{_≡_, sym, ap, _∙_}
-use mathlib.Core.Bool.{true}
-use mathlib.Core.Logic.{⊎-elim}
-use Prim.Native.Nat.{_+_, _-_, _*_, _≤_, _<_}
-use native.Mathlib.Omega.{arith}
-use denote.Ref.{now}
-use lib.ListN.{length, getD}
+use Rattle.laws.proofs.All.{_≡_, sym, ap, _∙_, true, ⊎-elim, _+_, _-_, _*_, _≤_, _<_, arith, now, length, getD}
+use Rattle.laws.proofs.All.{needs}
 use Rattle.table.specs.Edges.{Arrays, arrays, nextOf, bears, lastBelow}
 use Rattle.table.proofs.Marks.{Left, left-start, left-jump, left-put, left-skip, left-done}
 use Rattle.table.proofs.Edges.{bears-edge, link-below, on-le, on-bears, on-some}
 use Rattle.windows.specs.PairSets.{joins}
 use Rattle.windows.proofs.Joins.{edge-target, join-in, join-out, join-only}
-use borrow.Author.Needs.{needs}
 use Rattle.windows.proofs.pairs.mark_edge.Statement.{statement}
 use Rattle.windows.proofs.pairs.mark_edge.Tie as tie
 

@@ -1,18 +1,11 @@
 -- Each turn marks where one edge and those with its word lead; before the first no pair is marked.
-use mathlib.Core.Path.{_≡_, ap, ap₂, _∙_}
-use mathlib.Core.Bool.{false, _||_}
-use mathlib.Core.Logic.{⊎-elim}
-use Prim.Native.Nat.{ℕ, _-_, _*_, _≤_, _<_}
-use native.Mathlib.Omega.{arith}
-use borrow.Author.Tests.{lt-ltb}
-use denote.Ref.{now}
-use Rattle.laws.specs.Sets.{member}
+use Rattle.laws.proofs.All.{_≡_, ap, ap₂, _∙_, false, _||_, ⊎-elim, ℕ, _-_, _*_, _≤_, _<_, arith, lt-ltb, now}
+use Rattle.laws.proofs.All.{member, needs}
 use Rattle.table.specs.Marks.{some, Marked}
 use Rattle.table.specs.Edges.{arrays}
 use Rattle.table.proofs.Marks.{mark-none, mark-skip, mark-row}
 use Rattle.windows.specs.PairSets.{Long, joins, joinsAny}
 use Rattle.windows.proofs.Joins.{turn-taken, turn-left}
-use borrow.Author.Needs.{needs}
 use Rattle.windows.proofs.pairs.step_pairs.Statement.{statement}
 use Rattle.windows.proofs.pairs.step_pairs.Tie as tie
 
