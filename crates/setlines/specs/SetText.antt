@@ -1,12 +1,13 @@
 -- What is printed of a good set: a line for each record, and how many there are.
 -- In order: placeText, kindText, recordLine; recordText, linesTo, setText.
 -- Assumes nothing.
-use mathlib.Core.List.{List, [], _++_, map}
+use mathlib.Core.List.{List, [], _∷_, _++_, map}
 use Prim.Native.Nat.{ℕ}
 use lib.ListN.{length, take, drop}
 use Rattle.laws.specs.Lists.{range, concat}
 use Rattle.text.specs.Texts.{bytes}
 use Rattle.text.specs.Words.{told}
+use Rattle.sentences.specs.Sentences.{said}
 use Rattle.answer.specs.Outcomes.{Outcome, done, refused}
 use Rattle.table.specs.Rows.{Code}
 use Rattle.checker.specs.Parse.{parse}
@@ -15,13 +16,12 @@ use Rattle.sets.specs.declared.Place.the-variants.{At, Nowhere}
 use Rattle.sets.specs.Offsets.{recordPlace}
 
 -- the number of a record, its first byte and its length
-unfoldable pub placeText : ℕ → ℕ → ℕ → List ℕ
-placeText i start len = told "record " i ++ told " at byte " start ++ told ", " len ++ bytes " bytes: "
+abbrev pub placeText : ℕ → ℕ → ℕ → List ℕ
+placeText i start len = said "record # at byte #, # bytes: " (i ∷ start ∷ len ∷ [])
 
 -- p, q, states, m and a of a code
-unfoldable pub kindText : ℕ → ℕ → ℕ → ℕ → ℕ → List ℕ
-kindText p q states m a =
-    told "p " p ++ told ", q " q ++ told ", " states ++ told " states, m " m ++ told ", a " a ++ bytes "\n"
+abbrev pub kindText : ℕ → ℕ → ℕ → ℕ → ℕ → List ℕ
+kindText p q states m a = said "p #, q #, # states, m #, a #\n" (p ∷ q ∷ states ∷ m ∷ a ∷ [])
 
 -- a record at a place, if it is good
 abbrev pub recordLine : ℕ → ℕ → ℕ → Outcome Code → List ℕ

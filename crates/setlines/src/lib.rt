@@ -7,6 +7,7 @@ ghost use Rattle.text.specs.Texts.{Added};
 ghost use Rattle.checker.specs.Parse.{parse};
 ghost use Rattle.setlines.specs.SetText.{placeText, kindText, recordLine, recordText, linesTo, setText};
 use answer::Verdict;
+use sentences::put_sentence;
 use sets::Place;
 use sets::walking::find;
 use text::put;
@@ -16,10 +17,7 @@ use text::put_number;
 fn put_place(out: &mut [u8], at: usize, i: usize, start: usize, len: usize) -> usize
     ensures written { λ e. ⌜ Added (placeText i start len) at (now (out .entry)) (now (out .exit)) e ⌝ }
 {
-    let a = put_number(out, at, b"record ", i as u64);
-    let b = put_number(out, a, b" at byte ", start as u64);
-    let c = put_number(out, b, b", ", len as u64);
-    put(out, c, b" bytes: ")
+    put_sentence(out, at, b"record # at byte #, # bytes: ", &[i, start, len])
 }
 
 // p, q, states, m and a of a code.
@@ -34,12 +32,12 @@ fn put_kind(
 ) -> usize
     ensures written { λ e. ⌜ Added (kindText p q states m a) at (now (out .entry)) (now (out .exit)) e ⌝ }
 {
-    let one = put_number(out, at, b"p ", p as u64);
-    let two = put_number(out, one, b", q ", q as u64);
-    let three = put_number(out, two, b", ", states as u64);
-    let four = put_number(out, three, b" states, m ", m as u64);
-    let five = put_number(out, four, b", a ", a as u64);
-    put(out, five, b"\n")
+    put_sentence(
+        out,
+        at,
+        b"p #, q #, # states, m #, a #\n",
+        &[p, q, states, m, a],
+    )
 }
 
 // The record that stands at a place.
