@@ -15,19 +15,8 @@ use Rattle.graph.specs.declared.NextGraph.{NextGraph}
 use Rattle.reach.specs.declared.reaching.Members.{Members}
 use Rattle.graph.specs.Arcs.{Arc, arc, leadsOn}
 use Rattle.graph.specs.Splitting.{crowded}
-use Rattle.graph.specs.Component.{
-  both,
-  within,
-  renamed,
-  renumbered,
-  reachings,
-  reaches,
-  returning,
-  live,
-  weightOf,
-  componentStates,
-  componentGraph,
-}
+use Rattle.graph.specs.Component.{both, within, renamed, renumbered, reachings, reaches, returning, live, weightOf}
+use Rattle.graph.specs.Component.{componentStates, componentGraph}
 use Rattle.graph.specs.Value.{arcAt, arcsIn, weightsIn, workIn}
 use Rattle.weights.specs.PowerTable.{entryAt, wordAt, wordsAt, tabled, Powers}
 use Rattle.reach.specs.ReachSets.{rowsOf, Listed}

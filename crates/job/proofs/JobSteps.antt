@@ -3,8 +3,8 @@
 -- job-good; run-length-size, run-length-parameters, run-length-range, run-length-good; ready-of,
 -- job-ready, run-length-ready.
 -- Assumes nothing.
-use Rattle.laws.proofs.All.{_≡_, refl, sym, ap, ap₂, subst, _∙_, Bool, true, false, _&&_, List, [], _∷_, map, ℕ}
-use Rattle.laws.proofs.All.{zero, suc, _+_, _*_, _≤_, arith, T, leb, eqb, leb→le, length, getD, drop, getD-drop}
+use Rattle.laws.proofs.All.{_≡_, refl, sym, ap, ap₂, subst, _∙_, Bool, true, false, _&&_, List, _∷_, map, ℕ, zero}
+use Rattle.laws.proofs.All.{suc, _+_, _*_, _≤_, arith, T, leb, eqb, leb→le, length, getD, drop, getD-drop}
 use Rattle.laws.proofs.All.{drop-drop, all, from, range, and→}
 use Rattle.answer.specs.declared.Refusal.{Refusal}
 use Rattle.answer.specs.declared.Refusal.the-variants.{Parameters, States, Length}

@@ -1,11 +1,11 @@
 -- Jobs that are read are allowed: their numbers are in range and their next states are states or none.
 -- In order: parameters; length-statesOf; states-well; readJob-allowed; readRunLength-allowed.
 -- Assumes nothing.
-use Rattle.laws.proofs.All.{_≡_, refl, sym, ap, subst, _∙_, _⊎_, inl, inr, Bool, _&&_, _||_, List, [], _∷_, ℕ, zero}
-use Rattle.laws.proofs.All.{suc, _+_, _*_, _≤_, _<_, arith, T, ltb, leb, eqb, ltb→lt, leb→le, eqb→eq, length, getD}
-use Rattle.laws.proofs.All.{drop, all, Each, and→, or→, each-map, all-each}
+use Rattle.laws.proofs.All.{_≡_, refl, ap, subst, inl, inr, _&&_, List, ℕ, zero, suc, _+_, _*_, _≤_, arith, T, ltb}
+use Rattle.laws.proofs.All.{leb, eqb, ltb→lt, leb→le, eqb→eq, length, getD, drop, all, and→, or→, each-map}
+use Rattle.laws.proofs.All.{all-each}
 use Rattle.answer.specs.declared.Refusal.the-variants.{Parameters, States, Length}
-use Rattle.answer.specs.Outcomes.{Outcome, done, unless}
+use Rattle.answer.specs.Outcomes.{done, unless}
 use Rattle.answer.proofs.Outcomes.{done-inj, unless→}
 use Rattle.constraint.specs.Walking.{NextStates, Constraint, none, runLength, Target, Well}
 use Rattle.constraint.proofs.Walking.{length-runLength, runLength-well}

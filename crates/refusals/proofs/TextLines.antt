@@ -1,9 +1,9 @@
 -- The lines of a text, byte by byte.
 -- In order: end-here, end-on, end-none; drop-least; rest-next.
 -- Assumes nothing.
-use Rattle.laws.proofs.All.{_≡_, refl, sym, ap, _∙_, cond, List, ℕ, suc, _+_, _≤_, _<_, min, min-eq-left}
-use Rattle.laws.proofs.All.{min-eq-right, add-one, arith, decLe, eq-eqb, ne-eqb, length, getD, drop}
-use Rattle.laws.proofs.All.{drop-of-length-le, drop-cons, drop-drop}
+use Rattle.laws.proofs.All.{_≡_, sym, ap, _∙_, List, ℕ, suc, _+_, _≤_, _<_, min, min-eq-left, min-eq-right, add-one}
+use Rattle.laws.proofs.All.{arith, decLe, eq-eqb, ne-eqb, length, getD, drop, drop-of-length-le, drop-cons}
+use Rattle.laws.proofs.All.{drop-drop}
 use Rattle.refusals.specs.TextLines.{lineEnd, rest}
 
 module _ (xs : List ℕ) (i : ℕ) where

@@ -1,8 +1,9 @@
 -- A sentence grows by what stands for the next byte of its pattern.
 -- In order: used; sentence-more, used-more; sentence-next, used-next, along the pattern; used-le, used-fits.
 -- Assumes nothing.
-use Rattle.laws.proofs.All.{_≡_, refl, sym, ap, _∙_, List, [], _∷_, _++_, append-assoc, append-nil, ℕ, _+_, _≤_, arith}
-use Rattle.laws.proofs.All.{_<_, suc, length, length-take-le, take, drop, getD, getD-drop, take-suc, Bool, true, false, eqb, if_then_else_}
+use Rattle.laws.proofs.All.{_≡_, sym, ap, _∙_, Bool, true, false, List, [], _∷_, _++_, append-assoc, append-nil}
+use Rattle.laws.proofs.All.{ℕ, suc, _+_, _≤_, _<_, arith, eqb, length, take, drop, getD, length-take-le, getD-drop}
+use Rattle.laws.proofs.All.{take-suc, if_then_else_}
 use Rattle.sentences.specs.Sentences.{shown, takes, sentence}
 
 -- how many numbers a pattern takes

@@ -1,11 +1,11 @@
 -- The fewest digits that hold a number are as many as it has; and how many that can be.
 -- In order: Sized, size-sized; fewest-size; decimal-is, hex-is; decimal-long, decimal-short.
 -- Assumes nothing.
-use Rattle.laws.proofs.All.{_≡_, refl, sym, ap, subst, _∙_, Bool, true, false, List, [], _∷_, ℕ, zero, suc, _+_}
-use Rattle.laws.proofs.All.{_*_, _-_, _/_, _%_, _^_, _≤_, _<_, min, max, pow-suc, pow-zero, pow-le-pow-right}
-use Rattle.laws.proofs.All.{le-div-iff-mul-le, div-lt-iff-lt-mul, max-eq-left, max-eq-right, one-mul, le-max-right}
-use Rattle.laws.proofs.All.{min-eq-left, min-eq-right, arith, decLt, decLe, ltb-true, ltb-false, ltb, length}
-use Rattle.laws.proofs.All.{length-append, if_then_else_}
+use Rattle.laws.proofs.All.{_≡_, refl, sym, ap, subst, _∙_, Bool, true, false, [], _∷_, ℕ, zero, suc, _*_, _-_, _/_}
+use Rattle.laws.proofs.All.{_%_, _^_, _≤_, _<_, min, max, pow-suc, pow-zero, pow-le-pow-right, le-div-iff-mul-le}
+use Rattle.laws.proofs.All.{div-lt-iff-lt-mul, max-eq-left, max-eq-right, one-mul, le-max-right, min-eq-left}
+use Rattle.laws.proofs.All.{min-eq-right, arith, decLt, decLe, ltb-true, ltb-false, ltb, length, length-append}
+use Rattle.laws.proofs.All.{if_then_else_}
 use Rattle.io.specs.Digits.{glyph, digits, Fewest}
 use Rattle.text.specs.Texts.{size, decimal, hex}
 

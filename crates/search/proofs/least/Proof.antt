@@ -59,12 +59,6 @@ stop-of-requires c κs =
     let a = c .before .before .before .before .before in
     lead-small (rowsOf (table (a .before .before))) (a .loop .m + 1) _ (omega arith) (c .try-memory .ensures .0)
 
-stop-at-requires : tie.Need-stop-at-requires Inv-loop μ-loop
-stop-at-requires c κs =
-    let b = c .before .before .before in
-    let a = b .before .before .before .before .before in
-    (a .before .before .pre, a .loop .inv .4, b .try-memory .ensures .1 .1)
-
 loop-again : tie.Need-loop-again Inv-loop μ-loop
 loop-again c =
     let o = c .before .before .before in
@@ -88,12 +82,9 @@ loop-again c =
       c .stop-at .ensures .1 .1 .1,
     )
 
-returns : tie.Need-returns Inv-loop μ-loop
-returns c = c .before .loop .inv .3 (c .loop-test .left)
-
 pub least-spec : {M : Type 1} → statement M
 least-spec =
     tie.close
     (tie.spec
     Inv-loop μ-loop (λ c κs. search needs) loop-holds try-memory-requires (λ c. search needs) stop-of-requires
-    stop-at-requires (λ c. search needs) loop-again returns)
+    (λ c κs. search needs) (λ c. search needs) loop-again (λ c. c .before .loop .inv .3 (c .loop-test .left)))

@@ -36,20 +36,11 @@ gone c =
     subst (λ H. Emptied t H (r .lookahead-limit .result) (c .lookahead-needed .result))
     (r .before .clashes .ensures .1 ∙ ap (hits t) (start c .pre .3)) (c .lookahead-needed .ensures .0)
 
-clashes-requires : tie.Need-clashes-requires
-clashes-requires c κs = (c .before .pre .0, c .before .pre .5)
-
 lookahead-limit-requires : tie.Need-lookahead-limit-requires
 lookahead-limit-requires c κs =
     let s = c .before .before in
     let b = lead-small (rowsOf (table s)) (s .args .m) (best s) (omega (arith, s .pre .1)) (s .pre .4) in
     (s .pre .1, b .0, b .1, s .pre .2)
-
-lookahead-needed-requires : tie.Need-lookahead-needed-requires
-lookahead-needed-requires c κs =
-    let r = c .before .before in
-    let s = r .before .before .before in
-    (s .pre .0, r .lookahead-limit .ensures .small, r .before .clashes .ensures .0, s .pre .6)
 
 returns : tie.Need-returns
 returns c =
@@ -81,4 +72,4 @@ returns-2 c =
 
 pub try-memory-spec : {M : Type 1} → statement M
 try-memory-spec =
-    tie.close (tie.spec clashes-requires lookahead-limit-requires lookahead-needed-requires returns returns-2)
+    tie.close (tie.spec (λ c κs. search needs) lookahead-limit-requires (λ c κs. search needs) returns returns-2)

@@ -17,6 +17,9 @@ Inv-loop out₀ at pattern numbers end₀ i₀ k₀ out end i k =
 abbrev μ-loop : tie.MeasureT-loop
 μ-loop out₀ at pattern numbers end₀ i₀ k₀ out end i k = length pattern - i
 
+abbrev start : tie.At-loop Inv-loop μ-loop → tie.Start Inv-loop μ-loop
+start l = l .before .before .before .before .before .before .before .before .before
+
 loop-holds : tie.Need-loop-holds Inv-loop μ-loop
 loop-holds c = (omega arith, refl, begun (c .before .before .put .ensures))
 
@@ -24,40 +27,36 @@ add-k : tie.Need-add-k Inv-loop μ-loop
 add-k c =
     let x = c .before .before .before .before .before .before .before in
     let l = x .before .loop in
-    let a = c .before .before .before .before .before .before .before .before .before .before .before .before .before
-    .before .before .before .before .args in
-    let u = used-fits (now (a .pattern)) (l .i) (l .k) (x .loop-test .taken) (l .inv .1) (c .takes .result)
+    let u = used-fits (now (start (x .before) .args .pattern)) (l .i) (l .k) (x .loop-test .taken) (l .inv .1) (c .takes .result)
     (c .takes .ensures) in
     omega arith
-
-loop-less : tie.Need-loop-less Inv-loop μ-loop
-loop-less c = search needs
 
 loop-again : tie.Need-loop-again Inv-loop μ-loop
 loop-again c =
     let f = c .before .before .before in
-    let x = c .before .before .before .before .before .before .before in
+    let x = f .before .before .before .before in
     let l = x .before .loop in
-    let a = c .before .before .before .before .before .before .before .before .before .before .before .before .before
-    .before .before .before .before .args in
-    let p = now (a .pattern) in
-    let h = x .loop-test .taken in (
+    let p = now (start (x .before) .args .pattern) in
+    let h = x .loop-test .taken in
+    let n = now (start (x .before) .args .numbers) in (
       omega arith,
       used-next p (l .i) (l .k) h (l .inv .1) _ (c .takes .ensures),
-      added-same (sentence-next p (l .i) (l .k) h (l .inv .1) (now (a .numbers)) _ (f .before .before .number-at .ensures))
+      added-same (sentence-next p (l .i) (l .k) h (l .inv .1) n _ (f .before .before .number-at .ensures))
           (l .inv .2 then f .put-shown .ensures),
     )
 
 returns : tie.Need-returns Inv-loop μ-loop
 returns c =
     let l = c .before .loop in
-    let all = take-all (l .i) (now (c .before .before .before .before .before .before .before .before .before .before .args .pattern)) (omega arith) in
-    added-same (ap (λ p. sentence p (now (c .before .before .before .before .before .before .before .before .before .before .args .numbers))) all) (c .before .before .before .before .put .ensures then l .inv .2)
+    let a = start (c .before) .args in
+    let all = take-all (l .i) (now (a .pattern)) (omega arith) in
+    added-same (ap (λ p. sentence p (now (a .numbers))) all)
+    (c .before .before .before .before .put .ensures then l .inv .2)
 
 pub put-sentence-spec : {M : Type 1} → statement M
 put-sentence-spec =
     tie.close
     (tie.spec
     Inv-loop μ-loop (λ c. search needs) (λ c κs. search needs) loop-holds (λ c. search needs) (λ c κs. search needs)
-    (λ c κs. search needs) (λ c κs. search needs) add-k (λ c. search needs) loop-less loop-again (λ c. search needs)
+    (λ c κs. search needs) (λ c κs. search needs) add-k (λ c. search needs) (λ c. search needs) loop-again (λ c. search needs)
     returns)

@@ -12,12 +12,6 @@ Inv-loop file bytes done₀ done = (done ≤ length bytes) × (length bytes < 2 
 abbrev μ-loop : tie.MeasureT-loop
 μ-loop file bytes done₀ done = length bytes - done
 
-loop-holds : tie.Need-loop-holds Inv-loop μ-loop
-loop-holds c = (omega arith, omega arith)
-
-part-write-some-end : tie.Need-part-write-some-end Inv-loop μ-loop
-part-write-some-end c = omega arith
-
 -- what one more write takes
 taken : (c : tie.Else1 Inv-loop μ-loop)
     → c .before .before .before .before .loop .done + c .before .write-some .result
@@ -29,28 +23,9 @@ taken c =
     let i = l .loop .inv .0 in
     omega (arith, w .write-some .ensures)
 
-add-done : tie.Need-add-done Inv-loop μ-loop
-add-done c = omega (arith, taken c)
-
-loop-less : tie.Need-loop-less Inv-loop μ-loop
-loop-less c = omega (arith, taken c)
-
-loop-again : tie.Need-loop-again Inv-loop μ-loop
-loop-again c = (taken c, c .before .before .before .before .loop .inv .1)
-
 pub write-bytes-spec : {M : Type 1} → statement M
 write-bytes-spec =
     tie.close
     (tie.spec
-    Inv-loop
-    μ-loop
-    loop-holds
-    (λ c. search needs)
-    (λ c. search needs)
-    part-write-some-end
-    (λ c κs. search needs)
-    (λ c. omega arith)
-    add-done
-    loop-less
-    loop-again
-    (λ c. omega arith))
+    Inv-loop μ-loop (λ c. search needs) (λ c. search needs) (λ c. search needs) (λ c. search needs) (λ c κs. search
+    needs) (λ c. omega arith) (λ c. search needs) (λ c. search needs) (λ c. search needs) (λ c. omega arith))

@@ -1,6 +1,6 @@
 -- `is_same` meets its contract: the answer of the kit's test is true exactly of the same text.
 -- Assumes nothing.
-use Rattle.laws.proofs.All.{now, needs}
+use Rattle.laws.proofs.All.{needs}
 use Rattle.text.proofs.Words.{same-is}
 use Rattle.text.proofs.is_same.Statement.{statement}
 use Rattle.text.proofs.is_same.Tie as tie

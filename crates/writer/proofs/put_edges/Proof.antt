@@ -158,9 +158,6 @@ loop-again c =
           (l .loop .inv .2) (b .put-low .ensures .0) (d .put-low2 .ensures .0),
     )
 
-same-length : tie.Need-same-length Inv-loop μ-loop
-same-length c = c .before .loop .inv .1
-
 returns : tie.Need-returns Inv-loop μ-loop
 returns c =
     let l = c .before in
@@ -180,4 +177,4 @@ put-edges-spec =
     (tie.spec
     Inv-loop μ-loop (λ c κs. search needs) mul-edges loop-holds div-i mul-i rem-i add-i (λ c. search needs) mul-at
     add-at-2 element-copy-out-put-low (λ c. search needs) put-low-requires add-put-low element-copy-out-put-low-2
-    cast-put-low-2 put-low-requires-2 add-e (λ c. search needs) loop-again same-length returns)
+    cast-put-low-2 put-low-requires-2 add-e (λ c. search needs) loop-again (λ c. search needs) returns)

@@ -7,8 +7,7 @@ use Rattle.bits.specs.Fields.{bitsOf}
 use Rattle.bits.proofs.Runs.{size-holds}
 use Rattle.table.specs.Formed.{head}
 use Rattle.table.specs.Value.{codeIn}
-use Rattle.record.specs.Layout.{headerBits, stateSize}
-use Rattle.record.specs.Layout.{bitCount, size}
+use Rattle.record.specs.Layout.{headerBits, stateSize, bitCount, size}
 use Rattle.table.specs.Value.{tableHead}
 use Rattle.record.specs.Parts.{frontBits}
 use Rattle.record.specs.Places.{Small}

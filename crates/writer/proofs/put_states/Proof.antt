@@ -25,20 +25,6 @@ loop-holds c =
     let a = c .before .args in
     (omega arith, refl, states-begin (a .t2) (bitsOf (now (a .out))) headerBits)
 
-element-copy-out-put-next : tie.Need-element-copy-out-put-next Inv-loop μ-loop
-element-copy-out-put-next c = omega arith
-
-put-next-requires : tie.Need-put-next-requires Inv-loop μ-loop
-put-next-requires c κs = omega arith
-
-element-copy-out-put-next-2 : tie.Need-element-copy-out-put-next-2 Inv-loop μ-loop
-element-copy-out-put-next-2 c = omega arith
-
-put-next-requires-2 : tie.Need-put-next-requires-2 Inv-loop μ-loop
-put-next-requires-2 c κs =
-    let b = c .before .before .before .before in
-    omega (arith, b .put-next .ensures .1)
-
 loop-again : tie.Need-loop-again Inv-loop μ-loop
 loop-again c =
     let d = c .before .before in
@@ -54,9 +40,6 @@ loop-again c =
           (l .loop .inv .2) (b .put-next .ensures .0) (d .put-next2 .ensures .0),
     )
 
-same-length : tie.Need-same-length Inv-loop μ-loop
-same-length c = c .before .loop .inv .1
-
 returns : tie.Need-returns Inv-loop μ-loop
 returns c =
     let l = c .before in
@@ -71,6 +54,6 @@ pub put-states-spec : {M : Type 1} → statement M
 put-states-spec =
     tie.close
     (tie.spec
-    Inv-loop μ-loop loop-holds (λ c. search needs) (λ c. search needs) element-copy-out-put-next put-next-requires
-    (λ c. search needs) (λ c. search needs) (λ c. search needs) element-copy-out-put-next-2 put-next-requires-2
-    (λ c. search needs) (λ c. search needs) loop-again same-length returns)
+    Inv-loop μ-loop loop-holds (λ c. search needs) (λ c. search needs) (λ c. search needs) (λ c κs. search needs) (λ
+    c. search needs) (λ c. search needs) (λ c. search needs) (λ c. search needs) (λ c κs. search needs) (λ c. search
+    needs) (λ c. search needs) loop-again (λ c. search needs) returns)

@@ -1,5 +1,5 @@
 -- The bytes passed are below n; the first that is not ends the loop.
-use Rattle.laws.proofs.All.{_≡_, sym, ap, _∙_, _+_, _-_, _≤_, zero-add, add-zero, arith, now, length, drop, needs}
+use Rattle.laws.proofs.All.{_≡_, sym, ap, _∙_, _+_, _-_, _≤_, add-zero, arith, now, length, drop, needs}
 use Rattle.answer.specs.FirstBad.{firstBad}
 use Rattle.answer.proofs.FirstBad.{bad-here, bad-later, bad-end}
 use Rattle.answer.proofs.bytes.find_bad.Statement.{statement}
@@ -11,9 +11,6 @@ Inv-loop bytes n i₀ i =
 
 abbrev μ-loop : tie.MeasureT-loop
 μ-loop bytes n i₀ i = length bytes - i
-
-loop-holds : tie.Need-loop-holds Inv-loop μ-loop
-loop-holds c = (omega arith, sym (zero-add _))
 
 cast-if1 : tie.Need-cast-if1 Inv-loop μ-loop
 cast-if1 c = omega (arith, c .shared-slice-known .given (c .before .before .loop .i))
@@ -41,5 +38,5 @@ pub find-bad-spec : {M : Type 1} → statement M
 find-bad-spec =
     tie.close
     (tie.spec
-    Inv-loop μ-loop loop-holds (λ c. search needs) cast-if1 returns (λ c. search needs) (λ c. search needs)
+    Inv-loop μ-loop (λ c. search needs) (λ c. search needs) cast-if1 returns (λ c. search needs) (λ c. search needs)
     loop-again returns-2)

@@ -1,6 +1,5 @@
 -- The bytes passed are below every bound above `top`.
-use Rattle.laws.proofs.All.{_≡_, sym, ap, _∙_, ℕ, _+_, _-_, _≤_, _<_, zero-add, add-zero, arith, now, length, drop}
-use Rattle.laws.proofs.All.{needs}
+use Rattle.laws.proofs.All.{_≡_, sym, ap, _∙_, ℕ, _+_, _-_, _≤_, _<_, add-zero, arith, now, length, drop, needs}
 use Rattle.answer.specs.FirstBad.{firstBad}
 use Rattle.answer.proofs.FirstBad.{bad-later, bad-end}
 use Rattle.answer.proofs.bytes.greatest.Statement.{statement}
@@ -12,9 +11,6 @@ Inv-loop bytes top₀ i₀ top i =
 
 abbrev μ-loop : tie.MeasureT-loop
 μ-loop bytes top₀ i₀ top i = length bytes - i
-
-loop-holds : tie.Need-loop-holds Inv-loop μ-loop
-loop-holds c = (omega arith, λ n h. sym (zero-add _))
 
 loop-again : tie.Need-loop-again Inv-loop μ-loop
 loop-again c =
@@ -42,5 +38,5 @@ pub greatest-spec : {M : Type 1} → statement M
 greatest-spec =
     tie.close
     (tie.spec
-    Inv-loop μ-loop loop-holds (λ c. search needs) (λ c κs. search needs) (λ c. search needs) (λ c. search needs)
-    loop-again returns)
+    Inv-loop μ-loop (λ c. search needs) (λ c. search needs) (λ c κs. search needs) (λ c. search needs) (λ c. search
+    needs) loop-again returns)

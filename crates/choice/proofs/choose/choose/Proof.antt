@@ -10,15 +10,6 @@ Inv-loop m g best₀ n i₀ best i = (i ≤ n) × (n ≡ g .edges) × Lowest (li
 abbrev μ-loop : tie.MeasureT-loop
 μ-loop m g best₀ n i₀ best i = n - i
 
-loop-holds : tie.Need-loop-holds Inv-loop μ-loop
-loop-holds c = (omega arith, refl, lowest-none _ _)
-
-element-copy-out-s : tie.Need-element-copy-out-s Inv-loop μ-loop
-element-copy-out-s c = omega (arith, c .before .before .pre .0 .room)
-
-element-copy-out-t : tie.Need-element-copy-out-t Inv-loop μ-loop
-element-copy-out-t c = omega (arith, c .before .before .before .pre .0 .room)
-
 element-copy-out-lower-source : tie.Need-element-copy-out-lower-source Inv-loop μ-loop
 element-copy-out-lower-source c =
     omega (
@@ -60,6 +51,6 @@ pub choose-spec : {M : Type 1} → statement M
 choose-spec =
     tie.close
     (tie.spec
-    Inv-loop μ-loop loop-holds element-copy-out-s (λ c. search needs) element-copy-out-t (λ c. search needs)
-    element-copy-out-lower-source element-copy-out-lower-source-2 (λ c κs. search needs) (λ c. search needs)
-    (λ c. search needs) loop-again returns)
+    Inv-loop μ-loop (λ c. (omega arith, refl, lowest-none _ _)) (λ c. search needs) (λ c. search needs)
+    (λ c. search needs) (λ c. search needs) element-copy-out-lower-source element-copy-out-lower-source-2
+    (λ c κs. search needs) (λ c. search needs) (λ c. search needs) loop-again returns)

@@ -13,9 +13,6 @@ Inv-loop g n m₀ i₀ m i =
 abbrev μ-loop : tie.MeasureT-loop
 μ-loop g n m₀ i₀ m i = n - i
 
-loop-holds : tie.Need-loop-holds Inv-loop μ-loop
-loop-holds c = (omega arith, refl, c .pre .few, refl)
-
 loop-again : tie.Need-loop-again Inv-loop μ-loop
 loop-again c =
     let l = c .before .before .before .loop in
@@ -35,5 +32,5 @@ pub greatest-weight-spec : {M : Type 1} → statement M
 greatest-weight-spec =
     tie.close
     (tie.spec
-    Inv-loop μ-loop loop-holds (λ c. search needs) (λ c. search needs) (λ c. search needs) (λ c. search needs)
-    loop-again returns)
+    Inv-loop μ-loop (λ c. search needs) (λ c. search needs) (λ c. search needs) (λ c. search needs) (λ c. search
+    needs) loop-again returns)

@@ -10,9 +10,6 @@ Inv-loop weight m n j₀ j = (j ≤ m) × Without n (take m weight) j
 abbrev μ-loop : tie.MeasureT-loop
 μ-loop weight m n j₀ j = m - j
 
-loop-holds : tie.Need-loop-holds Inv-loop μ-loop
-loop-holds c = (omega arith, λ v es e k h. absurd (omega arith))
-
 returns : tie.Need-returns Inv-loop μ-loop
 returns c =
     let a : length (c .before .before .before .before .before .args .weight) ≡ 16 = search needs in
@@ -44,5 +41,5 @@ pub first-run-spec : {M : Type 1} → statement M
 first-run-spec =
     tie.close
     (tie.spec
-    Inv-loop μ-loop loop-holds (λ c κs. search needs) returns (λ c. search needs) (λ c. search needs) loop-again
-    returns-2)
+    Inv-loop μ-loop (λ c. (omega arith, λ v es e k h. absurd (omega arith))) (λ c κs. search needs) returns
+    (λ c. search needs) (λ c. search needs) loop-again returns-2)

@@ -1,6 +1,6 @@
 -- The weights are summed from place j back, and the first sum that n divides is that of the shortest run.
 use Rattle.laws.proofs.All.{_≡_, _+_, _-_, _≤_, arith, length, take, needs}
-use Rattle.choice.proofs.RunSearch.{Summed, summed-none, summed-more, stretch-small, run-found, run-none}
+use Rattle.choice.proofs.RunSearch.{Summed, summed-more, stretch-small, run-found, run-none}
 use Rattle.choice.proofs.find_run.run_to.Statement.{statement}
 use Rattle.choice.proofs.find_run.run_to.Tie as tie
 
@@ -9,9 +9,6 @@ Inv-loop m n j weight total₀ i₀ total i = (i ≤ j + 1) × Summed n (take m 
 
 abbrev μ-loop : tie.MeasureT-loop
 μ-loop m n j weight total₀ i₀ total i = j + 1 - i
-
-loop-holds : tie.Need-loop-holds Inv-loop μ-loop
-loop-holds c = (omega arith, summed-none _ _ _)
 
 add-total : tie.Need-add-total Inv-loop μ-loop
 add-total c =
@@ -52,5 +49,5 @@ pub run-to-spec : {M : Type 1} → statement M
 run-to-spec =
     tie.close
     (tie.spec
-    Inv-loop μ-loop loop-holds (λ c. search needs) (λ c. search needs) add-total (λ c. search needs)
-    (λ c. search needs) returns (λ c. search needs) (λ c. search needs) loop-again returns-2)
+    Inv-loop μ-loop (λ c. search needs) (λ c. search needs) (λ c. search needs) add-total (λ c. search needs) (λ c.
+    search needs) returns (λ c. search needs) (λ c. search needs) loop-again returns-2)

@@ -5,10 +5,6 @@ use Rattle.component.proofs.AppendedRows.{added-none}
 use Rattle.component.proofs.component_graph.add_state.Statement.{statement}
 use Rattle.component.proofs.component_graph.add_state.Tie as tie
 
-add-words-requires : tie.Need-add-words-requires
-add-words-requires c κs =
-    (c .before .pre .0, c .before .pre .1, c .before .pre .2, c .if1 .taken, c .before .pre .3)
-
 returns : tie.Need-returns
 returns c =
     let p = c .before .before .args in
@@ -24,4 +20,4 @@ returns-2 c =
     (sym (le-ltb (getD (p .t4) (p .s) 0) 16 (c .if1 .left))) (added-none (p .g) (c .before .pre .3))
 
 pub add-state-spec : {M : Type 1} → statement M
-add-state-spec = tie.close (tie.spec (λ c. search needs) (λ c. search needs) add-words-requires returns returns-2)
+add-state-spec = tie.close (tie.spec (λ c. search needs) (λ c. search needs) (λ c κs. search needs) returns returns-2)

@@ -11,13 +11,6 @@ Inv-loop power words k index h₀ s₀ h s = (s ≤ k) × Done (rowOfState power
 abbrev μ-loop : tie.MeasureT-loop
 μ-loop power words k index h₀ s₀ h s = k - s
 
-loop-holds : tie.Need-loop-holds Inv-loop μ-loop
-loop-holds c = (omega arith, done-none _ _ (c .pre .3))
-
-add-state-requires : tie.Need-add-state-requires Inv-loop μ-loop
-add-state-requires c κs =
-    (c .before .before .pre .0, c .before .before .pre .1, omega arith, c .before .loop .inv .1 .room)
-
 returns : tie.Need-returns Inv-loop μ-loop
 returns c =
     let l = c .before .before .before .loop in
@@ -48,5 +41,5 @@ pub add-states-spec : {M : Type 1} → statement M
 add-states-spec =
     tie.close
     (tie.spec
-    Inv-loop μ-loop loop-holds add-state-requires returns (λ c. search needs) (λ c. search needs) loop-again
-    returns-2)
+    Inv-loop μ-loop (λ c. (omega arith, done-none _ _ (c .pre .3))) (λ c κs. search needs) returns
+    (λ c. search needs) (λ c. search needs) loop-again returns-2)

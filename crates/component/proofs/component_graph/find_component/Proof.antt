@@ -1,5 +1,5 @@
 -- The parts in their order; the law `found-in` puts them together.
-use Rattle.laws.proofs.All.{_≡_, arith, now, length, take, needs, needs}
+use Rattle.laws.proofs.All.{_≡_, now, length, take, needs, needs}
 use Rattle.graph.specs.Component.{within, live, reachings}
 use Rattle.weights.specs.PowerTable.{tabled}
 use Rattle.reach.specs.ReachSets.{rowsOf}
@@ -36,15 +36,6 @@ reach-is c =
     (λ x h. c .before .before .before .before .before .before .before .before .word-counts .ensures x h .0)
     (c .before .before .before .before .before .before .live-edges .ensures))
 
-word-counts-requires : tie.Need-word-counts-requires
-word-counts-requires c κs = (c .pre .0 .long, c .pre .0 .few, c .pre .0 .states)
-
-live-edges-requires : tie.Need-live-edges-requires
-live-edges-requires c κs = (search needs, c .before .before .pre .0 .states)
-
-reach-all-requires : tie.Need-reach-all-requires
-reach-all-requires c κs = (search needs, c .before .before .before .before .pre .0 .states)
-
 first-returning-requires : tie.Need-first-returning-requires
 first-returning-requires c κs = (search needs, c .before .before .before .before .before .before .pre .0 .states)
 
@@ -72,14 +63,6 @@ with-weights-requires c κs =
           (c .before .before .first-returning .ensures .0)
           (c .list-members .result) b (c .list-members .ensures),
     )
-
-add-states-requires : tie.Need-add-states-requires
-add-states-requires c κs = (
-  c .before .before .before .before .before .before .before .before .before .before .before .pre .0 .long,
-  c .before .before .before .before .before .before .before .before .before .before .before .pre .0 .few,
-  c .before .before .before .before .before .before .before .before .before .before .before .pre .0 .states,
-  omega (arith, c .before .with-weights .ensures .2),
-)
 
 total-weight-requires : tie.Need-total-weight-requires
 total-weight-requires c κs =
@@ -135,5 +118,7 @@ pub find-component-spec : {M : Type 1} → statement M
 find-component-spec =
     tie.close
     (tie.spec
-    word-counts-requires live-edges-requires reach-all-requires first-returning-requires list-members-requires
-    with-weights-requires add-states-requires total-weight-requires (λ c κs. search needs) returns)
+    (λ c κs. search needs) (λ c κs. (search needs, c .before .before .pre .0 .states))
+    (λ c κs. (search needs, c .before .before .before .before .pre .0 .states)) first-returning-requires
+    list-members-requires with-weights-requires (λ c κs. search needs) total-weight-requires (λ c κs. search needs)
+    returns)

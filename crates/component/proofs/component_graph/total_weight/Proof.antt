@@ -12,9 +12,6 @@ Inv-loop list v n total₀ i₀ total i =
 abbrev μ-loop : tie.MeasureT-loop
 μ-loop list v n total₀ i₀ total i = n - i
 
-loop-holds : tie.Need-loop-holds Inv-loop μ-loop
-loop-holds c = (omega arith, refl, c .pre .0, omega arith, refl)
-
 mul-total-2 : tie.Need-mul-total-2 Inv-loop μ-loop
 mul-total-2 c = omega (arith, c .before .before .before .pre .1 (c .before .before .loop .i) (omega arith) .0)
 
@@ -48,5 +45,5 @@ pub total-weight-spec : {M : Type 1} → statement M
 total-weight-spec =
     tie.close
     (tie.spec
-    Inv-loop μ-loop loop-holds (λ c. search needs) (λ c. search needs) mul-total-2 array-read-total add-total
-    (λ c. search needs) (λ c. search needs) loop-again returns)
+    Inv-loop μ-loop (λ c. search needs) (λ c. search needs) (λ c. search needs) mul-total-2 array-read-total
+    add-total (λ c. search needs) (λ c. search needs) loop-again returns)

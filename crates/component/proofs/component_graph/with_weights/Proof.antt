@@ -1,5 +1,5 @@
 -- Place i gets the weight of the component's state i.
-use Rattle.laws.proofs.All.{_≡_, refl, subst, _-_, _≤_, arith, length, getD, Filled, fill-none, fill-more, needs}
+use Rattle.laws.proofs.All.{_≡_, refl, subst, _-_, _≤_, arith, length, getD, Filled, fill-more, needs}
 use Rattle.component.proofs.ComponentWeights.{weights-filled}
 use Rattle.component.proofs.component_graph.with_weights.Statement.{statement}
 use Rattle.component.proofs.component_graph.with_weights.Tie as tie
@@ -10,9 +10,6 @@ Inv-loop list v weight₀ n i₀ weight i =
 
 abbrev μ-loop : tie.MeasureT-loop
 μ-loop list v weight₀ n i₀ weight i = n - i
-
-loop-holds : tie.Need-loop-holds Inv-loop μ-loop
-loop-holds c = (omega arith, refl, c .pre .0, fill-none 0 _ 128 0)
 
 mul-weight-2 : tie.Need-mul-weight-2 Inv-loop μ-loop
 mul-weight-2 c = omega (arith, c .before .before .before .pre .1 (c .before .before .loop .i) (omega arith) .0)
@@ -51,5 +48,5 @@ pub with-weights-spec : {M : Type 1} → statement M
 with-weights-spec =
     tie.close
     (tie.spec
-    Inv-loop μ-loop loop-holds (λ c. search needs) (λ c. search needs) mul-weight-2 array-read-weight cast-weight
-    (λ c. search needs) (λ c. search needs) (λ c. search needs) loop-again returns)
+    Inv-loop μ-loop (λ c. search needs) (λ c. search needs) (λ c. search needs) mul-weight-2 array-read-weight
+    cast-weight (λ c. search needs) (λ c. search needs) (λ c. search needs) loop-again returns)

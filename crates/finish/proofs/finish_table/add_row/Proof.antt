@@ -1,12 +1,10 @@
 -- The row is that of the state's first edges.
+use borrow.Author.Needs.{needs}
 use Rattle.laws.proofs.All.{_≡_, sym, subst, _%_, _<_, getD}
 use Rattle.finish.proofs.Tables.{list-long, list-at, key-lt, key-inside}
 use Rattle.finish.proofs.RowPuts.{put-keys}
 use Rattle.finish.proofs.finish_table.add_row.Statement.{statement}
 use Rattle.finish.proofs.finish_table.add_row.Tie as tie
-
-first-edges-requires : tie.Need-first-edges-requires
-first-edges-requires c κs = (c .pre .0 .fits, c .pre .0 .few)
 
 put-row-requires : tie.Need-put-row-requires
 put-row-requires c κs =
@@ -35,4 +33,4 @@ returns c =
     (r .ensures .1)) (c .put-row .ensures)
 
 pub add-row-spec : {M : Type 1} → statement M
-add-row-spec = tie.close (tie.spec first-edges-requires put-row-requires returns)
+add-row-spec = tie.close (tie.spec (λ c κs. search needs) put-row-requires returns)

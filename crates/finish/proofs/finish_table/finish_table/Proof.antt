@@ -20,9 +20,6 @@ Inv-loop g n set k index rows₀ count₀ t₀ rows count t =
 abbrev μ-loop : tie.MeasureT-loop
 μ-loop g n set k index rows₀ count₀ t₀ rows count t = k - t
 
-ranks-requires : tie.Need-ranks-requires Inv-loop μ-loop
-ranks-requires c κs = c .before .pre .fits .few
-
 loop-holds : tie.Need-loop-holds Inv-loop μ-loop
 loop-holds c =
     let p = c .before .before .args in (
@@ -34,9 +31,6 @@ loop-holds c =
       laid-none (p .n) (p .g) (c .before .before .pre) _ (c .before .reach-rows .ensures) _ (c .ranks .ensures) _
           (length-replicate {A = ℕ} 2048 0) (length-replicate {A = ℕ} 2048 0),
     )
-
-array-read-if1 : tie.Need-array-read-if1 Inv-loop μ-loop
-array-read-if1 c = omega (arith, c .before .before .before .before .pre .fits .few)
 
 add-row-requires : tie.Need-add-row-requires Inv-loop μ-loop
 add-row-requires c κs =
@@ -114,5 +108,5 @@ pub finish-table-spec : {M : Type 1} → statement M
 finish-table-spec =
     tie.close
     (tie.spec
-    Inv-loop μ-loop (λ c κs. search needs) ranks-requires loop-holds array-read-if1 add-row-requires add-count
-    (λ c. search needs) (λ c. search needs) loop-again returns)
+    Inv-loop μ-loop (λ c κs. search needs) (λ c κs. search needs) loop-holds (λ c. search needs) add-row-requires
+    add-count (λ c. search needs) (λ c. search needs) loop-again returns)

@@ -19,10 +19,6 @@ loop-holds c =
     let a : length (c .args .set) ≡ 128 = search needs in
     (omega arith, refl, c .pre, a, λ x. sym (or-false (member (c .args .set) x)))
 
-array-write-r : tie.Need-array-write-r Inv-loop μ-loop
-array-write-r c =
-    mod-lt (getD (c .before .before .before .args .t1 .key) (c .before .before .loop .i) 0) {m = 128} (lit< tt)
-
 loop-again : tie.Need-loop-again Inv-loop μ-loop
 loop-again c =
     let l = c .before .before .loop in
@@ -47,5 +43,5 @@ pub mark-targets-spec : {M : Type 1} → statement M
 mark-targets-spec =
     tie.close
     (tie.spec
-    Inv-loop μ-loop loop-holds (λ c. search needs) (λ c. search needs) array-write-r (λ c. search needs)
-    (λ c. search needs) loop-again returns)
+    Inv-loop μ-loop loop-holds (λ c. search needs) (λ c. search needs) (λ c. search needs) (λ c. search needs) (λ c.
+    search needs) loop-again returns)

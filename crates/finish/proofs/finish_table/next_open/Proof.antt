@@ -10,9 +10,6 @@ Inv-loop k set done s₀ s =
 abbrev μ-loop : tie.MeasureT-loop
 μ-loop k set done s₀ s = k - s
 
-loop-holds : tie.Need-loop-holds Inv-loop μ-loop
-loop-holds c = (omega arith, λ j h. absurd (omega arith))
-
 returns : tie.Need-returns Inv-loop μ-loop
 returns c =
     record {
@@ -40,5 +37,5 @@ pub next-open-spec : {M : Type 1} → statement M
 next-open-spec =
     tie.close
     (tie.spec
-    Inv-loop μ-loop loop-holds (λ c. search needs) (λ c. search needs) (λ c κs. search needs) returns
-    (λ c. search needs) (λ c. search needs) loop-again returns-2)
+    Inv-loop μ-loop (λ c. (omega arith, λ j h. absurd (omega arith))) (λ c. search needs) (λ c. search needs)
+    (λ c κs. search needs) returns (λ c. search needs) (λ c. search needs) loop-again returns-2)

@@ -1,6 +1,5 @@
 -- The edges are laid one by one.
-use Rattle.laws.proofs.All.{_≡_, subst, _-_, _/_, _≤_, _<_, div-lt-iff-lt-mul, mod-lt, arith, lit<, length, getD}
-use Rattle.laws.proofs.All.{needs}
+use Rattle.laws.proofs.All.{_≡_, subst, _-_, _/_, _≤_, _<_, div-lt-iff-lt-mul, arith, lit<, length, getD, needs}
 use Rattle.finish.specs.Finishing.{RowPut}
 use Rattle.finish.proofs.RowPuts.{put-start, put-more}
 use Rattle.finish.proofs.finish_table.put_row.Statement.{statement}
@@ -29,18 +28,6 @@ cast-r c =
     )) in
     omega arith
 
-mul-r-2 : tie.Need-mul-r-2 Inv-loop μ-loop
-mul-r-2 c =
-    omega (
-      arith,
-      mod-lt (getD (c .before .before .before .args .t2 .key) (c .before .before .loop .d) 0) {m = 128}
-          (lit< tt),
-    )
-
-array-read-r : tie.Need-array-read-r Inv-loop μ-loop
-array-read-r c =
-    mod-lt (getD (c .before .before .before .args .t2 .key) (c .before .before .loop .d) 0) {m = 128} (lit< tt)
-
 cast-r-2 : tie.Need-cast-r-2 Inv-loop μ-loop
 cast-r-2 c =
     omega (arith, c .before .before .before .pre .3 (c .before .before .loop .d) (c .before .loop-test .taken) .1)
@@ -65,6 +52,6 @@ pub put-row-spec : {M : Type 1} → statement M
 put-row-spec =
     tie.close
     (tie.spec
-    Inv-loop μ-loop loop-holds (λ c. search needs) (λ c. search needs) cast-r (λ c. search needs)
-    (λ c. search needs) (λ c. search needs) mul-r-2 array-read-r cast-r-2 (λ c. search needs) (λ c. search needs)
-    (λ c. search needs) (λ c. search needs) (λ c. search needs) loop-again returns)
+    Inv-loop μ-loop loop-holds (λ c. search needs) (λ c. search needs) cast-r (λ c. search needs) (λ c. search
+    needs) (λ c. search needs) (λ c. search needs) (λ c. search needs) cast-r-2 (λ c. search needs) (λ c. search
+    needs) (λ c. search needs) (λ c. search needs) (λ c. search needs) loop-again returns)

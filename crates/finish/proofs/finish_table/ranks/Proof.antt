@@ -12,9 +12,6 @@ Inv-loop k set r₀ count₀ t₀ r count t =
 abbrev μ-loop : tie.MeasureT-loop
 μ-loop k set r₀ count₀ t₀ r count t = k - t
 
-loop-holds : tie.Need-loop-holds Inv-loop μ-loop
-loop-holds c = (omega arith, omega arith, sym (rank-none _), fill-none 0 _ 128 0)
-
 loop-again : tie.Need-loop-again Inv-loop μ-loop
 loop-again c =
     let l = c .before .before .loop in
@@ -25,12 +22,10 @@ loop-again c =
     (λ w. (omega arith, omega (arith, w .1), omega (arith, w .1, rank-no (p .t1) (l .t) (w .0 .left)), f))
     (c .if1 .came)
 
-returns : tie.Need-returns Inv-loop μ-loop
-returns c = λ t h. c .before .loop .inv .3 .holds t (omega arith)
-
 pub ranks-spec : {M : Type 1} → statement M
 ranks-spec =
     tie.close
     (tie.spec
-    Inv-loop μ-loop loop-holds (λ c. search needs) (λ c. search needs) (λ c. search needs) (λ c. search needs)
-    (λ c. search needs) (λ c. search needs) loop-again returns)
+    Inv-loop μ-loop (λ c. (omega arith, omega arith, sym (rank-none _), fill-none 0 _ 128 0)) (λ c. search needs)
+    (λ c. search needs) (λ c. search needs) (λ c. search needs) (λ c. search needs) (λ c. search needs) loop-again
+    (λ c. λ t h. c .before .loop .inv .3 .holds t (omega arith)))

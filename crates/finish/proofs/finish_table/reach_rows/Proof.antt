@@ -15,9 +15,6 @@ Inv-loop g n k set₀ done₀ s₀ set done s =
 abbrev μ-loop : tie.MeasureT-loop
 μ-loop g n k set₀ done₀ s₀ set done s = missing done
 
-next-open-requires : tie.Need-next-open-requires Inv-loop μ-loop
-next-open-requires c κs = c .pre .fits .few
-
 loop-holds : tie.Need-loop-holds Inv-loop μ-loop
 loop-holds c =
     let p = c .before .args in (
@@ -31,19 +28,6 @@ loop-holds c =
           ∙ ap (λ b. b || eqb 0 x) (member-blank 128 x))
           (member-blank 128),
     )
-
-first-edges-requires : tie.Need-first-edges-requires Inv-loop μ-loop
-first-edges-requires c κs =
-    (c .before .before .before .pre .fits, omega (arith, c .before .before .before .pre .few))
-
-mark-targets-requires : tie.Need-mark-targets-requires Inv-loop μ-loop
-mark-targets-requires c κs = omega (arith, c .first-edges .ensures .1, c .before .before .before .before .pre .few)
-
-array-write-done : tie.Need-array-write-done Inv-loop μ-loop
-array-write-done c = omega (arith, c .before .before .before .before .before .pre .fits .few)
-
-next-open-requires-2 : tie.Need-next-open-requires-2 Inv-loop μ-loop
-next-open-requires-2 c κs = c .before .before .before .before .before .pre .fits .few
 
 loop-less : tie.Need-loop-less Inv-loop μ-loop
 loop-less c =
@@ -80,5 +64,5 @@ pub reach-rows-spec : {M : Type 1} → statement M
 reach-rows-spec =
     tie.close
     (tie.spec
-    Inv-loop μ-loop (λ c. search needs) next-open-requires loop-holds first-edges-requires mark-targets-requires
-    array-write-done next-open-requires-2 loop-less loop-again returns)
+    Inv-loop μ-loop (λ c. search needs) (λ c κs. search needs) loop-holds (λ c κs. search needs)
+    (λ c κs. search needs) (λ c. search needs) (λ c κs. search needs) loop-less loop-again returns)

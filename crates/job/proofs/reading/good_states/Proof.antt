@@ -14,12 +14,6 @@ Inv-loop bytes count s₀ s = (s ≤ count) × ((k : ℕ) → k < s → goodStat
 abbrev μ-loop : tie.MeasureT-loop
 μ-loop bytes count s₀ s = count - s
 
-loop-holds : tie.Need-loop-holds Inv-loop μ-loop
-loop-holds c = (omega arith, λ k h. absurd (omega arith))
-
-good-next-requires : tie.Need-good-next-requires Inv-loop μ-loop
-good-next-requires c κs = (omega arith, omega arith)
-
 returns : tie.Need-returns Inv-loop μ-loop
 returns c =
     let g = c .before .good-next in
@@ -47,5 +41,5 @@ pub good-states-spec : {M : Type 1} → statement M
 good-states-spec =
     tie.close
     (tie.spec
-    Inv-loop μ-loop loop-holds good-next-requires returns (λ c. search needs) (λ c. search needs) loop-again
-    returns-2)
+    Inv-loop μ-loop (λ c. (omega arith, λ k h. absurd (omega arith))) (λ c κs. search needs) returns
+    (λ c. search needs) (λ c. search needs) loop-again returns-2)

@@ -36,15 +36,6 @@ returns c = (
   λ e. absurd (c .declined .ensures .1 e),
 )
 
-cast-p : tie.Need-cast-p
-cast-p c = omega (arith, c .shared-slice-known2 .given 2)
-
-cast-q : tie.Need-cast-q
-cast-q c = omega (arith, c .shared-slice-known3 .given 3)
-
-cast-cap : tie.Need-cast-cap
-cast-cap c = omega (arith, c .shared-slice-known4 .given 4)
-
 returns-2 : tie.Need-returns-2
 returns-2 c =
     let g = c .before .before in
@@ -55,12 +46,6 @@ returns-2 c =
       λ e. absurd (c .declined2 .ensures .1 e),
     )
 
-cast-d : tie.Need-cast-d
-cast-d c = omega (arith, c .shared-slice-known5 .given 0)
-
-cast-k : tie.Need-cast-k
-cast-k c = omega (arith, c .shared-slice-known6 .given 1)
-
 returns-3 : tie.Need-returns-3
 returns-3 c =
     let g = c .before .before in
@@ -70,9 +55,6 @@ returns-3 c =
           (sym (g .between .ensures) ∙ not-true (g .between .result) (c .before .if3 .taken))),
       λ e. absurd (c .declined3 .ensures .1 e),
     )
-
-run-length-requires : tie.Need-run-length-requires
-run-length-requires c κs = in-range _ _ 15 (ranged c) .1
 
 returns-4 : tie.Need-returns-4
 returns-4 c =
@@ -87,6 +69,9 @@ pub read-run-length-spec : {M : Type 1} → statement M
 read-run-length-spec =
     tie.close
     (tie.spec
-    (λ c κs. search needs) returns (λ c. search needs) cast-p (λ c. search needs) cast-q (λ c. search needs)
-    cast-cap (λ c κs. search needs) (λ c κs. search needs) returns-2 (λ c. search needs) cast-d (λ c. search needs)
-    cast-k (λ c κs. search needs) (λ c κs. search needs) returns-3 run-length-requires returns-4)
+    (λ c κs. search needs) returns (λ c. search needs) (λ c. omega (arith, c .shared-slice-known2 .given 2))
+    (λ c. search needs) (λ c. omega (arith, c .shared-slice-known3 .given 3)) (λ c. search needs)
+    (λ c. omega (arith, c .shared-slice-known4 .given 4)) (λ c κs. search needs) (λ c κs. search needs) returns-2
+    (λ c. search needs) (λ c. omega (arith, c .shared-slice-known5 .given 0)) (λ c. search needs)
+    (λ c. omega (arith, c .shared-slice-known6 .given 1)) (λ c κs. search needs) (λ c κs. search needs) returns-3
+    (λ c κs. in-range _ _ 15 (ranged c) .1) returns-4)

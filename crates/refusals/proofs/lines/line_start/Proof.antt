@@ -1,7 +1,7 @@
 -- `line_start` meets its contract. The loop's invariant: from the place on stands the text without its first i lines.
 -- The measure is what is left of the n lines.
 -- Assumes nothing.
-use Rattle.laws.proofs.All.{_≡_, refl, ap, _∙_, _-_, _≤_, arith, now, length, drop, needs}
+use Rattle.laws.proofs.All.{_≡_, ap, _∙_, _-_, _≤_, arith, now, length, drop, needs}
 use Rattle.refusals.specs.TextLines.{rest}
 use Rattle.refusals.proofs.TextLines.{rest-next}
 use Rattle.refusals.proofs.lines.line_start.Statement.{statement}
@@ -12,9 +12,6 @@ Inv-loop text n from₀ i₀ from i = (i ≤ n) × (from ≤ length text) × (dr
 
 abbrev μ-loop : tie.MeasureT-loop
 μ-loop text n from₀ i₀ from i = n - i
-
-loop-holds : tie.Need-loop-holds Inv-loop μ-loop
-loop-holds c = (omega arith, omega arith, refl)
 
 loop-again : tie.Need-loop-again Inv-loop μ-loop
 loop-again c =
@@ -39,12 +36,5 @@ pub line-start-spec : {M : Type 1} → statement M
 line-start-spec =
     tie.close
     (tie.spec
-    Inv-loop
-    μ-loop
-    loop-holds
-    (λ c κs. search needs)
-    (λ c κs. search needs)
-    (λ c. search needs)
-    (λ c. search needs)
-    loop-again
-    returns)
+    Inv-loop μ-loop (λ c. search needs) (λ c κs. search needs) (λ c κs. search needs) (λ c. search needs) (λ c.
+    search needs) loop-again returns)

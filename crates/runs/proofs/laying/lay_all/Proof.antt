@@ -45,12 +45,6 @@ lay-word-requires c κs =
 cast-start : tie.Need-cast-start Inv-loop μ-loop
 cast-start c = omega (arith, c .lay-word .ensures .0, room (c .before .before))
 
-array-write-start : tie.Need-array-write-start Inv-loop μ-loop
-array-write-start c = omega (arith, c .before .before .loop-test .taken)
-
-loop-less : tie.Need-loop-less Inv-loop μ-loop
-loop-less c = omega (arith, c .before .before .loop-test .taken)
-
 loop-again : tie.Need-loop-again Inv-loop μ-loop
 loop-again c =
     let i = c .before .before in
@@ -81,4 +75,4 @@ lay-all-spec =
     tie.close
     (tie.spec
     Inv-loop μ-loop loop-holds lay-word-requires (λ c. search needs) cast-start (λ c. search needs)
-    array-write-start loop-less loop-again returns)
+    (λ c. search needs) (λ c. search needs) loop-again returns)

@@ -84,26 +84,8 @@ loop-holds c =
       λ j h. refl,
     )
 
-cast-order : tie.Need-cast-order Inv-loop μ-loop
-cast-order c = omega (arith, c .before .loop .inv .0, start c .pre .0 .fits .few)
-
-mul-order : tie.Need-mul-order Inv-loop μ-loop
-mul-order c = omega (arith, room c)
-
-element-write-order : tie.Need-element-write-order Inv-loop μ-loop
-element-write-order c = room c
-
-element-copy-out-cur-2 : tie.Need-element-copy-out-cur-2 Inv-loop μ-loop
-element-copy-out-cur-2 c = omega (arith, c .before .loop .inv .0, start c .pre .0 .fits .few)
-
 cast-cur-2 : tie.Need-cast-cur-2 Inv-loop μ-loop
 cast-cur-2 c = omega (arith, start (c .before) .pre .0 .fits .few, link-le (c .before))
-
-add-k : tie.Need-add-k Inv-loop μ-loop
-add-k c = omega (arith, room (c .before))
-
-loop-less : tie.Need-loop-less Inv-loop μ-loop
-loop-less c = omega (arith, c .before .loop-test .taken, link-le (c .before))
 
 loop-again : tie.Need-loop-again Inv-loop μ-loop
 loop-again c =
@@ -138,6 +120,6 @@ pub lay-word-spec : {M : Type 1} → statement M
 lay-word-spec =
     tie.close
     (tie.spec
-    Inv-loop μ-loop (λ c. search needs) (λ c. search needs) cast-cur loop-holds (λ c. search needs) cast-order
-    mul-order element-write-order (λ c. search needs) element-copy-out-cur-2 cast-cur-2 add-k loop-less loop-again
-    returns)
+    Inv-loop μ-loop (λ c. search needs) (λ c. search needs) cast-cur loop-holds (λ c. search needs)
+    (λ c. search needs) (λ c. search needs) (λ c. room c) (λ c. search needs) (λ c. search needs) cast-cur-2
+    (λ c. search needs) (λ c. omega (arith, c .before .loop-test .taken, link-le (c .before))) loop-again returns)

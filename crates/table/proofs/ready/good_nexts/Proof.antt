@@ -13,9 +13,6 @@ Inv-loop c count s₀ s =
 abbrev μ-loop : tie.MeasureT-loop
 μ-loop c count s₀ s = c .states - s
 
-loop-holds : tie.Need-loop-holds Inv-loop μ-loop
-loop-holds c = (omega arith, omega arith, λ i h. absurd (not-suc-le-zero h))
-
 returns : tie.Need-returns Inv-loop μ-loop
 returns c =
     let l = c .before .before .before .before .before in
@@ -41,5 +38,6 @@ pub good-nexts-spec : {M : Type 1} → statement M
 good-nexts-spec =
     tie.close
     (tie.spec
-    Inv-loop μ-loop loop-holds (λ c. search needs) (λ c. search needs) (λ c κs. search needs) returns
-    (λ c. search needs) (λ c. search needs) loop-again returns-2)
+    Inv-loop μ-loop (λ c. (omega arith, omega arith, λ i h. absurd (not-suc-le-zero h))) (λ c. search needs)
+    (λ c. search needs) (λ c κs. search needs) returns (λ c. search needs) (λ c. search needs) loop-again
+    returns-2)

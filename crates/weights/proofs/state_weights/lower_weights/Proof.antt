@@ -1,5 +1,5 @@
 -- The new weights go into a fresh array, so that all are replaced together.
-use Rattle.laws.proofs.All.{_-_, _≤_, arith, now, Filled, fill-none, fill-more, needs}
+use Rattle.laws.proofs.All.{_-_, _≤_, arith, now, Filled, fill-more, needs}
 use Rattle.weights.specs.PowerTable.{lowerBy}
 use Rattle.weights.proofs.state_weights.lower_weights.Statement.{statement}
 use Rattle.weights.proofs.state_weights.lower_weights.Tie as tie
@@ -10,19 +10,6 @@ Inv-loop count v k n r₀ s₀ r s = (s ≤ k) × Filled 0 (λ x. lowerBy count 
 abbrev μ-loop : tie.MeasureT-loop
 μ-loop count v k n r₀ s₀ r s = k - s
 
-loop-holds : tie.Need-loop-holds Inv-loop μ-loop
-loop-holds c = (omega arith, fill-none 0 _ 16 0)
-
-lower-weight-requires : tie.Need-lower-weight-requires Inv-loop μ-loop
-lower-weight-requires c κs = (
-  c .before .before .pre .0,
-  c .before .before .pre .1,
-  c .loop-test .taken,
-  c .before .before .pre .2,
-  c .before .before .pre .3,
-  c .before .before .pre .4,
-)
-
 loop-again : tie.Need-loop-again Inv-loop μ-loop
 loop-again c =
     let l = c .before .before .loop in
@@ -32,12 +19,9 @@ loop-again c =
           (c .lower-weight .ensures) (l .inv .1),
     )
 
-returns : tie.Need-returns Inv-loop μ-loop
-returns c = λ s h. c .before .loop .inv .1 .holds s (omega arith)
-
 pub lower-weights-spec : {M : Type 1} → statement M
 lower-weights-spec =
     tie.close
     (tie.spec
-    Inv-loop μ-loop loop-holds lower-weight-requires (λ c. search needs) (λ c. search needs) (λ c. search needs)
-    (λ c. search needs) loop-again returns)
+    Inv-loop μ-loop (λ c. search needs) (λ c κs. search needs) (λ c. search needs) (λ c. search needs)
+    (λ c. search needs) (λ c. search needs) loop-again (λ c. λ s h. c .before .loop .inv .1 .holds s (omega arith)))

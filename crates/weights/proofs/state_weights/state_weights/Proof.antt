@@ -13,9 +13,6 @@ Inv-loop power words k n cap count v₀ rounds i₀ v i =
 abbrev μ-loop : tie.MeasureT-loop
 μ-loop power words k n cap count v₀ rounds i₀ v i = rounds - i
 
-word-counts-requires : tie.Need-word-counts-requires Inv-loop μ-loop
-word-counts-requires c κs = (c .pre .0 .long, c .pre .0 .few, c .pre .0 .states)
-
 mul-rounds : tie.Need-mul-rounds Inv-loop μ-loop
 mul-rounds c =
     let h : c .before .args .k * c .before .args .cap ≤ 16 * 16 =
@@ -95,5 +92,5 @@ pub state-weights-spec : {M : Type 1} → statement M
 state-weights-spec =
     tie.close
     (tie.spec
-    Inv-loop μ-loop word-counts-requires mul-rounds loop-holds lower-weights-requires (λ c κs. search needs) returns
-    add-i (λ c. search needs) loop-again returns-2)
+    Inv-loop μ-loop (λ c κs. search needs) mul-rounds loop-holds lower-weights-requires (λ c κs. search needs)
+    returns add-i (λ c. search needs) loop-again returns-2)

@@ -1,6 +1,5 @@
 -- Place x gets the count for state x / 16 and target x % 16.
-use Rattle.laws.proofs.All.{_-_, _/_, _%_, _≤_, div-lt-iff-lt-mul, mod-lt, arith, now, lit<, Filled, fill-none}
-use Rattle.laws.proofs.All.{fill-more, needs}
+use Rattle.laws.proofs.All.{_-_, _/_, _%_, _≤_, arith, now, Filled, fill-more, needs}
 use Rattle.weights.specs.PowerTable.{wordCount}
 use Rattle.weights.proofs.WeightRounds.{count-le}
 use Rattle.weights.proofs.state_weights.word_counts.Statement.{statement}
@@ -12,20 +11,6 @@ Inv-loop power words k r₀ n x₀ r x =
 
 abbrev μ-loop : tie.MeasureT-loop
 μ-loop power words k r₀ n x₀ r x = n - x
-
-loop-holds : tie.Need-loop-holds Inv-loop μ-loop
-loop-holds c = (omega arith, omega arith, fill-none 0 _ 256 0)
-
-cast-words-between : tie.Need-cast-words-between Inv-loop μ-loop
-cast-words-between c = omega (arith, mod-lt (c .before .loop .x) {m = 16} (lit< tt))
-
-words-between-requires : tie.Need-words-between-requires Inv-loop μ-loop
-words-between-requires c κs = (
-  c .before .before .pre .0,
-  c .before .before .pre .1,
-  div-lt-iff-lt-mul {k = 16} {y = 16} (lit< tt) .1
-      (omega arith),
-)
 
 loop-again : tie.Need-loop-again Inv-loop μ-loop
 loop-again c =
@@ -56,5 +41,5 @@ pub word-counts-spec : {M : Type 1} → statement M
 word-counts-spec =
     tie.close
     (tie.spec
-    Inv-loop μ-loop (λ c. search needs) loop-holds cast-words-between words-between-requires (λ c. search needs)
-    (λ c. search needs) (λ c. search needs) (λ c. search needs) loop-again returns)
+    Inv-loop μ-loop (λ c. search needs) (λ c. search needs) (λ c. search needs) (λ c κs. search needs) (λ c. search
+    needs) (λ c. search needs) (λ c. search needs) (λ c. search needs) loop-again returns)

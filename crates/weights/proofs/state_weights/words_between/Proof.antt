@@ -11,9 +11,6 @@ Inv-loop power words s t count₀ w₀ count w = (w ≤ words) × (count ≤ w) 
 abbrev μ-loop : tie.MeasureT-loop
 μ-loop power words s t count₀ w₀ count w = words - w
 
-loop-holds : tie.Need-loop-holds Inv-loop μ-loop
-loop-holds c = (omega arith, omega arith, sym (count-none _ _ _))
-
 loop-again : tie.Need-loop-again Inv-loop μ-loop
 loop-again c =
     let l = c .before .before .before .loop in
@@ -44,5 +41,6 @@ pub words-between-spec : {M : Type 1} → statement M
 words-between-spec =
     tie.close
     (tie.spec
-    Inv-loop μ-loop loop-holds (λ c. search needs) (λ c. search needs) (λ c. search needs) (λ c. search needs)
-    (λ c. search needs) (λ c. search needs) loop-again returns)
+    Inv-loop μ-loop (λ c. (omega arith, omega arith, sym (count-none _ _ _))) (λ c. search needs)
+    (λ c. search needs) (λ c. search needs) (λ c. search needs) (λ c. search needs) (λ c. search needs) loop-again
+    returns)
