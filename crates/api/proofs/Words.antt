@@ -1,31 +1,14 @@
--- Answers as numbers of 64 bits fit, and their parts are got back.
--- In order: number-le, set-number-le; joined-parts.
+-- A set's answer as a number of 64 bits fits.
+-- In order: set-number-le.
 -- Assumes nothing.
-use mathlib.Core.Path.{_≡_}
-use Prim.Native.Nat.{ℕ, _/_, _%_, _^_, _≤_, _<_}
+use Prim.Native.Nat.{_≤_}
 use native.Mathlib.Omega.{arith}
-use lib.Arith.{digits-div, digits-mod}
-use Rattle.answer.specs.declared.Answer.{Answer}
-use Rattle.answer.specs.declared.Answer.the-variants.{Done, Refused}
 use Rattle.answer.specs.Refusals.{most}
-use Rattle.answer.specs.Answers.{answerNumber}
 use Rattle.answer.proofs.Cases.{number-most}
 use Rattle.sets.specs.declared.SetAnswer.{SetAnswer}
 use Rattle.sets.specs.declared.SetAnswer.the-variants.{Good, Bad}
 use Rattle.sets.specs.Results.{setNumber}
-use Rattle.api.specs.Words.{held, joined}
-
-pub number-le : (a : Answer) → answerNumber a ≤ most
-number-le (Done n) = omega arith
-number-le (Refused r) = number-most r
 
 pub set-number-le : (a : SetAnswer) → setNumber a ≤ most
 set-number-le (Good n) = omega arith
 set-number-le (Bad i r) = number-most r
-
--- a number and a held value are got back from their word
-pub joined-parts : (n v : ℕ) → (joined n v / 2 ^ 56 ≡ n) × (joined n v % 2 ^ 56 ≡ held v)
-joined-parts n v = (digits-div n less, digits-mod n less)
-  where
-    less : held v < 72057594037927936
-    less = omega arith

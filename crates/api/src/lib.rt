@@ -1,7 +1,5 @@
 // The functions exported for C and Rust. Each takes bytes as pointer and length, and answers one number.
 ghost use mathlib.Core.Path.{_≡_};
-ghost use Prim.Native.Nat.{ℕ, _≤_, min};
-ghost use Rattle.answer.specs.Refusals.{most};
 ghost use Rattle.answer.specs.Outcomes.{answerOf, outputOf};
 ghost use lib.ListN.{length};
 ghost use Rattle.checker.specs.Parse.{checkedOnly};
@@ -11,35 +9,12 @@ ghost use Rattle.info.specs.Info.{infoUnder, phraseInto};
 ghost use Rattle.listings.specs.Listings.{listInto};
 ghost use Rattle.sets.specs.Sets.{readSet};
 ghost use Rattle.sets.specs.Results.{setAnswer};
-ghost use Rattle.api.specs.Words.{held, joined, wordOf, setWordOf};
+ghost use Rattle.word.specs.Words.{wordOf};
+ghost use Rattle.api.specs.Words.{setWordOf};
 ghost use Rattle.api.specs.Version.{version};
-use answer::Answer;
 use sets::SetAnswer;
-
-// A value, held to 2^56 - 1.
-fn hold(value: usize) -> u64
-    ensures answer { λ r. ⌜ r ≡ held value ⌝ }
-{
-    if value < 72057594037927936 {
-        return value as u64;
-    }
-    72057594037927935
-}
-
-// A number times 2^56 plus a value. The premise holds of every answer.
-fn join(number: u64, value: usize) -> u64
-    requires { ⌜ number ≤ most ⌝ }
-    ensures answer { λ r. ⌜ r ≡ joined number value ⌝ }
-{
-    number * 72057594037927936 + hold(value)
-}
-
-// An answer as one number: the refusal's number times 2^56 plus the value.
-fn word(a: Answer) -> u64
-    ensures answer { λ r. ⌜ r ≡ wordOf a ⌝ }
-{
-    join(answer::answer_number(a), answer::answer_value(a))
-}
+use word::join;
+use word::word;
 
 // A set's answer as one number: the refusal's number times 2^56 plus the value.
 fn set_word(a: SetAnswer) -> u64

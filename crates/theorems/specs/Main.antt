@@ -40,7 +40,7 @@ use Rattle.compiler.specs.Compile.{ways, graphOf, Vector, weightsOf, componentO
 use Rattle.compiler.specs.Kinds.{Kind, readAs, compileAs}
 use Rattle.listings.specs.Listings.{listInto}
 use Rattle.sets.specs.Sets.{codes, readSet, writeSet, Readable}
-use Rattle.api.specs.Words.{held, joined}
+use Rattle.word.specs.Words.{held, joined}
 
 -- A job that is read from bytes is allowed: what is said below of allowed jobs holds of every call.
 pub allowed : (k : Kind) (xs : List ℕ) (j : Job) → readAs k xs ≡ done j → Allowed j
@@ -217,4 +217,4 @@ good-places = Rattle.sets.proofs.Records.good-places
 
 -- The word that a call for C answers gives back its number by / 2^56 and its value, held to 2^56 − 1, by % 2^56.
 pub words : (number value : ℕ) → (joined number value / 2 ^ 56 ≡ number) × (joined number value % 2 ^ 56 ≡ held value)
-words = Rattle.api.proofs.Words.joined-parts
+words = Rattle.word.proofs.Words.joined-parts

@@ -4,7 +4,8 @@ use mathlib.Core.Path.{_≡_, sym, ap₂, subst, _∙_}
 use Prim.Native.Nat.{_≤_}
 use borrow.Author.Needs.{needs}
 use Rattle.answer.specs.Refusals.{most}
-use Rattle.api.specs.Words.{joined, setWordOf}
+use Rattle.word.specs.Words.{joined}
+use Rattle.api.specs.Words.{setWordOf}
 use Rattle.api.proofs.Words.{set-number-le}
 use Rattle.api.proofs.set_word.Statement.{statement}
 use Rattle.api.proofs.set_word.Tie as tie

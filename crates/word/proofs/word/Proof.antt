@@ -1,13 +1,11 @@
 -- `word` meets its contract: an answer's number is at most the largest of a refusal.
 -- Assumes nothing.
-use mathlib.Core.Path.{_≡_, sym, ap₂, subst, _∙_}
-use Prim.Native.Nat.{_≤_}
-use borrow.Author.Needs.{needs}
+use Rattle.laws.proofs.All.{_≡_, sym, ap₂, subst, _∙_, _≤_, needs}
 use Rattle.answer.specs.Refusals.{most}
-use Rattle.api.specs.Words.{joined, wordOf}
-use Rattle.api.proofs.Words.{number-le}
-use Rattle.api.proofs.word.Statement.{statement}
-use Rattle.api.proofs.word.Tie as tie
+use Rattle.word.specs.Words.{joined, wordOf}
+use Rattle.word.proofs.Words.{number-le}
+use Rattle.word.proofs.word.Statement.{statement}
+use Rattle.word.proofs.word.Tie as tie
 
 join-requires : tie.Need-join-requires
 join-requires c κs =
