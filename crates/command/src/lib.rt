@@ -1,14 +1,7 @@
 // The command `sbc`: one action for each call of the library, on files.
 ghost use mathlib.Core.Path.{_≡_};
 ghost use Prim.Native.Nat.{_≤_};
-ghost use Rattle.command.specs.Ending.{decoding, wayBy};
-
-mod coding;
-mod compiling;
-mod inputs;
-mod outputs;
-mod records;
-
+ghost use Rattle.command.specs.Ways.{decoding, wayBy};
 use arguments::Action;
 use arguments::Status;
 use arguments::Way;
@@ -18,21 +11,7 @@ use arguments::shape_of;
 use arguments::status_number;
 use messages::usage::misused;
 use messages::usage::misused_word;
-use messages::usage::print_use;
 use messages::usage::print_version;
-
-// help [ACTION]
-fn help() -> Status {
-    if os::arg_count() < 3 {
-        return print_use(Action::Help);
-    }
-    let mut word = io::buffer();
-    let n = os::arg(2, &mut word);
-    match action_of(&word[..n]) {
-        Action::Unknown => misused_word(Action::Help, &word[..n], b": no such action"),
-        a => print_use(a),
-    }
-}
 
 // Whether a way is decoding, for a call that takes no enum.
 fn is_decoding(w: Way) -> bool
@@ -67,7 +46,7 @@ pub extern "C" fn sbc_action_code(back: bool) -> u32
 pub extern "C" fn sbc_action_set() -> u32
     ensures past { λ r. ⌜ r ≤ 2 ⌝ }
 {
-    status_number(records::set_file())
+    status_number(printing::set_file())
 }
 
 // Does an action; the answer is the exit status.
@@ -79,9 +58,9 @@ fn act(a: Action) -> u32
         Action::CompileJob => status_number(compiling::compile_file()),
         Action::Trace => status_number(compiling::trace_numbers()),
         Action::Collection => sbc_action_set(),
-        Action::Help => status_number(help()),
+        Action::Help => status_number(printing::help()),
         Action::Version => status_number(print_version()),
-        Action::Viewing(v) => status_number(records::view_file(v)),
+        Action::Viewing(v) => status_number(printing::view_file(v)),
         Action::Coding(w) => sbc_action_code(is_decoding(w)),
         Action::Unknown => status_number(misused(Action::Unknown)),
     }

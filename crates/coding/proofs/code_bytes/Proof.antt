@@ -1,0 +1,25 @@
+-- `code_bytes` is safe: the result lies within the bytes that are lent for it.
+-- Assumes nothing.
+use Rattle.laws.proofs.All.{now, length, needs}
+use Rattle.coding.specs.Coding.{coded}
+use Rattle.outputs.proofs.Results.{result-within}
+use Rattle.coding.proofs.code_bytes.Statement.{statement}
+use Rattle.coding.proofs.code_bytes.Tie as tie
+
+finish-code-requires : tie.Need-finish-code-requires
+finish-code-requires c κs =
+    let called = c .before .before .before in
+    let call = called .code in
+    let a = called .before .before .before .before .before .args in
+    let B = now (a .out) in
+    result-within (coded (a .w) (now (a .under)) (length B) (now (a .bytes))) (call .result) B _ (call .ensures .0)
+    (call .ensures .1)
+
+pub code-bytes-spec : {M : Type 1} → statement M
+code-bytes-spec =
+    tie.close
+    (tie.spec
+    (λ c κs. search needs)
+    finish-code-requires
+    (λ c. search needs)
+    (λ c. search needs))

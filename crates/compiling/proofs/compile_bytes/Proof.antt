@@ -1,0 +1,28 @@
+-- `compile_bytes` is safe: the result lies within the bytes that are lent for it, and goes where the action writes.
+-- Assumes nothing.
+use Rattle.laws.proofs.All.{now, length, needs}
+use Rattle.compiler.specs.Compile.{compileJob}
+use Rattle.outputs.proofs.Results.{result-within}
+use Rattle.compiling.proofs.compile_bytes.Statement.{statement}
+use Rattle.compiling.proofs.compile_bytes.Tie as tie
+
+finish-requires : tie.Need-finish-requires
+finish-requires c κs =
+    let called = c .before .before .before in
+    let call = called .compile-job in
+    let place = called .before .before in
+    let a = place .before .before .before .args in
+    let B = now (a .out) in (
+      place .written-place .ensures,
+      result-within (compileJob (now (a .job)) (length B)) (call .result) B _ (call .ensures .0) (call .ensures .1),
+    )
+
+pub compile-bytes-spec : {M : Type 1} → statement M
+compile-bytes-spec =
+    tie.close
+    (tie.spec
+    (λ c κs. search needs)
+    (λ c κs. search needs)
+    finish-requires
+    (λ c. search needs)
+    (λ c. search needs))

@@ -1,0 +1,33 @@
+-- `traced` meets its contract, by the answer of the call.
+-- Assumes nothing.
+use Rattle.laws.proofs.All.{sym, _∙_, now, length, needs}
+use Rattle.compiler.specs.Compile.{compileRunLength}
+use Rattle.compiling.proofs.Ending.{end-refused, end-done}
+use Rattle.compiling.proofs.traced.Statement.{statement}
+use Rattle.compiling.proofs.traced.Tie as tie
+
+returns : tie.Need-returns
+returns c =
+    let call = c .before .before .before .before in
+    let a = call .before .before .before .before .args in
+    end-refused (compileRunLength (now (a .job)) (length (now (a .out)))) _
+    (sym (call .compile-run-length .ensures .0) ∙ c .enum-told .given .1)
+
+returns-2 : tie.Need-returns-2
+returns-2 c =
+    let call = c .before .before .before .before in
+    let a = call .before .before .before .before .args in
+    end-done (compileRunLength (now (a .job)) (length (now (a .out)))) _
+    (sym (call .compile-run-length .ensures .0) ∙ c .enum-told2 .given .1)
+
+pub traced-spec : {M : Type 1} → statement M
+traced-spec =
+    tie.close
+    (tie.spec
+    (λ c κs. search needs)
+    (λ c. search needs)
+    (λ c. search needs)
+    (λ c. search needs)
+    returns
+    (λ c. search needs)
+    returns-2)

@@ -1,0 +1,83 @@
+// The actions that compile.
+ghost use mathlib.Core.Path.{_≡_};
+ghost use lib.ListN.{length};
+ghost use Rattle.compiler.specs.Compile.{compileRunLength};
+ghost use Rattle.compiling.specs.Ending.{endOf};
+use answer::Answer;
+use arguments::Action;
+use arguments::Status;
+use arguments::read_place;
+use arguments::written_place;
+use compiler::bytes::compile_job;
+use compiler::bytes::compile_run_length;
+use inputs::load;
+use inputs::numbers_said;
+use inputs::page;
+use messages::system::print;
+use outputs::finish;
+use trace::tracing::trace_run_length;
+
+// The record of a run-length job.
+fn compile_numbers(job: &[u8], out: &mut [u8]) -> Status {
+    let i = written_place(Action::Compile);
+    let r = compile_run_length(job, out);
+    finish(Action::Compile, i, r, out)
+}
+
+// The record of a job.
+fn compile_bytes(job: &[u8], out: &mut [u8]) -> Status {
+    let i = written_place(Action::CompileJob);
+    let r = compile_job(job, out);
+    finish(Action::CompileJob, i, r, out)
+}
+
+// compile d k p q cap [OUT]
+pub fn compile() -> Status {
+    let said = numbers_said(Action::Compile);
+    if !said.good {
+        return Status::Misused;
+    }
+    let job = said.job;
+    let mut out = [0u8; 3864];
+    compile_numbers(&job, &mut out)
+}
+
+// compile-job FILE [OUT]
+pub fn compile_file() -> Status {
+    let mut job = [0u8; 37];
+    let l = load(read_place(Action::CompileJob), &mut job);
+    if !l.good {
+        return Status::Failed;
+    }
+    let n = l.size;
+    let mut out = [0u8; 3864];
+    compile_bytes(&job[..n], &mut out)
+}
+
+// How a trace ends: as compiling the job does.
+fn traced(job: &[u8], out: &mut [u8]) -> Status
+    ensures answer { λ s. ⌜ s ≡ endOf (compileRunLength (now (job .entry)) (length (now (out .entry)))) ⌝ }
+{
+    match compile_run_length(job, out) {
+        Answer::Refused(_) => Status::Failed,
+        Answer::Done(_) => Status::Done,
+    }
+}
+
+// trace d k p q cap
+pub fn trace_numbers() -> Status {
+    let said = numbers_said(Action::Trace);
+    if !said.good {
+        return Status::Misused;
+    }
+    let job = said.job;
+    let mut out = page();
+    let n = trace_run_length(&job, &mut out, 0);
+    match print(&out[..n]) {
+        Status::Done => {
+            let mut record = [0u8; 3864];
+            traced(&job, &mut record)
+        }
+        s => s,
+    }
+}
