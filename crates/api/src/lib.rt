@@ -20,7 +20,7 @@ use word::word;
 fn set_word(a: SetAnswer) -> u64
     ensures answer { λ r. ⌜ r ≡ setWordOf a ⌝ }
 {
-    join(sets::walking::set_number(a), sets::walking::set_value(a))
+    join(sets::set_number(a), sets::set_value(a))
 }
 
 // Whether a record is accepted: refusals 8, 7, 8, 7, 9, 10 in this order, or 0.
@@ -38,7 +38,7 @@ pub extern "C" fn sbc_check(bytes: &[u8]) -> u64
 pub extern "C" fn sbc_set(set: &[u8]) -> u64
     ensures answer { λ r. ⌜ r ≡ setWordOf (setAnswer (readSet (now (set .entry)))) ⌝ }
 {
-    set_word(sets::walking::check_set(set))
+    set_word(sets::check_set(set))
 }
 
 // Blocks recorded under a record: the record's refusals, 13, 11 with the place of the first bad block; otherwise how

@@ -16,7 +16,7 @@ use messages::usage::misused_word;
 use messages::usage::print_use;
 use setlines::put_set;
 use sets::SetAnswer;
-use sets::walking::check_set;
+use sets::check_set;
 use table::Table;
 use viewing::put_view;
 

@@ -14,10 +14,10 @@ use Rattle.table.specs.Value.{codeIn, rowIn}
 use Rattle.answer.specs.declared.Verdict.{Verdict}
 use Rattle.answer.specs.declared.Verdict.the-variants.{Good, Bad}
 use Rattle.checker.specs.Parse.{parse}
-use Rattle.sets.specs.declared.Place.{Place}
-use Rattle.sets.specs.declared.Place.the-variants.{At, Nowhere}
-use Rattle.sets.specs.Offsets.{placeAt, offsetOf, recordPlace}
-use Rattle.sets.proofs.Offsets.{place→}
+use Rattle.places.specs.declared.Place.{Place}
+use Rattle.places.specs.declared.Place.the-variants.{At, Nowhere}
+use Rattle.places.specs.Offsets.{placeAt, offsetOf, recordPlace}
+use Rattle.places.proofs.Offsets.{place→}
 use Rattle.setlines.specs.SetText.{placeText, kindText, recordLine, placedLine, recordText, linesTo}
 
 -- ---- where a record stands

@@ -11,9 +11,9 @@ use Rattle.sentences.specs.Sentences.{said}
 use Rattle.answer.specs.Outcomes.{Outcome, done, refused}
 use Rattle.table.specs.Rows.{Code}
 use Rattle.checker.specs.Parse.{parse}
-use Rattle.sets.specs.declared.Place.{Place}
-use Rattle.sets.specs.declared.Place.the-variants.{At, Nowhere}
-use Rattle.sets.specs.Offsets.{recordPlace}
+use Rattle.places.specs.declared.Place.{Place}
+use Rattle.places.specs.declared.Place.the-variants.{At, Nowhere}
+use Rattle.places.specs.Offsets.{recordPlace}
 
 -- the number of a record, its first byte and its length
 abbrev pub placeText : ℕ → ℕ → ℕ → List ℕ

@@ -7,9 +7,9 @@ ghost use Rattle.text.specs.Texts.{Added};
 ghost use Rattle.checker.specs.Parse.{parse};
 ghost use Rattle.setlines.specs.SetText.{placeText, kindText, recordLine, recordText, linesTo, setText};
 use answer::Verdict;
+use places::Place;
+use places::find;
 use sentences::put_sentence;
-use sets::Place;
-use sets::walking::find;
 use text::put;
 use text::put_number;
 

@@ -7,11 +7,11 @@ use Rattle.answer.specs.declared.Refusal.the-variants.{Length}
 use Rattle.answer.specs.Outcomes.{done}
 use Rattle.table.specs.Rows.{Code}
 use Rattle.checker.specs.Parse.{parse}
-use Rattle.sets.specs.declared.Place.the-variants.{At}
+use Rattle.places.specs.declared.Place.the-variants.{At}
+use Rattle.places.specs.Offsets.{lengthAt, endAt, placeAt, offsetOf, recordPlace}
+use Rattle.places.proofs.Offsets.{place-whole, record-at}
 use Rattle.sets.specs.Sets.{codes, stopped, walked, readSet}
-use Rattle.sets.specs.Offsets.{lengthAt, endAt, placeAt, offsetOf, recordPlace}
 use Rattle.sets.proofs.Sets.{next→}
-use Rattle.sets.proofs.Offsets.{place-whole, record-at}
 use Rattle.sets.proofs.Walks.{walk-cut, walk-whole}
 
 -- the bytes at a place hold the code c

@@ -13,14 +13,14 @@ use Rattle.answer.specs.declared.Answer.the-variants.{Done, Refused}
 use Rattle.answer.specs.Outcomes.{Outcome, done, refused, onward, answerOf}
 use Rattle.table.specs.Rows.{Code}
 use Rattle.checker.specs.Parse.{parse, checkedOnly}
+use Rattle.places.specs.declared.Place.the-variants.{At}
+use Rattle.places.specs.Offsets.{lengthAt, endAt, placeAt}
+use Rattle.places.proofs.Offsets.{place→}
 use Rattle.sets.specs.declared.SetAnswer.{SetAnswer}
 use Rattle.sets.specs.declared.SetAnswer.the-variants.{Good, Bad}
-use Rattle.sets.specs.declared.walking.Step.{Step}
-use Rattle.sets.specs.declared.walking.Step.the-variants.{On, Stop}
+use Rattle.sets.specs.declared.Step.{Step}
+use Rattle.sets.specs.declared.Step.the-variants.{On, Stop}
 use Rattle.sets.specs.Sets.{Walk, codes, stopped, also, next, walked, readSet}
-use Rattle.sets.specs.declared.Place.the-variants.{At}
-use Rattle.sets.specs.Offsets.{lengthAt, endAt, placeAt}
-use Rattle.sets.proofs.Offsets.{place→}
 use Rattle.sets.specs.Results.{setAnswer, stepOf, stepAt}
 
 -- the answer of a set whose first k records are good, by the walk of the others

@@ -11,12 +11,12 @@ use Rattle.answer.specs.Outcomes.{Outcome, done, refused}
 use Rattle.answer.specs.Refusals.{numberOf}
 use Rattle.table.specs.Rows.{Code}
 use Rattle.checker.specs.Parse.{parse}
+use Rattle.places.specs.Offsets.{lengthAt, endAt}
 use Rattle.sets.specs.declared.SetAnswer.{SetAnswer}
 use Rattle.sets.specs.declared.SetAnswer.the-variants.{Good, Bad}
-use Rattle.sets.specs.declared.walking.Step.{Step}
-use Rattle.sets.specs.declared.walking.Step.the-variants.{On, Stop}
+use Rattle.sets.specs.declared.Step.{Step}
+use Rattle.sets.specs.declared.Step.the-variants.{On, Stop}
 use Rattle.sets.specs.Sets.{Walk, codes, stopped}
-use Rattle.sets.specs.Offsets.{lengthAt, endAt}
 
 -- how many records a good set has; or "the first bad one [..] is answered with its number from 0 and its refusal"
 abbrev pub setAnswer : Walk → SetAnswer

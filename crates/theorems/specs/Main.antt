@@ -211,7 +211,7 @@ sets = (Rattle.sets.proofs.Counts.set-written, Rattle.sets.proofs.Counts.set-w
 -- In a good set record i stands at the place of number i, and its bytes hold code i.
 pub good-places : (s : List ℕ) (cs : List Code) → readSet s ≡ codes cs → (length cs ≡ getD s 0 0)
     × ((i : ℕ) (d : Code) → i < length cs → (start : ℕ) × (len : ℕ)
-    × (Rattle.sets.specs.Offsets.recordPlace s i ≡ Rattle.sets.specs.declared.Place.the-variants.At start len)
+    × (Rattle.places.specs.Offsets.recordPlace s i ≡ Rattle.places.specs.declared.Place.the-variants.At start len)
     × (parse (take len (drop start s)) ≡ done (getD cs i d)))
 good-places = Rattle.sets.proofs.Records.good-places
 

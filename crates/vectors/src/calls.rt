@@ -14,9 +14,9 @@ use decoder::decode;
 use encoder::encode;
 use listings::list_run_length;
 use listings::tell_refusal;
-use sets::walking::check_set;
-use sets::walking::set_number;
-use sets::walking::set_value;
+use sets::check_set;
+use sets::set_number;
+use sets::set_value;
 
 // What a call came to: the number of its answer and its value.
 pub struct Told {

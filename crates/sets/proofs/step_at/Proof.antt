@@ -1,10 +1,10 @@
 -- `step_at` meets its contract: 8 for a record that is cut off, otherwise the checker's answer on its bytes.
 -- Assumes nothing.
 use Rattle.laws.proofs.All.{sym, _∙_, _+_, _≤_, arith, needs, now, length}
-use Rattle.sets.proofs.Offsets.{place→, nowhere→}
+use Rattle.places.proofs.Offsets.{place→, nowhere→}
 use Rattle.sets.proofs.Walks.{step-cut, step-stop, step-on}
-use Rattle.sets.proofs.walking.step_at.Statement.{statement}
-use Rattle.sets.proofs.walking.step_at.Tie as tie
+use Rattle.sets.proofs.step_at.Statement.{statement}
+use Rattle.sets.proofs.step_at.Tie as tie
 
 -- the record that was found lies within the set
 within : (c : tie.After-known-told)

@@ -1,4 +1,4 @@
--- `sets::next` meets its contract: a walk of its MIR, by hand. The struct is taken apart, and `place_at` is called on
+-- `places::next` meets its contract: a walk of its MIR, by hand. The struct is taken apart, and `place_at` is called on
 -- the slice and the number. All that the proof knows of `place_at` is that it meets its contract.
 -- The struct is Copy: what it owns is had twice, one copy is kept whole for the exit, and of the other what `set` owns
 -- goes to the callee, beside the lifetime's token, which comes back.
@@ -42,21 +42,21 @@ use denote.Triple.Table.{entered, cited}
 use denote.Triple.Walked.{says, Stays, stay-none, walkOf, goes-none, Walks, ends-at, walked, walk-meets}
 use denote.Exit.{yes}
 use denote.Triple.Clauses.{ensured, lasts}
-use Rattle.sets.specs.Offsets.{placeAt}
-use Rattle.sets.specs.declared.Reader.{Reader}
-use Rattle.sets.specs.declared.Place.{Place}
-use Rattle.sets.proofs.Reader as T
-use Rattle.sets.proofs.Reader.Laws as T′
-use Rattle.sets.proofs.Place as S
-use Rattle.sets.proofs.Place.Laws as S′
-use Rattle.sets.proofs.place_at as step
-use Rattle.sets.proofs.place_at.Symbol as step-def
-use Rattle.sets.proofs.place_at.Symbol.{name as #sets·place-at}
-use Rattle.sets.proofs.place_at.Met as step-thm
-use Rattle.sets.proofs.next.Key.{name as #sets·next}
-use Rattle.sets.proofs.next as next
-use Rattle.sets.proofs.next.Statement as stated
-use Rattle.sets.proofs.next.Code as code
+use Rattle.places.specs.Offsets.{placeAt}
+use Rattle.places.specs.declared.Reader.{Reader}
+use Rattle.places.specs.declared.Place.{Place}
+use Rattle.places.proofs.Reader as T
+use Rattle.places.proofs.Reader.Laws as T′
+use Rattle.places.proofs.Place as S
+use Rattle.places.proofs.Place.Laws as S′
+use Rattle.places.proofs.place_at as step
+use Rattle.places.proofs.place_at.Symbol as step-def
+use Rattle.places.proofs.place_at.Symbol.{name as #places·place-at}
+use Rattle.places.proofs.place_at.Met as step-thm
+use Rattle.places.proofs.next.Key.{name as #places·next}
+use Rattle.places.proofs.next as next
+use Rattle.places.proofs.next.Statement as stated
+use Rattle.places.proofs.next.Code as code
 
 -- the struct's type, over the signature's lifetimes
 abbrev B : Lfts 1 → RattleType
@@ -144,7 +144,7 @@ module _ {M : Type 1} (𝓤 : URA M) (H : Heap 𝓤) (A : Atoms 𝓤) (W : Given
       move ! (1 ∷ []) $ frame ! $ nothing ! $ move ! (2 ∷ 0 ∷ []) $ fjoin ! $ frame ! $ done !
 
   module _ (C : Calls 𝓤 H) (Λ : Loops 𝓤 H) (fm : FmC 𝓤 H (W .laws) C)
-      (known : Triple 𝓤 (C #sets·place-at) (PlaceAt 𝓤 H A mem run)) where
+      (known : Triple 𝓤 (C #places·place-at) (PlaceAt 𝓤 H A mem run)) where
     walk : Holds (hasTy (T′.mir (named 0)) mach) × WT mach
         → ent 𝓤 (onEntry 𝓤 H A next.signature (κ, tt) (q, tt) (d, tt) (mach ∷ [], tt))
         (WpFn 𝓤 H C Λ code.function (mach ∷ []) Post)
@@ -177,7 +177,7 @@ module _ {M : Type 1} (𝓤 : URA M) (H : Heap 𝓤) (A : Atoms 𝓤) (W : Given
 module _ {M : Type 1} (𝓤 : URA M) (H : Heap 𝓤) (A : Atoms 𝓤) (W : Given 𝓤 H A) (mem : Memory → SProp 𝓤)
     (run : Routine → Fun 𝓤) where
   next-walks : (C : Calls 𝓤 H) (Λ : Loops 𝓤 H) → FmC 𝓤 H (W .laws) C
-      → Triple 𝓤 (C #sets·place-at) (PlaceAt 𝓤 H A mem run)
+      → Triple 𝓤 (C #places·place-at) (PlaceAt 𝓤 H A mem run)
       → Walks 𝓤 H A next.ended stayed (WpFn 𝓤 H C Λ code.function) (next.clauses 𝓤 H A mem run)
   next-walks C Λ fm known = walked 𝓤 H A next.ended stayed (next.clauses 𝓤 H A mem run) (WpFn 𝓤 H C Λ code.function)
       (λ κs. (LL.vals (T.the-type (namedLft 1 0 tt κs)) (T′.the-laws (namedLft 1 0 tt κs)), tt))
@@ -189,7 +189,7 @@ module _ {M : Type 1} (𝓤 : URA M) (H : Heap 𝓤) (A : Atoms 𝓤) (W : Given
 
 next-meets : {M : Type 1} (𝓤 : URA M) (H : Heap 𝓤) (A : Atoms 𝓤) (W : Given 𝓤 H A) (mem : Memory → SProp 𝓤)
     (run : Routine → Fun 𝓤) (𝓣 : Tables 𝓤 H)
-    → Triple 𝓤 (𝓣 .C #sets·place-at) (PlaceAt 𝓤 H A mem run)
+    → Triple 𝓤 (𝓣 .C #places·place-at) (PlaceAt 𝓤 H A mem run)
     → Meets 𝓤 H A next.signature (WpFn 𝓤 H (𝓣 .C) (𝓣 .Λ) code.function) (next.spec 𝓤 H A mem run)
 next-meets 𝓤 H A W mem run 𝓣 known-step = walk-meets 𝓤 H A next.ended stayed W
     (goes-none 𝓤 H A W 1 B yes (λ κs x f. refl), tt) (next.clauses 𝓤 H A mem run)
@@ -200,7 +200,7 @@ pub next-spec : {M : Type 1} → stated.statement M
 unfolding code.routine tablesOf
 next-spec 𝓤 H 𝓜 𝓖 𝓡 =
     entered 𝓤 H (tripleOf 𝓤 H (𝓖 .A) next.signature (next.spec 𝓤 H (𝓖 .A) (𝓜 .mem) (𝓡 .run)))
-    (tables 𝓤 H 𝓜 𝓡 code.env .C) (tables 𝓤 H 𝓜 𝓡 code.env .Λ) #sets·next code.function (code.unfolded 𝓤 H 𝓜 𝓡)
+    (tables 𝓤 H 𝓜 𝓡 code.env .C) (tables 𝓤 H 𝓜 𝓡 code.env .Λ) #places·next code.function (code.unfolded 𝓤 H 𝓜 𝓡)
     (next-meets 𝓤 H (𝓖 .A) (givenOf 𝓤 H 𝓜 𝓖) (𝓜 .mem) (𝓡 .run) (tablesOf 𝓤 H 𝓜 (tables 𝓤 H 𝓜 𝓡 code.env))
-    (cited 𝓤 H (PlaceAt 𝓤 H (𝓖 .A) (𝓜 .mem) (𝓡 .run)) 𝓜 𝓡 code.env #sets·place-at step-def.routine
-    code.calls-sets·place-at (step-thm.met 𝓤 H 𝓜 𝓖 𝓡)))
+    (cited 𝓤 H (PlaceAt 𝓤 H (𝓖 .A) (𝓜 .mem) (𝓡 .run)) 𝓜 𝓡 code.env #places·place-at step-def.routine
+    code.calls-places·place-at (step-thm.met 𝓤 H 𝓜 𝓖 𝓡)))

@@ -1,4 +1,4 @@
--- `sets::read` meets its contract: a walk of its MIR, by hand. A `Reader` that one call returns is held in a local
+-- `places::read` meets its contract: a walk of its MIR, by hand. A `Reader` that one call returns is held in a local
 -- and passed to the next. All that the proof knows of `new` and of `next` is that each meets its contract.
 -- The machine value that `new` returns is stored and passed on as it is. In a local of a body MIR erases the lifetime
 -- of the struct's type, so the value is shown to have the type at `erased`: what the struct owns does not say the
@@ -40,25 +40,25 @@ use denote.Triple.Walked.{says, Stays, stay-none-slice, stay-none, walkOf, goes-
 use denote.Triple.Walked.{walked, walk-meets}
 use denote.Exit.{yes}
 use denote.Triple.Clauses.{ensured, lasts}
-use Rattle.sets.specs.Offsets.{placeAt}
-use Rattle.sets.specs.declared.Reader.{Reader}
-use Rattle.sets.specs.declared.Place.{Place}
-use Rattle.sets.proofs.Reader as T
-use Rattle.sets.proofs.Reader.Laws as T′
-use Rattle.sets.proofs.Place as S
-use Rattle.sets.proofs.Place.Laws as S′
-use Rattle.sets.proofs.new as new
-use Rattle.sets.proofs.new.Symbol as new-def
-use Rattle.sets.proofs.new.Symbol.{name as #sets·new}
-use Rattle.sets.proofs.new.Met as new-thm
-use Rattle.sets.proofs.next as next
-use Rattle.sets.proofs.next.Symbol as next-def
-use Rattle.sets.proofs.next.Symbol.{name as #sets·next}
-use Rattle.sets.proofs.next.Met as next-thm
-use Rattle.sets.proofs.read.Key.{name as #sets·read}
-use Rattle.sets.proofs.read as read
-use Rattle.sets.proofs.read.Statement as stated
-use Rattle.sets.proofs.read.Code as code
+use Rattle.places.specs.Offsets.{placeAt}
+use Rattle.places.specs.declared.Reader.{Reader}
+use Rattle.places.specs.declared.Place.{Place}
+use Rattle.places.proofs.Reader as T
+use Rattle.places.proofs.Reader.Laws as T′
+use Rattle.places.proofs.Place as S
+use Rattle.places.proofs.Place.Laws as S′
+use Rattle.places.proofs.new as new
+use Rattle.places.proofs.new.Symbol as new-def
+use Rattle.places.proofs.new.Symbol.{name as #places·new}
+use Rattle.places.proofs.new.Met as new-thm
+use Rattle.places.proofs.next as next
+use Rattle.places.proofs.next.Symbol as next-def
+use Rattle.places.proofs.next.Symbol.{name as #places·next}
+use Rattle.places.proofs.next.Met as next-thm
+use Rattle.places.proofs.read.Key.{name as #places·read}
+use Rattle.places.proofs.read as read
+use Rattle.places.proofs.read.Statement as stated
+use Rattle.places.proofs.read.Code as code
 
 -- the struct's type, over the signature's lifetimes
 abbrev B : Lfts 1 → RattleType
@@ -144,8 +144,8 @@ module _ {M : Type 1} (𝓤 : URA M) (H : Heap 𝓤) (A : Atoms 𝓤) (W : Given
       fjoin ! $ move ! (2 ∷ 0 ∷ []) $ fjoin ! $ frame ! $ done !
 
   module _ (C : Calls 𝓤 H) (Λ : Loops 𝓤 H) (fm : FmC 𝓤 H (W .laws) C)
-      (known-new : Triple 𝓤 (C #sets·new) (New 𝓤 H A mem run))
-      (known-next : Triple 𝓤 (C #sets·next) (Next 𝓤 H A mem run)) where
+      (known-new : Triple 𝓤 (C #places·new) (New 𝓤 H A mem run))
+      (known-next : Triple 𝓤 (C #places·next) (Next 𝓤 H A mem run)) where
     walk : Is (ShrSlice (named 0) κ u8) s (v ∷ [])
         → ent 𝓤 (onEntry 𝓤 H A read.signature (κ, tt) (q, tt) (s, (n, tt)) (v ∷ [], (vint w64 n ∷ [], tt)))
         (WpFn 𝓤 H C Λ code.function (v ∷ vint w64 n ∷ []) Post)
@@ -188,8 +188,8 @@ module _ {M : Type 1} (𝓤 : URA M) (H : Heap 𝓤) (A : Atoms 𝓤) (W : Given
 
 module _ {M : Type 1} (𝓤 : URA M) (H : Heap 𝓤) (A : Atoms 𝓤) (W : Given 𝓤 H A) (mem : Memory → SProp 𝓤)
     (run : Routine → Fun 𝓤) where
-  read-walks : (C : Calls 𝓤 H) (Λ : Loops 𝓤 H) → FmC 𝓤 H (W .laws) C → Triple 𝓤 (C #sets·new) (New 𝓤 H A mem run)
-      → Triple 𝓤 (C #sets·next) (Next 𝓤 H A mem run)
+  read-walks : (C : Calls 𝓤 H) (Λ : Loops 𝓤 H) → FmC 𝓤 H (W .laws) C → Triple 𝓤 (C #places·new) (New 𝓤 H A mem run)
+      → Triple 𝓤 (C #places·next) (Next 𝓤 H A mem run)
       → Walks 𝓤 H A read.ended stayed (WpFn 𝓤 H C Λ code.function) (read.clauses 𝓤 H A mem run)
   read-walks C Λ fm known-new known-next = walked 𝓤 H A read.ended stayed (read.clauses 𝓤 H A mem run)
       (WpFn 𝓤 H C Λ code.function) (λ κs. (slice-vals, (uint-vals w64, tt)))
@@ -199,7 +199,7 @@ module _ {M : Type 1} (𝓤 : URA M) (H : Heap 𝓤) (A : Atoms 𝓤) (W : Given
 
 read-meets : {M : Type 1} (𝓤 : URA M) (H : Heap 𝓤) (A : Atoms 𝓤) (W : Given 𝓤 H A) (mem : Memory → SProp 𝓤)
     (run : Routine → Fun 𝓤) (𝓣 : Tables 𝓤 H)
-    → Triple 𝓤 (𝓣 .C #sets·new) (New 𝓤 H A mem run) → Triple 𝓤 (𝓣 .C #sets·next) (Next 𝓤 H A mem run)
+    → Triple 𝓤 (𝓣 .C #places·new) (New 𝓤 H A mem run) → Triple 𝓤 (𝓣 .C #places·next) (Next 𝓤 H A mem run)
     → Meets 𝓤 H A read.signature (WpFn 𝓤 H (𝓣 .C) (𝓣 .Λ) code.function) (read.spec 𝓤 H A mem run)
 read-meets 𝓤 H A W mem run 𝓣 known-new known-next = walk-meets 𝓤 H A read.ended stayed W (
   goes-none-slice 𝓤 H A W 1 (0 ∷ []) tt (plain (λ _. u8)) yes,
@@ -212,9 +212,9 @@ pub read-spec : {M : Type 1} → stated.statement M
 unfolding code.routine tablesOf
 read-spec 𝓤 H 𝓜 𝓖 𝓡 =
     entered 𝓤 H (tripleOf 𝓤 H (𝓖 .A) read.signature (read.spec 𝓤 H (𝓖 .A) (𝓜 .mem) (𝓡 .run)))
-    (tables 𝓤 H 𝓜 𝓡 code.env .C) (tables 𝓤 H 𝓜 𝓡 code.env .Λ) #sets·read code.function (code.unfolded 𝓤 H 𝓜 𝓡)
+    (tables 𝓤 H 𝓜 𝓡 code.env .C) (tables 𝓤 H 𝓜 𝓡 code.env .Λ) #places·read code.function (code.unfolded 𝓤 H 𝓜 𝓡)
     (read-meets 𝓤 H (𝓖 .A) (givenOf 𝓤 H 𝓜 𝓖) (𝓜 .mem) (𝓡 .run) (tablesOf 𝓤 H 𝓜 (tables 𝓤 H 𝓜 𝓡 code.env))
-    (cited 𝓤 H (New 𝓤 H (𝓖 .A) (𝓜 .mem) (𝓡 .run)) 𝓜 𝓡 code.env #sets·new new-def.routine code.calls-sets·new
+    (cited 𝓤 H (New 𝓤 H (𝓖 .A) (𝓜 .mem) (𝓡 .run)) 𝓜 𝓡 code.env #places·new new-def.routine code.calls-places·new
     (new-thm.met 𝓤 H 𝓜 𝓖 𝓡))
-    (cited 𝓤 H (Next 𝓤 H (𝓖 .A) (𝓜 .mem) (𝓡 .run)) 𝓜 𝓡 code.env #sets·next next-def.routine code.calls-sets·next
+    (cited 𝓤 H (Next 𝓤 H (𝓖 .A) (𝓜 .mem) (𝓡 .run)) 𝓜 𝓡 code.env #places·next next-def.routine code.calls-places·next
     (next-thm.met 𝓤 H 𝓜 𝓖 𝓡)))

@@ -1,10 +1,10 @@
 -- `find` meets its contract: the loop goes from the offset of one record to that of the next.
 -- Assumes nothing.
 use Rattle.laws.proofs.All.{_≡_, refl, sym, ap, _∙_, _+_, _-_, _≤_, _<_, arith, needs, now, length, getD}
-use Rattle.sets.specs.Offsets.{placeAt, offsetOf}
-use Rattle.sets.proofs.Offsets.{record-none, record-empty, record-at, record-cut, record-next}
-use Rattle.sets.proofs.walking.find.Statement.{statement}
-use Rattle.sets.proofs.walking.find.Tie as tie
+use Rattle.places.specs.Offsets.{placeAt, offsetOf}
+use Rattle.places.proofs.Offsets.{record-none, record-empty, record-at, record-cut, record-next}
+use Rattle.places.proofs.find.Statement.{statement}
+use Rattle.places.proofs.find.Tie as tie
 
 abbrev Inv-loop : tie.InvT-loop
 Inv-loop set i passed₀ at₀ passed at = (passed ≤ i) × (i < getD set 0 0) × (at ≡ offsetOf set passed)

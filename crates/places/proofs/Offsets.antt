@@ -5,8 +5,8 @@
 use Rattle.laws.proofs.All.{_≡_, refl, sym, ap, subst, _∙_, Bool, true, false, List, [], _∷_, ℕ, zero, suc, _+_}
 use Rattle.laws.proofs.All.{_≤_, _<_, arith, le-leb, lt-leb, leb-true, leb-false, lt-ltb, le-ltb, eqb-true}
 use Rattle.laws.proofs.All.{eqb-false, leb, eqb, length, getD, if_then_else_, never}
-use Rattle.sets.specs.declared.Place.the-variants.{At, Nowhere}
-use Rattle.sets.specs.Offsets.{lengthAt, endAt, placeAt, offsetOf, recordPlace}
+use Rattle.places.specs.declared.Place.the-variants.{At, Nowhere}
+use Rattle.places.specs.Offsets.{lengthAt, endAt, placeAt, offsetOf, recordPlace}
 
 -- a record whose bytes are all there
 pub place-whole : (s : List ℕ) (at : ℕ) → endAt s at ≤ length s → placeAt s at ≡ At (at + 2) (lengthAt s at)

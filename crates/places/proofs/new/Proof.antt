@@ -1,4 +1,4 @@
--- `sets::new` meets its contract: a walk of its MIR, by hand. A `Reader` is made of the slice and the number passed,
+-- `places::new` meets its contract: a walk of its MIR, by hand. A `Reader` is made of the slice and the number passed,
 -- in the result's local.
 -- A `&[u8]` is Copy, so what it owns is had twice: once for `set` at exit, and once inside the result, beside the facts
 -- of `at`.
@@ -34,13 +34,13 @@ use denote.Triple.Table.{entered}
 use denote.Triple.Walked.{says, Stays, stay-none-slice, stay-none, walkOf, goes-none-slice, goes-none, Walks, ends-at}
 use denote.Triple.Walked.{walked, walk-meets}
 use denote.Exit.{yes}
-use Rattle.sets.specs.declared.Reader.{Reader}
-use Rattle.sets.proofs.Reader as T
-use Rattle.sets.proofs.Reader.Laws as T′
-use Rattle.sets.proofs.new.Key.{name as #sets·new}
-use Rattle.sets.proofs.new as new
-use Rattle.sets.proofs.new.Statement as stated
-use Rattle.sets.proofs.new.Code as code
+use Rattle.places.specs.declared.Reader.{Reader}
+use Rattle.places.proofs.Reader as T
+use Rattle.places.proofs.Reader.Laws as T′
+use Rattle.places.proofs.new.Key.{name as #places·new}
+use Rattle.places.proofs.new as new
+use Rattle.places.proofs.new.Statement as stated
+use Rattle.places.proofs.new.Code as code
 
 abbrev stayed : Stays (new.ended .signature .params) (new.ended .kept)
 stayed = (stay-none-slice (0 ∷ []) tt (plain (λ _. u8)) yes, (stay-none (λ _. usize) yes, tt))
@@ -119,5 +119,5 @@ pub new-spec : {M : Type 1} → stated.statement M
 unfolding code.routine tablesOf
 new-spec 𝓤 H 𝓜 𝓖 𝓡 =
     entered 𝓤 H (tripleOf 𝓤 H (𝓖 .A) new.signature (new.spec 𝓤 H (𝓖 .A) (𝓜 .mem) (𝓡 .run)))
-    (tables 𝓤 H 𝓜 𝓡 code.env .C) (tables 𝓤 H 𝓜 𝓡 code.env .Λ) #sets·new code.function (code.unfolded 𝓤 H 𝓜 𝓡)
+    (tables 𝓤 H 𝓜 𝓡 code.env .C) (tables 𝓤 H 𝓜 𝓡 code.env .Λ) #places·new code.function (code.unfolded 𝓤 H 𝓜 𝓡)
     (new-meets 𝓤 H (𝓖 .A) (givenOf 𝓤 H 𝓜 𝓖) (𝓜 .mem) (𝓡 .run) (tablesOf 𝓤 H 𝓜 (tables 𝓤 H 𝓜 𝓡 code.env)))

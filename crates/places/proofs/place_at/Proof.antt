@@ -1,9 +1,9 @@
 -- `place_at` meets its contract: the two bytes of the length and as many more lie within the set, or they do not.
 -- Assumes nothing.
 use Rattle.laws.proofs.All.{sym, _+_, arith, needs, now}
-use Rattle.sets.proofs.Offsets.{place-whole, place-cut}
-use Rattle.sets.proofs.place_at.Statement.{statement}
-use Rattle.sets.proofs.place_at.Tie as tie
+use Rattle.places.proofs.Offsets.{place-whole, place-cut}
+use Rattle.places.proofs.place_at.Statement.{statement}
+use Rattle.places.proofs.place_at.Tie as tie
 
 returns : tie.Need-returns
 returns c =

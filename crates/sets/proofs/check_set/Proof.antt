@@ -3,8 +3,8 @@
 use Rattle.laws.proofs.All.{sym, _∙_, _-_, _≤_, arith, needs, now}
 use Rattle.sets.proofs.Walks.{set-empty, Walking, walking-start, walking-stop, walking-on}
 use Rattle.sets.proofs.Walks.{walking-left, walking-end}
-use Rattle.sets.proofs.walking.check_set.Statement.{statement}
-use Rattle.sets.proofs.walking.check_set.Tie as tie
+use Rattle.sets.proofs.check_set.Statement.{statement}
+use Rattle.sets.proofs.check_set.Tie as tie
 
 abbrev Inv-loop : tie.InvT-loop
 Inv-loop set count number₀ at₀ number at = (number ≤ count) × (count ≤ 255) × Walking set count number at

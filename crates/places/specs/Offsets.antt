@@ -6,8 +6,8 @@ use Prim.Native.Nat.{ℕ, zero, suc, _+_, _*_}
 use lib.Dec.{ltb, leb}
 use lib.ListN.{length, getD}
 use Rattle.laws.specs.Lists.{if_then_else_}
-use Rattle.sets.specs.declared.Place.{Place}
-use Rattle.sets.specs.declared.Place.the-variants.{At, Nowhere}
+use Rattle.places.specs.declared.Place.{Place}
+use Rattle.places.specs.declared.Place.the-variants.{At, Nowhere}
 
 -- the two-byte length at an offset
 abbrev pub lengthAt : List ℕ → ℕ → ℕ
