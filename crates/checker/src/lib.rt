@@ -25,7 +25,7 @@ fn judge(t: Table) -> TableAnswer
     if !obeying::obeys(t) {
         return declined(Refusal::Disobeys);
     }
-    if !windows::works(t, t.memory, t.lookahead) {
+    if !working::works(t, t.memory, t.lookahead) {
         return declined(Refusal::WindowFails);
     }
     TableAnswer {

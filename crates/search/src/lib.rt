@@ -5,15 +5,15 @@ ghost use Prim.Native.Nat.{_+_, _≤_, _<_};
 ghost use Rattle.table.specs.Value.{Ready, rowsIn};
 ghost use Rattle.windows.specs.Search.{noSize, window, pasts};
 ghost use Rattle.table.specs.Edges.{borrowed, rowsOf, Linked};
-ghost use Rattle.windows.specs.PairSets.{pairsIn, Long};
+ghost use Rattle.pairs.specs.PairSets.{pairsIn, Long};
 ghost use Rattle.windows.specs.Steps.{size, withWord, Leading, Room};
 ghost use Rattle.search.specs.Finding.{foundSize};
 use table::Table;
 use table::chains::chain;
 use table::chains::ways;
-use windows::extend_memory;
-use windows::lookahead_needed;
-use windows::pairs::clashes;
+use working::steps::clashes;
+use working::steps::extend_memory;
+use working::steps::lookahead_needed;
 
 // Memory and lookahead of a window; 16 and 16 for none.
 struct Best {

@@ -6,11 +6,6 @@ pub mod WindowLeast
 pub mod WindowOnly
 pub mod Clashes
 pub mod Search
-pub mod Joins
-pub mod PairSets
-pub mod TwoEdges
-pub mod SetLaws
-pub mod Steps
 pub mod PastSets
 pub mod Lookahead
 pub mod Leading

@@ -1,19 +1,41 @@
 -- All pairs whose next edges must agree, for one word of memory more.
--- In order: into-union; starts-more; pasts-none, pasts-more, pasts-rest.
+-- In order: all-grid, into-grid; into-union; starts-more; pasts-none, pasts-more, pasts-rest.
 -- Assumes nothing.
 use Rattle.laws.proofs.All.{_≡_, refl, sym, ap, ap₂, subst₂, _∙_, inl, inr, Bool, true, false, _||_, or-assoc}
 use Rattle.laws.proofs.All.{or-comm, ℕ, zero, suc, _+_, _<_, add-zero, add-one, arith, T, length, Pairs, has, or→}
-use Rattle.laws.proofs.All.{→orL, →orR, T→true, bool-eq, grid→, →grid, iterate-suc}
-use Rattle.table.specs.Rows.{Rows, edges, at}
+use Rattle.laws.proofs.All.{→orL, →orR, T→true, bool-eq, grid→, iterate-suc, map, _∷_, [], List, from, range, grid}
+use Rattle.laws.proofs.All.{map-range-same, map-range-at}
+use mathlib.Core.List.{map-map}
+use Rattle.table.specs.Rows.{Rows, at}
 use Rattle.table.specs.Paths.{Closed}
-use Rattle.windows.specs.Works.{into, reversed, allPairs, startPair, past, started}
+use Rattle.windows.specs.Works.{meet, into, entering, reversed, allPairs, startPair, past, started}
 use Rattle.windows.specs.Search.{union, starts, pasts}
-use Rattle.windows.proofs.Same.{has-all, onward}
+use Rattle.windows.proofs.Same.{has-into, has-all, onward}
 use Rattle.windows.proofs.Complete.{back-one}
 use Rattle.table.proofs.EqualGrids.{grid-same, has-grid}
 use Rattle.windows.specs.Steps.{withWord}
-use Rattle.windows.proofs.SetLaws.{all-grid}
 
+-- ---- all pairs
+map-const : {A B : Type 0} (c : B) (l : List A) (i : ℕ) → map (λ x. c) l ≡ map (λ x. c) (from i (length l))
+map-const c [] i = refl
+map-const c (x ∷ l) i = ap (λ r. c ∷ r) (map-const c l (suc i))
+
+pub all-grid : (t : Rows) → allPairs t ≡ grid (length t) (length t) (λ x y. true)
+all-grid t = ap (λ r. map (λ es. r) t) (map-const true t 0) ∙ map-const (map (λ y. true) (range (length t))) t 0
+
+-- ---- the pairs that one common word leads to
+pub into-grid : (g : Rows) (Q : Pairs) → into (reversed g) Q ≡ grid (length g) (length g) (has (into (reversed g) Q))
+into-grid g Q =
+    map-map (λ es. map (meet Q es) (reversed g)) (entering g) (range (length g))
+    ∙ map-range-same (λ s. map (meet Q (entering g s)) (reversed g))
+    (λ s. map (has (into (reversed g) Q) s) (range (length g))) (length g)
+    (λ s hs. map-map (meet Q (entering g s)) (entering g) (range (length g))
+    ∙ map-range-same (λ u. meet Q (entering g s) (entering g u)) (has (into (reversed g) Q) s) (length g)
+    (λ u hu. sym (has-into (reversed g) Q s u
+    ∙ ap₂ (meet Q) (map-range-at (entering g) (length g) s [] hs)
+    (map-range-at (entering g) (length g) u [] hu))))
+
+-- ---- memory
 -- no memory: any two states
 pub pasts-none : (t : Rows) → pasts t 0 ≡ allPairs t
 pasts-none t =

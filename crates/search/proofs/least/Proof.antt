@@ -5,9 +5,9 @@ use Rattle.laws.proofs.All.{needs}
 use Rattle.windows.specs.Search.{window, pasts}
 use Rattle.table.specs.Edges.{Arrays, arrays, rowsOf}
 use Rattle.table.proofs.RowsOf.{length-rows, closed-rows}
-use Rattle.windows.specs.PairSets.{pairsIn, Long}
+use Rattle.pairs.specs.PairSets.{pairsIn, Long}
 use Rattle.windows.specs.Steps.{size, Leading}
-use Rattle.windows.proofs.SetLaws.{all-of}
+use Rattle.working.proofs.SetsOf.{all-of}
 use Rattle.windows.proofs.PastSets.{pasts-none}
 use Rattle.windows.proofs.Leading.{lead-start, lead-small}
 use Rattle.windows.proofs.Turns.{turn}

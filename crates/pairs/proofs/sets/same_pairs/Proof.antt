@@ -1,0 +1,46 @@
+-- The loop has found no place that differs among those that it has passed.
+use Rattle.laws.proofs.All.{_≡_, sym, ap, _∙_, false, not, _-_, _*_, _≤_, arith, now, needs}
+use Rattle.table.specs.Marks.{some}
+use Rattle.table.proofs.Marks.{none-start, none-more, some-stop}
+use Rattle.pairs.specs.PairSets.{differsAt}
+use Rattle.pairs.proofs.sets.same_pairs.Statement.{statement}
+use Rattle.pairs.proofs.sets.same_pairs.Tie as tie
+
+abbrev Inv-loop : tie.InvT-loop
+Inv-loop states a b z₀ z = (z ≤ states * 128) × (some (differsAt a b) z ≡ false)
+
+abbrev μ-loop : tie.MeasureT-loop
+μ-loop states a b z₀ z = states * 128 - z
+
+loop-holds : tie.Need-loop-holds Inv-loop μ-loop
+loop-holds c = (omega arith, none-start _)
+
+returns : tie.Need-returns Inv-loop μ-loop
+returns c =
+    let i = c .before .before .before .before in
+    let a = i .before .before .args in
+    sym (ap not (some-stop (differsAt (now (a .a)) (now (a .b))) (a .states * 128) (i .before .loop .z)
+    (i .loop-test .taken) (sym (c .before .differ .ensures) ∙ c .if1 .taken)))
+
+loop-again : tie.Need-loop-again Inv-loop μ-loop
+loop-again c =
+    let l = c .before .before .before .before .before .loop in
+    let a = c .before .before .before .before .before .before .args in (
+      omega arith,
+      none-more (differsAt (now (a .a)) (now (a .b))) (l .z) (l .inv .1)
+          (sym (c .before .differ .ensures) ∙ c .if1 .left),
+    )
+
+returns-2 : tie.Need-returns-2 Inv-loop μ-loop
+returns-2 c =
+    let l = c .before .loop in
+    let a = c .before .before .args in
+    let k : l .z ≡ a .states * 128 = omega arith in
+    sym (ap not (sym (ap (some (differsAt (now (a .a)) (now (a .b)))) k) ∙ l .inv .1))
+
+pub same-pairs-spec : {M : Type 1} → statement M
+same-pairs-spec =
+    tie.close
+    (tie.spec
+    Inv-loop μ-loop loop-holds (λ c. search needs) (λ c. search needs) (λ c. search needs) (λ c κs. search needs)
+    returns (λ c. search needs) (λ c. search needs) loop-again returns-2)

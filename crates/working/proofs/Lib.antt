@@ -1,0 +1,3 @@
+pub mod TwoEdges
+pub mod SetsOf
+pub mod Stepped
