@@ -1,5 +1,5 @@
 -- A constraint in words: which run-length constraint it is, and its next states line by line.
--- In order: next-none, next-some; states-none, states-more; same-runs; run-least, run-none; runs-told, states-told;
+-- In order: states-none, states-more; same-runs; run-least, run-none; runs-told, states-told;
 -- runs-so, runs-found.
 -- Assumes nothing.
 use Rattle.laws.proofs.All.{_≡_, refl, sym, ap, ap₂, subst, _∙_, Bool, true, false, and-false, List, [], _++_, ℕ}
@@ -11,18 +11,8 @@ use Rattle.constraint.specs.declared.Constraint.{Constraint}
 use Rattle.constraint.specs.Walking.{NextStates, Constraint as Limits, none, nowhere, runLengthState, runLength}
 use Rattle.constraint.specs.Value.{nextStatesAt, constraintOf}
 use Rattle.constraint.proofs.Values.{length-constraintOf}
-use Rattle.text.specs.Texts.{bytes, decimal}
-use Rattle.showing.specs.Limits.{alike, alikeAt, isRuns, leastRun, nextText, stateLine, stateOf, statesTo}
+use Rattle.showing.specs.Limits.{alike, alikeAt, isRuns, leastRun, stateLine, stateOf, statesTo}
 use Rattle.showing.specs.Limits.{runsLine, countLine, constraintLines}
-
--- ---- a next state
-pub next-none : (w : List ℕ) (s : ℕ) → s ≡ none → w ++ bytes "none" ≡ nextText w s
-unfolding nextText
-next-none w s e = rw (eq-eqb s none e)
-
-pub next-some : (w : List ℕ) (s : ℕ) → (s ≡ none → ⊥) → w ++ decimal s ≡ nextText w s
-unfolding nextText
-next-some w s h = rw (ne-eqb s none h)
 
 module _ (c : Constraint) where
   at-state : (s : ℕ) → s < c .states → getD (constraintOf c) s nowhere ≡ nextStatesAt c s
@@ -34,10 +24,10 @@ module _ (c : Constraint) where
   states-none = refl
 
   pub states-more : (s : ℕ) → s < c .states
-      → statesTo (constraintOf c) s ++ stateLine s (nextStatesAt c s) ≡ statesTo (constraintOf c) (s + 1)
+      → statesTo (constraintOf c) s ++ stateLine s (getD (c .zero) s 0) (getD (c .one) s 0) ≡ statesTo (constraintOf c) (s + 1)
   unfolding statesTo
   states-more s h =
-      ap (λ r. statesTo (constraintOf c) s ++ stateLine s r) (sym (at-state s h))
+      ap (λ r. statesTo (constraintOf c) s ++ stateLine s (r .zero) (r .one)) (sym (at-state s h))
       ∙ sym (concat-more (stateOf (constraintOf c)) s)
 
   -- ---- which run-length constraint it is

@@ -1,18 +1,16 @@
 -- A constraint as `show` prints it: its (d, k) if it is one, otherwise its next states.
--- In order: alike, alikeAt, isRuns, leastRun; nextText, stateLine, stateOf, statesTo; runsLine, countLine;
+-- In order: alike, alikeAt, isRuns, leastRun; stateLine, stateOf, statesTo; runsLine, countLine;
 -- constraintLines.
 -- Assumes nothing.
 use mathlib.Core.Bool.{Bool, _&&_}
-use mathlib.Core.List.{List, _++_, map}
-use Prim.Native.String.{String}
+use mathlib.Core.List.{List, [], _∷_, _++_, map}
 use Prim.Native.Nat.{ℕ, _-_}
 use lib.Dec.{eqb, ltb}
 use lib.ListN.{length, getD}
 use Rattle.laws.specs.Lists.{if_then_else_, range, all, first, concat}
 use Rattle.constraint.specs.Walking.{NextStates, Constraint, none, nowhere, runLength}
-use Rattle.text.specs.Texts.{bytes, decimal}
-use Rattle.text.specs.Words.{told}
-use Rattle.views.specs.Phrases.{counted}
+use Rattle.text.specs.Texts.{bytes}
+use Rattle.sentences.specs.Sentences.{said}
 
 -- the same next states
 abbrev pub alike : NextStates → NextStates → Bool
@@ -30,30 +28,27 @@ isRuns c d = all (alikeAt c (runLength d (length c - 1))) (range (length c))
 unfoldable pub leastRun : Constraint → ℕ
 leastRun c = first (isRuns c) (length c) (range (length c))
 
--- a next state behind words
-unfoldable pub nextText : List ℕ → ℕ → List ℕ
-nextText w s = w ++ (if eqb s none then bytes "none" else decimal s)
-
 -- "state 1: bit 0 to none, bit 1 to 0"
-unfoldable pub stateLine : ℕ → NextStates → List ℕ
-stateLine s r =
-    told "state " s ++ nextText (bytes ": bit 0 to ") (r .zero) ++ nextText (bytes ", bit 1 to ") (r .one) ++ bytes "\n"
+unfoldable pub stateLine : ℕ → ℕ → ℕ → List ℕ
+stateLine s z o =
+    (if eqb z none then said "state #: bit 0 to none" (s ∷ []) else said "state #: bit 0 to #" (s ∷ z ∷ []))
+    ++ (if eqb o none then bytes ", bit 1 to none\n" else said ", bit 1 to #\n" (o ∷ []))
 
 -- the line of a state of a constraint
 abbrev pub stateOf : Constraint → ℕ → List ℕ
-stateOf c s = stateLine s (getD c s nowhere)
+stateOf c s = let r = getD c s nowhere in stateLine s (r .zero) (r .one)
 
 -- the lines of the first n states
 unfoldable pub statesTo : Constraint → ℕ → List ℕ
 statesTo c n = concat (map (stateOf c) (range n))
 
 -- "constraint (0,1), start 0"
-unfoldable pub runsLine : ℕ → ℕ → ℕ → List ℕ
-runsLine d k start = told "constraint (" d ++ told "," k ++ told "), start " start ++ bytes "\n"
+abbrev pub runsLine : ℕ → ℕ → ℕ → List ℕ
+runsLine d k start = said "constraint (#,#), start #\n" (d ∷ k ∷ start ∷ [])
 
 -- "constraint of 2 states, start 0"
-unfoldable pub countLine : ℕ → ℕ → List ℕ
-countLine K start = bytes "constraint of " ++ counted K " state" ++ told ", start " start ++ bytes "\n"
+abbrev pub countLine : ℕ → ℕ → List ℕ
+countLine K start = said "constraint of # state~, start #\n" (K ∷ K ∷ start ∷ [])
 
 -- what `show` prints of a constraint and its start
 unfoldable pub constraintLines : Constraint → ℕ → List ℕ

@@ -1,39 +1,28 @@
 -- A code as `show` prints it: its rate, its window with the reach of damage, its constraint, and the listing.
--- In order: rateLine; rangeText, reachText, windowLine; shown; showText, of a table by value.
+-- In order: rateLine, windowLine; shown; showText, of a table by value.
 -- Assumes nothing.
-use mathlib.Core.Bool.{Bool, _&&_, _||_}
-use mathlib.Core.List.{List, [], _++_}
+use mathlib.Core.Bool.{Bool, _&&_}
+use mathlib.Core.List.{List, [], _∷_, _++_}
 use Prim.Native.Nat.{ℕ}
-use lib.Dec.{leb, ltb}
+use lib.Dec.{eqb, leb}
 use lib.ListN.{length}
 use Rattle.laws.specs.Lists.{if_then_else_}
 use Rattle.table.specs.declared.Table.{Table}
 use Rattle.table.specs.Rows.{Code}
 use Rattle.table.specs.Value.{codeIn, ready}
-use Rattle.views.specs.Phrases.{counted}
 use Rattle.views.specs.Listing.{listing}
 use Rattle.showing.specs.Limits.{constraintLines}
-use Rattle.text.specs.Texts.{bytes}
-use Rattle.text.specs.Words.{told}
+use Rattle.sentences.specs.Sentences.{said}
 
 -- "2 data bits to 3 channel bits, 3 states"
-unfoldable pub rateLine : ℕ → ℕ → ℕ → List ℕ
-rateLine p q states =
-    counted p " data bit" ++ bytes " to " ++ counted q " channel bit" ++ bytes ", " ++ counted states " state"
-    ++ bytes "\n"
+abbrev pub rateLine : ℕ → ℕ → ℕ → List ℕ
+rateLine p q states = said "# data bit~ to # channel bit~, # state~\n" (p ∷ p ∷ q ∷ q ∷ states ∷ states ∷ [])
 
--- "blocks i - 1 to i + 1"
-unfoldable pub rangeText : ℕ → ℕ → List ℕ
-rangeText m a = told "blocks i - " a ++ told " to i + " m
-
--- the blocks that a bad word at i can spoil
-unfoldable pub reachText : ℕ → ℕ → List ℕ
-reachText m a = if ltb 0 m || ltb 0 a then rangeText m a else bytes "block i"
-
--- "memory 1, lookahead 1: a bad word at i can spoil blocks i - 1 to i + 1"
+-- the window and the blocks that a bad word at i can spoil
 unfoldable pub windowLine : ℕ → ℕ → List ℕ
 windowLine m a =
-    told "memory " m ++ told ", lookahead " a ++ bytes ": a bad word at i can spoil " ++ reachText m a ++ bytes "\n"
+    if eqb m 0 && eqb a 0 then said "memory #, lookahead #: a bad word at i can spoil block i\n" (m ∷ a ∷ [])
+    else said "memory #, lookahead #: a bad word at i can spoil blocks i - # to i + #\n" (m ∷ a ∷ a ∷ m ∷ [])
 
 -- what `show` prints of a code
 unfoldable pub shown : Code → List ℕ

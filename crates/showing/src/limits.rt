@@ -3,17 +3,15 @@ ghost use mathlib.Core.Path.{_≡_};
 ghost use mathlib.Core.Bool.{_&&_};
 ghost use Prim.Native.Nat.{_≤_, _<_};
 ghost use lib.Dec.{eqb};
-ghost use Rattle.laws.specs.Lists.{range, all};
+ghost use Rattle.laws.specs.Lists.{if_then_else_, range, all};
 ghost use Rattle.constraint.specs.Value.{nextStatesAt, constraintOf};
 ghost use Rattle.text.specs.Texts.{Added};
-ghost use Rattle.showing.specs.Limits.{alike, leastRun, nextText, stateLine, statesTo, runsLine, countLine};
-ghost use Rattle.showing.specs.Limits.{constraintLines};
+ghost use Rattle.sentences.specs.Sentences.{sentence};
+ghost use Rattle.showing.specs.Limits.{alike, leastRun, stateLine, statesTo, constraintLines};
 use constraint::Constraint;
 use constraint::runs::run_length;
+use sentences::put_sentence;
 use text::put;
-use text::put_decimal;
-use text::put_number;
-use views::phrases::put_count;
 
 // Whether two states have the same next states.
 fn is_alike(z: u8, o: u8, zero: u8, one: u8) -> bool
@@ -57,26 +55,46 @@ fn least_run(c: Constraint) -> usize
     count
 }
 
-// A next state behind words.
-fn put_next(out: &mut [u8], at: usize, name: &[u8], s: u8) -> usize
-    ensures written { λ r. ⌜ Added (nextText (now (name .entry)) s) at (now (out .entry)) (now (out .exit)) r ⌝ }
+// The first of two sentences if something is so, otherwise the second.
+fn put_either(
+    out: &mut [u8],
+    at: usize,
+    so: bool,
+    first: &[u8],
+    second: &[u8],
+    numbers: &[usize],
+) -> usize
+    ensures written { λ r. ⌜
+        Added (if so then sentence (now (first .entry)) (now (numbers .entry))
+        else sentence (now (second .entry)) (now (numbers .entry)))
+        at (now (out .entry)) (now (out .exit)) r ⌝ }
 {
-    let next = put(out, at, name);
-    if s == 255 {
-        return put(out, next, b"none");
+    if so {
+        return put_sentence(out, at, first, numbers);
     }
-    put_decimal(out, next, s as u64)
+    put_sentence(out, at, second, numbers)
 }
 
 // The line of a state.
-fn put_state(out: &mut [u8], at: usize, c: Constraint, s: usize) -> usize
-    requires { ⌜ s < 16 ⌝ }
-    ensures written { λ r. ⌜ Added (stateLine s (nextStatesAt c s)) at (now (out .entry)) (now (out .exit)) r ⌝ }
+fn put_state(out: &mut [u8], at: usize, s: usize, zero: u8, one: u8) -> usize
+    ensures written { λ r. ⌜ Added (stateLine s zero one) at (now (out .entry)) (now (out .exit)) r ⌝ }
 {
-    let zero = put_number(out, at, b"state ", s as u64);
-    let one = put_next(out, zero, b": bit 0 to ", c.zero[s]);
-    let end = put_next(out, one, b", bit 1 to ", c.one[s]);
-    put(out, end, b"\n")
+    let comma = put_either(
+        out,
+        at,
+        zero == 255,
+        b"state #: bit 0 to none",
+        b"state #: bit 0 to #",
+        &[s, zero as usize],
+    );
+    put_either(
+        out,
+        comma,
+        one == 255,
+        b", bit 1 to none\n",
+        b", bit 1 to #\n",
+        &[one as usize],
+    )
 }
 
 // The lines of all states.
@@ -89,30 +107,10 @@ fn put_states(out: &mut [u8], first: usize, c: Constraint) -> usize
     let mut at = put(out, first, b"");
     let mut s = 0;
     while s < count {
-        at = put_state(out, at, c, s);
+        at = put_state(out, at, s, c.zero[s], c.one[s]);
         s += 1;
     }
     at
-}
-
-// The line of a run-length constraint.
-fn put_runs(out: &mut [u8], at: usize, d: usize, k: usize, start: usize) -> usize
-    ensures written { λ r. ⌜ Added (runsLine d k start) at (now (out .entry)) (now (out .exit)) r ⌝ }
-{
-    let comma = put_number(out, at, b"constraint (", d as u64);
-    let first = put_number(out, comma, b",", k as u64);
-    let end = put_number(out, first, b"), start ", start as u64);
-    put(out, end, b"\n")
-}
-
-// The line in front of the next states.
-fn put_states_count(out: &mut [u8], at: usize, k: usize, start: usize) -> usize
-    ensures written { λ r. ⌜ Added (countLine k start) at (now (out .entry)) (now (out .exit)) r ⌝ }
-{
-    let count = put(out, at, b"constraint of ");
-    let first = put_count(out, count, k, b" state");
-    let end = put_number(out, first, b", start ", start as u64);
-    put(out, end, b"\n")
 }
 
 // The constraint and its start behind the first `at` bytes; the answer is the place behind them.
@@ -123,8 +121,18 @@ pub fn put_constraint(out: &mut [u8], at: usize, c: Constraint, start: usize) ->
 {
     let d = least_run(c);
     if d < c.states {
-        return put_runs(out, at, d, c.states - 1, start);
+        return put_sentence(
+            out,
+            at,
+            b"constraint (#,#), start #\n",
+            &[d, c.states - 1, start],
+        );
     }
-    let first = put_states_count(out, at, c.states, start);
+    let first = put_sentence(
+        out,
+        at,
+        b"constraint of # state~, start #\n",
+        &[c.states, c.states, start],
+    );
     put_states(out, first, c)
 }

@@ -13,7 +13,7 @@ returns c =
 
 put-constraint-requires : tie.Need-put-constraint-requires
 put-constraint-requires c κs =
-    let test = c .before .before .before .before .before .before .before .before .before in
+    let test = c .before .before .before .before .before .before .before .before .before .before .before in
     let whole = test .before in
     whole→ (whole .before .before .args .t)
     (subst T (sym (sym (whole .is-whole .ensures) ∙ not-false _ (test .if1 .left))) tt) .limits
@@ -21,7 +21,7 @@ put-constraint-requires c κs =
 put-listing-requires : tie.Need-put-listing-requires
 put-listing-requires c κs =
     let test = c .before .before .before .before .before .before .before .before .before .before .before .before
-    .before in
+    .before .before .before in
     let whole = test .before in
     whole→ _ (subst T (sym (sym (whole .is-whole .ensures) ∙ not-false _ (test .if1 .left))) tt)
 
@@ -31,10 +31,10 @@ returns-2 c =
     let x3 = x4 .before .before .before .before in
     let x2 = x3 .before .before .before .before in
     let x1 = x2 .before .before .before .before in
-    let test = x1 .before .before in
+    let test = x1 .before .before .before .before in
     let whole = test .before in
     added-same (shown-is _ (sym (whole .is-whole .ensures) ∙ not-false _ (test .if1 .left)))
-    (x1 .put-rate .ensures then x2 .put-window .ensures then x3 .put-constraint .ensures then
+    (x1 .put-sentence .ensures then x2 .put-window .ensures then x3 .put-constraint .ensures then
     x4 .put-listing .ensures)
 
 pub show-spec : {M : Type 1} → statement M
@@ -42,5 +42,5 @@ show-spec =
     tie.close
     (tie.spec
     (λ c κs. search needs) (λ c. search needs) (λ c κs. search needs) (λ c. search needs) returns
-    (λ c κs. search needs) (λ c κs. search needs) put-constraint-requires put-listing-requires (λ c. search needs)
-    returns-2)
+    (λ c. search needs) (λ c. search needs) (λ c κs. search needs) (λ c κs. search needs) put-constraint-requires
+    put-listing-requires (λ c. search needs) returns-2)

@@ -21,27 +21,22 @@ loop-holds : tie.Need-loop-holds Inv-loop μ-loop
 loop-holds c =
     let x = c .before .before in
     let b = x .before .before .before .before in
-    (omega arith, b .pre, added-same (states-none (b .args .c)) (begun (x .put .ensures)))
-
-put-state-requires : tie.Need-put-state-requires Inv-loop μ-loop
-put-state-requires c κs =
-    let test = c .before in
-    omega (arith, test .loop-test .taken, test .before .loop .inv .1)
+    (omega arith, b .pre, added-same (states-none (b .args .t3)) (begun (x .put .ensures)))
 
 add-s : tie.Need-add-s Inv-loop μ-loop
 add-s c =
-    let test = c .before .before .before .before in
+    let test = c .before .before .before .before .before .before in
     omega (arith, test .loop-test .taken, test .before .loop .inv .1)
 
 loop-again : tie.Need-loop-again Inv-loop μ-loop
 loop-again c =
     let call = c .before .before in
-    let test = call .before .before in
+    let test = call .before .before .before .before in
     let l = test .before .loop in
     let b = test .before .before .before .before .before .before .before .before in (
       omega (arith, test .loop-test .taken),
       l .inv .1,
-      added-same (states-more (b .args .c) (l .s) (test .loop-test .taken)) (l .inv .2 then call .put-state .ensures),
+      added-same (states-more (b .args .t3) (l .s) (test .loop-test .taken)) (l .inv .2 then call .put-state .ensures),
     )
 
 same-length : tie.Need-same-length Inv-loop μ-loop
@@ -52,12 +47,12 @@ returns c =
     let l = c .before .loop in
     let x = c .before .before .before .before in
     let a = x .before .before .before .before .args in
-    let e : l .s ≡ a .c .states = omega (arith, l .inv .0, c .loop-test .left) in
-    added-same (ap (statesTo (constraintOf (a .c))) e) (x .put .ensures then l .inv .2)
+    let e : l .s ≡ a .t3 .states = omega (arith, l .inv .0, c .loop-test .left) in
+    added-same (ap (statesTo (constraintOf (a .t3))) e) (x .put .ensures then l .inv .2)
 
 pub put-states-spec : {M : Type 1} → statement M
 put-states-spec =
     tie.close
     (tie.spec
-    Inv-loop μ-loop (λ c. search needs) (λ c κs. search needs) loop-holds put-state-requires add-s
-    (λ c. search needs) loop-again same-length returns)
+    Inv-loop μ-loop (λ c. search needs) (λ c κs. search needs) loop-holds (λ c. search needs) (λ c. search needs)
+    (λ c κs. search needs) add-s (λ c. search needs) loop-again same-length returns)
