@@ -31,15 +31,14 @@ module _ (K : ℕ) (L : List ℕ) (g : List Arc) (reach : ℕ → ℕ → Bool) 
       omega (arith, tot-add (one (reach t)) (one (eqb s)) L)
     where
       point : (x : ℕ) → x < K → one (reach t) x + one (eqb s) x ≤ one (reach s) x
-      point x hx = go (eqb-is s x)
+      point x hx = elim (eqb-is s x) [
+        | so p q ↦ rw (q, ← p, b, T→true (reach s s) (R .self s (lt s es))) (le-refl 1)
+        | nay p q ↦ rw q (rest (reach t x) refl)
+      ]
         where
           rest : (c : Bool) → reach t x ≡ c → (if c then 1 else 0) + 0 ≤ one (reach s) x
           rest true q = rw (T→true (reach s x) (reach-trans K g reach R i s t x ht hx a (rw q tt))) (le-refl 1)
           rest false q = zero-le
-
-          go : Whether (s ≡ x) (eqb s x) → one (reach t) x + one (eqb s) x ≤ one (reach s) x
-          go (so p q) = rw (q, ← p, b, T→true (reach s s) (R .self s (lt s es))) (le-refl 1)
-          go (nay p q) = rw q (rest (reach t x) refl)
 
   fails : (a b : Bool) → (not a || b) ≡ false → (a ≡ true) × (b ≡ false)
   fails true b e = (refl, e)
@@ -60,11 +59,7 @@ module _ (K : ℕ) (L : List ℕ) (g : List Arc) (reach : ℕ → ℕ → Bool) 
 
   -- there is a state that all states reachable from it reach back
   descend : (k s : ℕ) → T (elem s L) → size s ≤ k → T (any good L)
-  descend zero s es h = go (lower s es)
-    where
-      go : T (any good L) ⊎ ((t : ℕ) × T (elem t L) × (size t < size s)) → T (any good L)
-      go (inl u) = u
-      go (inr (t, et, l)) = absurd (omega arith)
+  descend zero s es h = elim (lower s es) [ inl u ↦ u | inr (t, et, l) ↦ absurd (omega arith) ]
   descend (suc k) s es h = go (lower s es) (λ t et l. descend k t et l)
     where
       go : T (any good L) ⊎ ((t : ℕ) × T (elem t L) × (size t < size s))

@@ -11,11 +11,10 @@ use Rattle.graph.specs.Weights.{total, wordsBetween}
 -- a sum over numbers, of which only a counts
 tot-only : (f : ℕ → ℕ) (a : ℕ) (l : List ℕ) → tot (λ t. one (eqb a) t * f t) l ≡ times a l * f a
 tot-only f a [] = sym (zero-mul (f a))
-tot-only f a (t ∷ l) = rw (tot-only f a l) (go (eqb-is a t))
-  where
-    go : Whether (a ≡ t) (eqb a t) → one (eqb a) t * f t + times a l * f a ≡ (one (eqb a) t + times a l) * f a
-    go (so p q) = rw (q, ← p) (omega arith)
-    go (nay p q) = rw (q, zero-add (times a l)) (omega arith)
+tot-only f a (t ∷ l) = rw (tot-only f a l) (elim (eqb-is a t) [
+  | so p q ↦ rw (q, ← p) (omega arith)
+  | nay p q ↦ rw (q, zero-add (times a l)) (omega arith)
+])
 
 one-weight : (v : List ℕ) (a : ℕ) → tot (λ t. one (eqb a) t * getD v t 0) (range (length v)) ≡ getD v a 0
 one-weight v a = tot-only (λ t. getD v t 0) a (range (length v)) ∙ go (decLt a (length v))

@@ -131,19 +131,15 @@ module _ (v : List ℕ) (g : List Arc) (i : Each (Inside (length v)) g) (z : ℕ
     where
       point : (f : Arc) → T (elem (f .source) C) × T (elem (f .target) C)
           → one (same e) (renamed C f) ≤ one (same (arc (getD C (e .source) 0) (e .word) (getD C (e .target) 0))) f
-      point f h = go (same-is e (renamed C f))
-        where
-          go : Whether (e ≡ renamed C f) (same e (renamed C f))
-              → one (same e) (renamed C f) ≤ one
-              (same (arc (getD C (e .source) 0) (e .word) (getD C (e .target) 0))) f
-          go (so p q) =
-              let a : getD C (e .source) 0 ≡ f .source =
-              ap (λ e. getD C (e .source) 0) p ∙ at-index (f .source) C (h .0) in
-              let b : getD C (e .target) 0 ≡ f .target =
-              ap (λ e. getD C (e .target) 0) p ∙ at-index (f .target) C (h .1) in
-              let c : e .word ≡ f .word = ap (λ e. e .word) p in
-              rw (q, a, b, c, T→true (same f f) (same-refl f)) (le-refl 1)
-          go (nay p q) = rw q zero-le
+      point f h = elim (same-is e (renamed C f)) [
+        | so p q ↦ let a : getD C (e .source) 0 ≡ f .source =
+            ap (λ e. getD C (e .source) 0) p ∙ at-index (f .source) C (h .0) in
+            let b : getD C (e .target) 0 ≡ f .target =
+            ap (λ e. getD C (e .target) 0) p ∙ at-index (f .target) C (h .1) in
+            let c : e .word ≡ f .word = ap (λ e. e .word) p in
+            rw (q, a, b, c, T→true (same f f) (same-refl f)) (le-refl 1)
+        | nay p q ↦ rw q zero-le
+      ]
 
   enough′ : (n j : ℕ) → j < length C → getD v (getD C j 0) 0 * n ≤ total v (out g (getD C j 0))
       → getD v′ j 0 * n ≤ total v′ (out (renumbered C g) j)

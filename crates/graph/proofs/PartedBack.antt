@@ -21,12 +21,11 @@ parted-count s K keep g =
     if-length false x y l m e = e
 
     target : (e : Arc) → moved s K keep e .target ≡ e .target
-    target e = go (fate s K keep e)
-      where
-        go : Fate s K keep e → moved s K keep e .target ≡ e .target
-        go (goes p u q) = ap (λ f. f .target) q
-        go (remains p u q) = ap (λ f. f .target) q
-        go (apart p q) = ap (λ f. f .target) q
+    target e = elim (fate s K keep e) [
+      | goes p u q ↦ ap (λ f. f .target) q
+      | remains p u q ↦ ap (λ f. f .target) q
+      | apart p q ↦ ap (λ f. f .target) q
+    ]
 
     enter : (g : List Arc) → length (filter (enters s) (map (moved s K keep) g)) ≡ length (filter (enters s) g)
     enter [] = refl

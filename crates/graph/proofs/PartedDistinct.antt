@@ -19,24 +19,22 @@ module _ (s K : ℕ) (keep : List Arc) where
   -- an edge of the new state comes from one of s
   from-new : (e f : Arc) → e .source ≡ K → f .source < K
       → one (same e) (moved s K keep f) ≤ one (same (arc s (e .word) (e .target))) f
-  from-new e f p h = go (fate s K keep f)
+  from-new e f p h = elim (fate s K keep f) [
+    | goes a u q ↦ rw q (rw (eq-eqb (e .source) K p, eq-eqb s (f .source) (sym a)) (le-refl _))
+    | remains a u q ↦ rw q (none f h _)
+    | apart a q ↦ rw q (none f h _)
+  ]
     where
       none : (f′ : Arc) → f′ .source < K → (k : ℕ) → one (same e) f′ ≤ k
       none f′ l k = rw (ne-eqb (e .source) (f′ .source) (λ r. omega arith)) zero-le
 
-      go : Fate s K keep f → one (same e) (moved s K keep f) ≤ one (same (arc s (e .word) (e .target))) f
-      go (goes a u q) = rw q (rw (eq-eqb (e .source) K p, eq-eqb s (f .source) (sym a)) (le-refl _))
-      go (remains a u q) = rw q (none f h _)
-      go (apart a q) = rw q (none f h _)
-
   -- any other edge was there
   from-old : (e f : Arc) → (e .source ≡ K → ⊥) → one (same e) (moved s K keep f) ≤ one (same e) f
-  from-old e f p = go (fate s K keep f)
-    where
-      go : Fate s K keep f → one (same e) (moved s K keep f) ≤ one (same e) f
-      go (goes a u q) = rw q (rw (ne-eqb (e .source) K p) zero-le)
-      go (remains a u q) = rw q (le-refl _)
-      go (apart a q) = rw q (le-refl _)
+  from-old e f p = elim (fate s K keep f) [
+    | goes a u q ↦ rw q (rw (ne-eqb (e .source) K p) zero-le)
+    | remains a u q ↦ rw q (le-refl _)
+    | apart a q ↦ rw q (le-refl _)
+  ]
 
   moved-count : (g : List Arc) → Each (Inside K) g → (e : Arc)
       → (e′ : Arc) × (count e (map (moved s K keep) g) ≤ count e′ g)
@@ -64,12 +62,10 @@ module _ (s K : ℕ) where
       let a : one (same e) f ≡ 0 =
       rw (and-false (eqb (e .source) (f .source)) _
       (and-false (eqb (e .word) (f .word)) _ (ne-eqb (e .target) (f .target) (λ r. omega arith)))) in
-      rw (a, zero-add) (go (eqb-is (f .target) s))
-    where
-      go : Whether (f .target ≡ s) (eqb (f .target) s)
-          → mask (enters s) (λ f. one (same e) (redirected K f)) f ≤ one (same (arc (e .source) (e .word) s)) f
-      go (so a q) = rw (q, eq-eqb (e .target) K p, eq-eqb s (f .target) (sym a)) (le-refl _)
-      go (nay a q) = rw q zero-le
+      rw (a, zero-add) (elim (eqb-is (f .target) s) [
+        | so a q ↦ rw (q, eq-eqb (e .target) K p, eq-eqb s (f .target) (sym a)) (le-refl _)
+        | nay a q ↦ rw q zero-le
+      ])
 
   to-old : (e f : Arc) → (e .target ≡ K → ⊥)
       → one (same e) f + mask (enters s) (λ f. one (same e) (redirected K f)) f ≤ one (same e) f
@@ -85,7 +81,11 @@ module _ (s K : ℕ) where
 
   doubled-count : (g : List Arc) → Each (λ e. e .target < K) g → (e : Arc)
       → (e′ : Arc) × (count e (doubled s K g) ≤ count e′ g)
-  doubled-count g i e = go (eqb-is (e .target) K)
+  doubled-count g i e = elim (eqb-is (e .target) K) [
+    | so p q ↦ let e′ = arc (e .source) (e .word) s in
+        (e′, rw sums (tot-le _ (one (same e′)) g (each-map (λ e. e .target < K) _ (λ f h. to-new e f p h) g i)))
+    | nay p q ↦ (e, rw sums (tot-le _ (one (same e)) g (each-always _ (λ f. to-old e f p) g)))
+  ]
     where
       sums : count e (doubled s K g) ≡ tot
           (λ f. one (same e) f + mask (enters s) (λ f. one (same e) (redirected K f)) f) g
@@ -95,12 +95,6 @@ module _ (s K : ℕ) where
           (tot-map (one (same e)) (redirected K) (filter (enters s) g)
           ∙ tot-filter (λ f. one (same e) (redirected K f)) (enters s) g)
           ∙ sym (tot-add (one (same e)) (mask (enters s) (λ f. one (same e) (redirected K f))) g)
-
-      go : Whether (e .target ≡ K) (eqb (e .target) K) → (e′ : Arc) × (count e (doubled s K g) ≤ count e′ g)
-      go (so p q) =
-          let e′ = arc (e .source) (e .word) s in
-          (e′, rw sums (tot-le _ (one (same e′)) g (each-map (λ e. e .target < K) _ (λ f h. to-new e f p h) g i)))
-      go (nay p q) = (e, rw sums (tot-le _ (one (same e)) g (each-always _ (λ f. to-old e f p) g)))
 
 -- ---- inside
 pub moved-inside : (s K : ℕ) (keep : List Arc) (e : Arc) → Inside K e

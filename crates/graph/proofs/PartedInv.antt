@@ -47,33 +47,30 @@ module _ (n S : ℕ) (x : Work) (s : ℕ) (keep : List Arc) (w : ℕ) (hn : 0 < 
   v′ = weights′ (x .weights) s w (p .state)
 
   positive′ : (y : ℕ) → y < suc (length v) → 0 < getD v′ y 0
-  positive′ y h = go (which s (length v) y h)
-    where
-      go : Which s (length v) y → 0 < getD v′ y 0
-      go (old q) = rw (q, w-old v s w (p .state)) (p .some)
-      go (new q) = rw (q, w-new v s w (p .state)) (omega (arith, p .less))
-      go (another l q) = rw (w-other v s w (p .state) y l q) (I .positive y l)
+  positive′ y h = elim (which s (length v) y h) [
+    | old q ↦ rw (q, w-old v s w (p .state)) (p .some)
+    | new q ↦ rw (q, w-new v s w (p .state)) (omega (arith, p .less))
+    | another l q ↦ rw (w-other v s w (p .state) y l q) (I .positive y l)
+  ]
 
   -- what the moved edges of a state lead to
   enough′ : (y : ℕ) → y < suc (length v) → getD v′ y 0 * n ≤ total v (out g′ y)
-  enough′ y h = go (which s (length v) y h)
+  enough′ y h = elim (which s (length v) y h) [
+    | old q ↦ rw (q, w-old v s w (p .state), kept-sum) (le-refl (w * n))
+    | new q ↦ let d = getD v s 0 - w in
+        let a : getD v s 0 ≡ w + d = omega (arith, p .less) in
+        let b : getD v s 0 * n ≡ w * n + d * n = ap (λ k. k * n) a ∙ add-mul w d n in
+        let c : total v (out g′ s) + total v (out g′ (length v)) ≡ total v (out (x .arcs) s) =
+        shifted-both v (x .arcs) keep s (p .state) (I .inside) in
+        let e : getD v s 0 * n ≤ total v (out (x .arcs) s) = I .enough s (p .state) in
+        rw (q, w-new v s w (p .state)) (omega (arith, kept-sum))
+    | another l q ↦ rw (w-other v s w (p .state) y l q, shifted-other v (x .arcs) keep s (p .state) y l q)
+        (I .enough y l)
+  ]
     where
       kept-sum : total v (out g′ s) ≡ w * n
       kept-sum = shifted-old v (x .arcs) keep s (p .state) (p .own)
           (λ e. le-trans (count-out (x .arcs) s e) (I .distinct e)) ∙ p .exact
-
-      go : Which s (length v) y → getD v′ y 0 * n ≤ total v (out g′ y)
-      go (old q) = rw (q, w-old v s w (p .state), kept-sum) (le-refl (w * n))
-      go (new q) =
-          let d = getD v s 0 - w in
-          let a : getD v s 0 ≡ w + d = omega (arith, p .less) in
-          let b : getD v s 0 * n ≡ w * n + d * n = ap (λ k. k * n) a ∙ add-mul w d n in
-          let c : total v (out g′ s) + total v (out g′ (length v)) ≡ total v (out (x .arcs) s) =
-          shifted-both v (x .arcs) keep s (p .state) (I .inside) in
-          let e : getD v s 0 * n ≤ total v (out (x .arcs) s) = I .enough s (p .state) in
-          rw (q, w-new v s w (p .state)) (omega (arith, kept-sum))
-      go (another l q) = rw (w-other v s w (p .state) y l q, shifted-other v (x .arcs) keep s (p .state) y l q)
-          (I .enough y l)
 
   tight : Each (λ e. e .target < length v) g′
   tight = each-map _ (λ e. e .target < length v) (λ e h. h .1) g′

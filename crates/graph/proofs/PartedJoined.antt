@@ -16,18 +16,13 @@ module _ (s K : ℕ) (keep g : List Arc) (hs : s < K) (Q : ℕ → Bool) where
   merged x = if eqb x s then Q s && Q K else Q x
 
   merged-at : (x : ℕ) → T (Q x) → (x ≡ s → T (Q K)) → T (merged x)
-  merged-at x t f = go (eqb-is x s)
-    where
-      go : Whether (x ≡ s) (eqb x s) → T (merged x)
-      go (so p q) = rw q (→and (Q s) (Q K) (rw p at t) (f p))
-      go (nay p q) = rw q t
+  merged-at x t f = elim (eqb-is x s) [ so p q ↦ rw q (→and (Q s) (Q K) (rw p at t) (f p)) | nay p q ↦ rw q t ]
 
   at-merged : (x : ℕ) → T (merged x) → T (Q x) × (x ≡ s → T (Q K))
-  at-merged x t = go (eqb-is x s)
-    where
-      go : Whether (x ≡ s) (eqb x s) → T (Q x) × (x ≡ s → T (Q K))
-      go (so p q) = let (a, b) = and→ (Q s) (Q K) (rw q at t) in (rw p a, λ r. b)
-      go (nay p q) = (rw q at t, λ r. absurd (p r))
+  at-merged x t = elim (eqb-is x s) [
+    | so p q ↦ let (a, b) = and→ (Q s) (Q K) (rw q at t) in (rw p a, λ r. b)
+    | nay p q ↦ (rw q at t, λ r. absurd (p r))
+  ]
 
   module _ (closed : Each (Stays Q) (doubled s K (map (moved s K keep) g))) where
     abbrev Both : Arc → Type 0
@@ -46,15 +41,14 @@ module _ (s K : ℕ) (keep g : List Arc) (hs : s < K) (Q : ℕ → Bool) where
         (each-back (Stays Q) g′ (map (redirected K) (filter (enters s) g′)) closed))))
 
     merged-stays : (e : Arc) → Both (moved s K keep e) → Stays merged e
-    merged-stays e b t = go (fate s K keep e)
+    merged-stays e b t = elim (fate s K keep e) [
+      | goes p u q ↦ use-it (subst Both q b (at-merged (e .source) t .1 p))
+      | remains p u q ↦ use-it (subst Both q b (at-merged (e .source) t .0))
+      | apart p q ↦ use-it (subst Both q b (at-merged (e .source) t .0))
+    ]
       where
         use-it : T (Q (e .target)) × (e .target ≡ s → T (Q K)) → T (merged (e .target))
         use-it u = merged-at (e .target) (u .0) (u .1)
-
-        go : Fate s K keep e → T (merged (e .target))
-        go (goes p u q) = use-it (subst Both q b (at-merged (e .source) t .1 p))
-        go (remains p u q) = use-it (subst Both q b (at-merged (e .source) t .0))
-        go (apart p q) = use-it (subst Both q b (at-merged (e .source) t .0))
 
     merged-closed : Each (Stays merged) g
     merged-closed = each-map (λ e. Both (moved s K keep e)) (Stays merged) merged-stays g
@@ -71,12 +65,10 @@ module _ (s K : ℕ) (keep g : List Arc) (hs : s < K) (Q : ℕ → Bool) where
       where
         go : (e : Arc) × (0 < mask (leaves x) (weight v) e) × (Both e × (e .target < K))
             → (y : ℕ) × (y < K) × T (merged y)
-        go (e, p, (b, l)) = at (eqb-is (e .source) x)
-          where
-            at : Whether (e .source ≡ x) (eqb (e .source) x) → (y : ℕ) × (y < K) × T (merged y)
-            at (so r q) = let u : T (Q (e .target)) × (e .target ≡ s → T (Q K)) = b (rw r t) in
-                (e .target, l, merged-at (e .target) (u .0) (u .1))
-            at (nay r q) = absurd (let z : mask (leaves x) (weight v) e ≡ 0 = rw q in omega arith)
+        go (e, p, (b, l)) = elim (eqb-is (e .source) x) [
+          | so r q ↦ let u = b (rw r t) in (e .target, l, merged-at (e .target) (u .0) (u .1))
+          | nay r q ↦ absurd (let z : mask (leaves x) (weight v) e ≡ 0 = rw q in omega arith)
+        ]
 
 pub parted-joined : (s K : ℕ) (keep g : List Arc) (v : List ℕ) → s < K → Joined K g
     → Each (λ e. e .target < K) (map (moved s K keep) g)

@@ -24,15 +24,14 @@ module _ (P : ℕ → ℕ → ℕ → Type 0) (s K : ℕ) (hs : s < K) (r : ℕ 
   Over r e = P (r (e .source)) (e .word) (r (e .target))
 
   over-moved : (e : Arc) → (e .source < K) × (e .target < K) → Over r e → Over (rooted s K r) (moved s K keep e)
-  over-moved e i h = go (fate s K keep e)
+  over-moved e i h = elim (fate s K keep e) [
+    | goes p u q ↦ subst (Over (rooted s K r)) (sym q) (rw (rooted-new s K r, tgt) (rw p at h))
+    | remains p u q ↦ subst (Over (rooted s K r)) (sym q) (rw (rooted-old s K r (e .source) (i .0), tgt) h)
+    | apart p q ↦ subst (Over (rooted s K r)) (sym q) (rw (rooted-old s K r (e .source) (i .0), tgt) h)
+  ]
     where
       tgt : rooted s K r (e .target) ≡ r (e .target)
       tgt = rooted-old s K r (e .target) (i .1)
-
-      go : Fate s K keep e → Over (rooted s K r) (moved s K keep e)
-      go (goes p u q) = subst (Over (rooted s K r)) (sym q) (rw (rooted-new s K r, tgt) (rw p at h))
-      go (remains p u q) = subst (Over (rooted s K r)) (sym q) (rw (rooted-old s K r (e .source) (i .0), tgt) h)
-      go (apart p q) = subst (Over (rooted s K r)) (sym q) (rw (rooted-old s K r (e .source) (i .0), tgt) h)
 
   over-turned : (e : Arc) → Over (rooted s K r) e → T (enters s e) → Over (rooted s K r) (redirected K e)
   over-turned e h t =

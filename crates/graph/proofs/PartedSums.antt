@@ -37,41 +37,36 @@ mask-nay f x e p = rw (ne-eqb (e .source) x p)
 module _ (f : Arc → ℕ) (s K : ℕ) (keep : List Arc) (free : (e : Arc) → f (arc K (e .word) (e .target)) ≡ f e) where
   -- another state's sum stays
   moved-other : (x : ℕ) → (x ≡ s → ⊥) → x < K → (e : Arc) → mask (leaves x) f (moved s K keep e) ≡ mask (leaves x) f e
-  moved-other x d h e = go (fate s K keep e)
-    where
-      go : Fate s K keep e → mask (leaves x) f (moved s K keep e) ≡ mask (leaves x) f e
-      go (goes p u q) = ap (mask (leaves x) f) q ∙ mask-nay f x (arc K (e .word) (e .target)) (λ r. omega arith)
-          ∙ sym (mask-nay f x e (λ r. d (sym r ∙ p)))
-      go (remains p u q) = ap (mask (leaves x) f) q
-      go (apart p q) = ap (mask (leaves x) f) q
+  moved-other x d h e = elim (fate s K keep e) [
+    | goes p u q ↦ ap (mask (leaves x) f) q ∙ mask-nay f x (arc K (e .word) (e .target)) (λ r. omega arith)
+        ∙ sym (mask-nay f x e (λ r. d (sym r ∙ p)))
+    | remains p u q ↦ ap (mask (leaves x) f) q
+    | apart p q ↦ ap (mask (leaves x) f) q
+  ]
 
   -- the old part has the edges kept
   moved-old : s < K → (e : Arc) → mask (leaves s) f (moved s K keep e) ≡ mask (leaves s) (mask (among keep) f) e
-  moved-old h e = go (fate s K keep e)
-    where
-      go : Fate s K keep e → mask (leaves s) f (moved s K keep e) ≡ mask (leaves s) (mask (among keep) f) e
-      go (goes p u q) = ap (mask (leaves s) f) q ∙ mask-nay f s (arc K (e .word) (e .target)) (λ r. omega arith)
-          ∙ sym (mask-so (mask (among keep) f) s e p ∙ rw u)
-      go (remains p u q) = ap (mask (leaves s) f) q ∙ mask-so f s e p
-          ∙ sym (mask-so (mask (among keep) f) s e p ∙ rw u)
-      go (apart p q) = ap (mask (leaves s) f) q ∙ mask-nay f s e p ∙ sym (mask-nay (mask (among keep) f) s e p)
+  moved-old h e = elim (fate s K keep e) [
+    | goes p u q ↦ ap (mask (leaves s) f) q ∙ mask-nay f s (arc K (e .word) (e .target)) (λ r. omega arith)
+        ∙ sym (mask-so (mask (among keep) f) s e p ∙ rw u)
+    | remains p u q ↦ ap (mask (leaves s) f) q ∙ mask-so f s e p
+        ∙ sym (mask-so (mask (among keep) f) s e p ∙ rw u)
+    | apart p q ↦ ap (mask (leaves s) f) q ∙ mask-nay f s e p ∙ sym (mask-nay (mask (among keep) f) s e p)
+  ]
 
   -- the two parts together have all edges
   moved-both : s < K → (e : Arc) → e .source < K
       → mask (leaves s) f (moved s K keep e) + mask (leaves K) f (moved s K keep e) ≡ mask (leaves s) f e
-  moved-both h e i = go (fate s K keep e)
-    where
-      go : Fate s K keep e → mask (leaves s) f (moved s K keep e) + mask (leaves K) f (moved s K keep e) ≡ mask
-          (leaves s) f e
-      go (goes p u q) =
-          let e′ = arc K (e .word) (e .target) in
-          ap (λ e′. mask (leaves s) f e′ + mask (leaves K) f e′) q
-          ∙ ap₂ (λ a b. a + b) (mask-nay f s e′ (λ r. omega arith)) (mask-so f K e′ refl ∙ free e)
-          ∙ zero-add (f e) ∙ sym (mask-so f s e p)
-      go (remains p u q) = ap (λ e′. mask (leaves s) f e′ + mask (leaves K) f e′) q
-          ∙ ap (λ b. mask (leaves s) f e + b) (mask-nay f K e (λ r. omega arith)) ∙ add-zero _
-      go (apart p q) = ap (λ e′. mask (leaves s) f e′ + mask (leaves K) f e′) q
-          ∙ ap (λ b. mask (leaves s) f e + b) (mask-nay f K e (λ r. omega arith)) ∙ add-zero _
+  moved-both h e i = elim (fate s K keep e) [
+    | goes p u q ↦ let e′ = arc K (e .word) (e .target) in
+        ap (λ e′. mask (leaves s) f e′ + mask (leaves K) f e′) q
+        ∙ ap₂ (λ a b. a + b) (mask-nay f s e′ (λ r. omega arith)) (mask-so f K e′ refl ∙ free e)
+        ∙ zero-add (f e) ∙ sym (mask-so f s e p)
+    | remains p u q ↦ ap (λ e′. mask (leaves s) f e′ + mask (leaves K) f e′) q
+        ∙ ap (λ b. mask (leaves s) f e + b) (mask-nay f K e (λ r. omega arith)) ∙ add-zero _
+    | apart p q ↦ ap (λ e′. mask (leaves s) f e′ + mask (leaves K) f e′) q
+        ∙ ap (λ b. mask (leaves s) f e + b) (mask-nay f K e (λ r. omega arith)) ∙ add-zero _
+  ]
 
 -- ---- the sums after the edges have been moved
 module _ (v : List ℕ) (g keep : List Arc) (s : ℕ) (hs : s < length v) where
@@ -115,13 +110,10 @@ module _ (v : List ℕ) (s w : ℕ) (hs : s < length v) (hw : w ≤ getD v s 0) 
   twice : (e : Arc) → e .target < K
       → weight (weights′ v s w hs) e + mask (enters s)
       (λ e. weight (weights′ v s w hs) (redirected K e)) e ≡ weight v e
-  twice e h = go (eqb-is (e .target) s)
-    where
-      go : Whether (e .target ≡ s) (eqb (e .target) s)
-          → weight (weights′ v s w hs) e + mask (enters s)
-          (λ e. weight (weights′ v s w hs) (redirected K e)) e ≡ weight v e
-      go (so p q) = rw (q, p, w-old v s w hs, w-new v s w hs) (omega arith)
-      go (nay p q) = rw (q, w-other v s w hs (e .target) h p) (add-zero (weight v e))
+  twice e h = elim (eqb-is (e .target) s) [
+    | so p q ↦ rw (q, p, w-old v s w hs, w-new v s w hs) (omega arith)
+    | nay p q ↦ rw (q, w-other v s w hs (e .target) h p) (add-zero (weight v e))
+  ]
 
   twice-mask : (x : ℕ) (e : Arc) → e .target < K
       → mask (leaves x) (weight (weights′ v s w hs)) e + mask (enters s)

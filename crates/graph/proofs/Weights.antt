@@ -32,15 +32,13 @@ lowered-length n g v = length-map (range (length v)) (lower n g v) ∙ length-fr
 
 -- one entry of one round
 lowered-at : (n : ℕ) (g : List Arc) (v : List ℕ) (i : ℕ) → getD (lowered n g v) i 0 ≡ lower n g v i
-lowered-at n g v i = go (decLt i (length v))
-  where
-    go : Dec (i < length v) → getD (lowered n g v) i 0 ≡ lower n g v i
-    go (yes h) = map-range-at (lower n g v) (length v) i 0 h
-    go (no h) =
-        let a : getD (lowered n g v) i 0 ≡ 0 =
-        List·getD-eq-default (lowered n g v) 0 {n = i} (rw (lowered-length n g v) (omega arith)) in
-        let b : getD v i 0 ≡ 0 = List·getD-eq-default v 0 {n = i} (omega arith) in
-        a ∙ sym (rw b (zero-min (product g v i / n)))
+lowered-at n g v i = elim (decLt i (length v)) [
+  | yes h ↦ map-range-at (lower n g v) (length v) i 0 h
+  | no h ↦ let a : getD (lowered n g v) i 0 ≡ 0 =
+      List·getD-eq-default (lowered n g v) 0 {n = i} (rw (lowered-length n g v) (omega arith)) in
+      let b : getD v i 0 ≡ 0 = List·getD-eq-default v 0 {n = i} (omega arith) in
+      a ∙ sym (rw b (zero-min (product g v i / n)))
+]
 
 -- lists of one length, one below the other: equal, or less in sum
 sum-mono : (w v : List ℕ) → length w ≡ length v → AtMost w v → sum w ≤ sum v
