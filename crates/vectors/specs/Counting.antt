@@ -1,16 +1,10 @@
 -- How cases that differ are counted.
--- In order: differs, of one case; Few, counts that are small; Counted, a tally with one case more.
+-- In order: Few, counts that are small; Counted, a tally with one case more.
 -- Assumes nothing.
 use mathlib.Core.Path.{_≡_}
-use mathlib.Core.Bool.{Bool, true, false}
 use Prim.Native.Nat.{ℕ, _+_, _≤_}
-use Rattle.vectors.specs.declared.cases.Case.{Case}
+use Rattle.cases.specs.declared.Case.{Case}
 use Rattle.vectors.specs.declared.walk.Tally.{Tally}
-
--- 1 for a case that does not come out as it says, and 0 for one that does
-abbrev pub differs : Bool → ℕ
-differs true = 0
-differs false = 1
 
 -- at most one case for each byte that was passed
 pub record Few (t : Tally) : Type 0 where

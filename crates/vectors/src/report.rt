@@ -1,5 +1,6 @@
 // What the program prints.
 use checksum::START;
+use judging::say_number;
 use libc::STDOUT_FILENO;
 use text::put;
 use text::put_hex;
@@ -9,13 +10,6 @@ use text::put_number;
 // A text.
 pub fn say(words: &[u8]) {
     io::write_all(STDOUT_FILENO, words);
-}
-
-// A name and a number on a line.
-pub fn say_number(name: &[u8], n: u64) {
-    let mut out = [0u8; 128];
-    let size = put_line(&mut out, 0, name, n);
-    io::write_all(STDOUT_FILENO, &out[..size]);
 }
 
 // The length and the checksum of the file.

@@ -3,16 +3,17 @@ ghost use mathlib.Core.Path.{_≡_};
 ghost use mathlib.Core.Bool.{true};
 ghost use Prim.Native.Nat.{_≤_, _<_};
 ghost use lib.ListN.{length};
-ghost use Rattle.vectors.specs.Cases.{Whole};
-ghost use Rattle.vectors.specs.Counting.{differs, Few, Counted};
-use crate::calls::call;
-use crate::calls::is_same;
-use crate::cases::Case;
-use crate::cases::case_at;
-use crate::cases::is_case;
+ghost use Rattle.cases.specs.Placing.{Whole};
+ghost use Rattle.vectors.specs.Counting.{Few, Counted};
 use crate::report::say_file;
 use crate::report::say_kind;
-use crate::report::say_number;
+use calls::call;
+use cases::Case;
+use cases::case_at;
+use cases::is_case;
+use judging::is_same;
+use judging::judge;
+use judging::say_number;
 use std::num::wrapping_add_u64;
 
 // The place that the walk reached; how many cases there were, and how many of them differ; and for each kind how many
@@ -69,18 +70,6 @@ fn case_agrees(bytes: &[u8], c: Case) -> bool
         return false;
     }
     known_agrees(bytes, c)
-}
-
-// 1 for a case that differs, whose number is printed, 0 for one that does not.
-fn judge(agrees: bool, number: u64) -> u64
-    ensures answer { λ r. ⌜ r ≡ differs agrees ⌝ }
-    ensures small { λ r. ⌜ r ≤ 1 ⌝ }
-{
-    if agrees {
-        return 0;
-    }
-    say_number(b"differs: case ", number);
-    1
 }
 
 // The tally with one case more.
@@ -147,13 +136,23 @@ fn is_end(bytes: &[u8], at: usize) -> bool
     bytes[at] == 0
 }
 
-// What is printed of a tally.
-fn say_tally(t: Tally) {
+// The calls that compile.
+fn say_compiling(t: Tally) {
     say_kind(b"compile_job ", t.kinds[1], t.differ[1]);
     say_kind(b"compile_run_length ", t.kinds[2], t.differ[2]);
+}
+
+// The calls on one record.
+fn say_coding(t: Tally) {
     say_kind(b"check ", t.kinds[3], t.differ[3]);
     say_kind(b"encode ", t.kinds[4], t.differ[4]);
     say_kind(b"decode ", t.kinds[5], t.differ[5]);
+}
+
+// What is printed of a tally.
+fn say_tally(t: Tally) {
+    say_compiling(t);
+    say_coding(t);
     say_kind(b"set ", t.kinds[6], t.differ[6]);
     say_kind(b"listing ", t.kinds[7], t.differ[7]);
     say_kind(b"all ", t.cases, t.wrong);

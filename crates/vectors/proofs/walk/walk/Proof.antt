@@ -2,7 +2,7 @@
 -- there has its parts in order. The measure is what is left of the file.
 -- Assumes nothing.
 use Rattle.laws.proofs.All.{_-_, _≤_, _<_, arith, needs, length}
-use Rattle.vectors.specs.Cases.{Placed}
+use Rattle.cases.specs.Placing.{Placed}
 use Rattle.vectors.specs.Counting.{Few}
 use Rattle.vectors.proofs.walk.walk.Statement.{statement}
 use Rattle.vectors.proofs.walk.walk.Tie as tie

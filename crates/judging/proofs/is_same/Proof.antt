@@ -1,9 +1,9 @@
 -- `is_same` meets its contract: number, value and output are compared.
 -- Assumes nothing.
 use Rattle.laws.proofs.All.{sym, subst, needs, T}
-use Rattle.vectors.specs.Comparing.{Same}
-use Rattle.vectors.proofs.calls.is_same.Statement.{statement}
-use Rattle.vectors.proofs.calls.is_same.Tie as tie
+use Rattle.judging.specs.Comparing.{Same}
+use Rattle.judging.proofs.is_same.Statement.{statement}
+use Rattle.judging.proofs.is_same.Tie as tie
 
 returns-3 : tie.Need-returns-3
 returns-3 c =

@@ -2,9 +2,9 @@
 -- the bytes.
 -- Assumes nothing.
 use Rattle.laws.proofs.All.{_≡_, sym, subst, _∙_, ℕ, _-_, _≤_, _<_, arith, below-more, needs, T, length, getD}
-use Rattle.vectors.specs.Comparing.{Stands}
-use Rattle.vectors.proofs.calls.stands.Statement.{statement}
-use Rattle.vectors.proofs.calls.stands.Tie as tie
+use Rattle.judging.specs.Comparing.{Stands}
+use Rattle.judging.proofs.stands.Statement.{statement}
+use Rattle.judging.proofs.stands.Tie as tie
 
 abbrev Inv-loop : tie.InvT-loop
 Inv-loop out output i₀ i =

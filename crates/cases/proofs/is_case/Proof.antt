@@ -1,9 +1,9 @@
 -- `is_case` meets its contract: the kind and the end are compared.
 -- Assumes nothing.
 use Rattle.laws.proofs.All.{sym, subst, arith, needs, leb-true, T}
-use Rattle.vectors.specs.Cases.{Whole}
-use Rattle.vectors.proofs.cases.is_case.Statement.{statement}
-use Rattle.vectors.proofs.cases.is_case.Tie as tie
+use Rattle.cases.specs.Placing.{Whole}
+use Rattle.cases.proofs.is_case.Statement.{statement}
+use Rattle.cases.proofs.is_case.Tie as tie
 
 returns-3 : tie.Need-returns-3
 returns-3 c =

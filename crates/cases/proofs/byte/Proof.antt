@@ -1,8 +1,8 @@
 -- `byte` meets its contract: a byte is below 256.
 -- Assumes nothing.
 use Rattle.laws.proofs.All.{arith, needs}
-use Rattle.vectors.proofs.cases.byte.Statement.{statement}
-use Rattle.vectors.proofs.cases.byte.Tie as tie
+use Rattle.cases.proofs.byte.Statement.{statement}
+use Rattle.cases.proofs.byte.Tie as tie
 
 pub byte-spec : {M : Type 1} → statement M
 byte-spec =

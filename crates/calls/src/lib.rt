@@ -1,8 +1,4 @@
-// The calls that the cases make, and whether a case comes out as it says.
-ghost use mathlib.Core.Path.{_≡_};
-ghost use mathlib.Core.Bool.{true};
-ghost use lib.ListN.{getD};
-ghost use Rattle.vectors.specs.Comparing.{Stands, Same};
+// The calls that cases of test vectors make, by kind.
 use answer::Answer;
 use answer::answer_number;
 use answer::answer_value;
@@ -12,17 +8,12 @@ use compiler::bytes::compile_job;
 use compiler::bytes::compile_run_length;
 use decoder::decode;
 use encoder::encode;
+use judging::Told;
 use listings::list_run_length;
 use listings::tell_refusal;
 use sets::check_set;
 use sets::set_number;
 use sets::set_value;
-
-// What a call came to: the number of its answer and its value.
-pub struct Told {
-    pub number: u64,
-    pub value: usize,
-}
 
 // The number and the value of an answer.
 fn told_by(a: Answer) -> Told {
@@ -80,44 +71,4 @@ pub fn call(kind: usize, first: &[u8], second: &[u8], out: &mut [u8]) -> Told {
         return walk_set(first);
     }
     told_by(call_job(kind, first, out))
-}
-
-// The byte that is to stand at place i of the output: that of the expected output, and behind it 165, as lent.
-fn expected(output: &[u8], i: usize) -> u8
-    ensures answer { λ r. ⌜ r ≡ getD (now (output .entry)) i 165 ⌝ }
-{
-    if i < output.len() {
-        return output[i];
-    }
-    165
-}
-
-// Whether the expected output stands in front, and every byte past it is as lent.
-fn stands(out: &[u8], output: &[u8]) -> bool
-    ensures answer { λ r. ⌜ (r ≡ true → Stands (now (out .entry)) (now (output .entry))) ⌝ }
-{
-    if out.len() < output.len() {
-        return false;
-    }
-    let mut i = 0;
-    while i < out.len() {
-        if out[i] != expected(output, i) {
-            return false;
-        }
-        i += 1;
-    }
-    true
-}
-
-// Whether a call came to this refusal and this value, and left this output.
-pub fn is_same(a: Told, out: &[u8], refusal: usize, value: usize, output: &[u8]) -> bool
-    ensures answer { λ r. ⌜ (r ≡ true → Same a (now (out .entry)) refusal value (now (output .entry))) ⌝ }
-{
-    if a.number as usize != refusal {
-        return false;
-    }
-    if a.value != value {
-        return false;
-    }
-    stands(out, output)
 }

@@ -5,7 +5,7 @@
 use mathlib.Core.List.{List}
 use Prim.Native.Nat.{ℕ, _≤_, _<_}
 use lib.ListN.{length}
-use Rattle.vectors.specs.declared.cases.Case.{Case}
+use Rattle.cases.specs.declared.Case.{Case}
 
 -- the parts of a case stand in their order, and its room is a number of two bytes
 pub record Placed (c : Case) : Type 0 where

@@ -1,8 +1,8 @@
-// The cases of the file: where the parts of each stand.
+// The cases of a file of test vectors: where the parts of each stand.
 ghost use mathlib.Core.Path.{_≡_};
 ghost use mathlib.Core.Bool.{true};
 ghost use Prim.Native.Nat.{_≤_, _<_};
-ghost use Rattle.vectors.specs.Cases.{Placed, Whole};
+ghost use Rattle.cases.specs.Placing.{Placed, Whole};
 
 // A case: its kind, the room of its output, where its first input begins and ends (`behind`), where its second input
 // begins and ends (`told`), the refusal and the value that it is to answer, and where its output begins and ends.

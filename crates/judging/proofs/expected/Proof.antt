@@ -1,8 +1,8 @@
 -- `expected` meets its contract: below the length the default does not matter.
 -- Assumes nothing.
 use Rattle.laws.proofs.All.{sym, arith, now, List·getD-eq-default, getD-any, needs}
-use Rattle.vectors.proofs.calls.expected.Statement.{statement}
-use Rattle.vectors.proofs.calls.expected.Tie as tie
+use Rattle.judging.proofs.expected.Statement.{statement}
+use Rattle.judging.proofs.expected.Tie as tie
 
 returns : tie.Need-returns
 returns c =
