@@ -50,7 +50,7 @@ pub extern "C" fn sbc_encode(bytes: &[u8], blocks: &[u8], out: &mut [u8]) -> u64
     ensures written { λ r. ⌜ now (out .exit) ≡ outputOf
         (encodeUnder (now (bytes .entry)) (length (now (out .entry))) (now (blocks .entry))) (now (out .entry)) ⌝ }
 {
-    word(encoder::encode(bytes, blocks, out))
+    word(recording::encoding::encode(bytes, blocks, out))
 }
 
 // Words decoded under a record: the record's refusals, 12, 13, 11 with the place of the first bad word; otherwise how
@@ -62,7 +62,7 @@ pub extern "C" fn sbc_decode(bytes: &[u8], words: &[u8], out: &mut [u8]) -> u64
     ensures written { λ r. ⌜ now (out .exit) ≡ outputOf
         (decodeUnder (now (bytes .entry)) (length (now (out .entry))) (now (words .entry))) (now (out .entry)) ⌝ }
 {
-    word(decoder::decode(bytes, words, out))
+    word(recording::decoding::decode(bytes, words, out))
 }
 
 // Blocks recorded under a record that was accepted before: as `sbc_encode`, but 9 and 10 are not looked at.
@@ -73,7 +73,7 @@ pub extern "C" fn sbc_encode_checked(bytes: &[u8], blocks: &[u8], out: &mut [u8]
     ensures written { λ r. ⌜ now (out .exit) ≡ outputOf
         (encodeChecked (now (bytes .entry)) (length (now (out .entry))) (now (blocks .entry))) (now (out .entry)) ⌝ }
 {
-    word(encoder::encode_checked(bytes, blocks, out))
+    word(recording::encoding::encode_checked(bytes, blocks, out))
 }
 
 // Words decoded under a record that was accepted before: as `sbc_decode`, but 9 and 10 are not looked at.
@@ -84,7 +84,7 @@ pub extern "C" fn sbc_decode_checked(bytes: &[u8], words: &[u8], out: &mut [u8])
     ensures written { λ r. ⌜ now (out .exit) ≡ outputOf
         (decodeChecked (now (bytes .entry)) (length (now (out .entry))) (now (words .entry))) (now (out .entry)) ⌝ }
 {
-    word(decoder::decode_checked(bytes, words, out))
+    word(recording::decoding::decode_checked(bytes, words, out))
 }
 
 // The numbers of a record, one byte each: p, q, states less one, m, a, K, constraint start. The record's refusals, 13;

@@ -6,8 +6,8 @@ use Rattle.codec.specs.Answers.{encoded, encodeUnder}
 use Rattle.codec.specs.With.{encodedWith}
 use Rattle.codec.proofs.Tabled.{declined}
 use Rattle.codec.proofs.Loaded.{handed, under-bad, encode-read}
-use Rattle.encoder.proofs.encode.Statement.{statement}
-use Rattle.encoder.proofs.encode.Tie as tie
+use Rattle.recording.proofs.encoding.encode.Statement.{statement}
+use Rattle.recording.proofs.encoding.encode.Tie as tie
 
 returns : tie.Need-returns
 unfolding encodeUnder

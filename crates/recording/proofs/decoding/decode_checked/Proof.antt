@@ -1,40 +1,40 @@
--- The refusal of the record, or what decoding under its table comes to.
+-- The refusal of the record up to 9 and 10, or what decoding under its table comes to.
 -- Assumes nothing.
 use Rattle.laws.proofs.All.{now, length, needs}
-use Rattle.checker.specs.Parse.{parse}
-use Rattle.codec.specs.Answers.{decoded, decodeUnder}
+use Rattle.record.specs.Checks.{fieldsChecked}
+use Rattle.codec.specs.Answers.{decoded, decodeChecked}
 use Rattle.codec.specs.With.{decodedWith}
 use Rattle.codec.proofs.Tabled.{declined}
 use Rattle.codec.proofs.Loaded.{handed, under-bad, decode-read}
-use Rattle.decoder.proofs.decode.Statement.{statement}
-use Rattle.decoder.proofs.decode.Tie as tie
+use Rattle.recording.proofs.decoding.decode_checked.Statement.{statement}
+use Rattle.recording.proofs.decoding.decode_checked.Tie as tie
 
 returns : tie.Need-returns
-unfolding decodeUnder
+unfolding decodeChecked
 returns c =
     let r = c .before .before .before .before in
     let a = r .before .before .before .before .args in
     let room = length (now (a .out)) in
-    declined (decodeUnder (now (a .bytes)) room (now (a .words))) _ (now (a .out))
-    (under-bad (parse (now (a .bytes))) (r .load .result) (r .load .ensures .0)
+    declined (decodeChecked (now (a .bytes)) room (now (a .words))) _ (now (a .out))
+    (under-bad (fieldsChecked (now (a .bytes))) (r .read .result) (r .read .ensures .0)
     (λ k. decoded k room (now (a .words))) _ (c .before .v .given .1))
 
 returns-2 : tie.Need-returns-2
-unfolding decodeUnder
+unfolding decodeChecked
 returns-2 c =
     let v = c .before .before .before .before in
     let r = v .before .before .before in
     let a = r .before .before .before .before .args in
-    let x = r .load .result in
+    let x = r .read .result in
     let room = length (now (a .out)) in
-    handed (decodedWith (x .table) room (now (a .words))) (decodeUnder (now (a .bytes)) room (now (a .words))) _
+    handed (decodedWith (x .table) room (now (a .words))) (decodeChecked (now (a .bytes)) room (now (a .words))) _
     (now (a .out)) _
-    (decode-read (parse (now (a .bytes))) x (r .load .ensures .0) room (now (a .words)) (v .enum-told .given .1)
-    (r .load .ensures .1 .0 (v .enum-told .given .1)))
+    (decode-read (fieldsChecked (now (a .bytes))) x (r .read .ensures .0) room (now (a .words)) (v .enum-told .given .1)
+    (r .read .ensures .1 .0 (v .enum-told .given .1)))
     (c .before .before .decode-with .ensures .0) (c .before .before .decode-with .ensures .1)
 
-pub decode-spec : {M : Type 1} → statement M
-decode-spec =
+pub decode-checked-spec : {M : Type 1} → statement M
+decode-checked-spec =
     tie.close
     (tie.spec
     (λ c κs. search needs)

@@ -3,9 +3,9 @@ use Rattle.laws.proofs.All.{_≡_, sym, List, ℕ, _+_, _-_, _*_, _≤_, _<_, a
 use Rattle.laws.proofs.All.{length-replicate, getD-replicate, take-append-drop, length-take-le, needs}
 use Rattle.table.specs.Edges.{Arrays, arrays, nextOf}
 use Rattle.table.proofs.RowsOf.{place-next}
-use Rattle.codec.proofs.Writing.{Writes, writes-start, writes-more, writes-end}
-use Rattle.encoder.proofs.write_closing.Statement.{statement}
-use Rattle.encoder.proofs.write_closing.Tie as tie
+use Rattle.spelling.proofs.Writing.{Writes, writes-start, writes-more, writes-end}
+use Rattle.spelling.proofs.write_closing.Statement.{statement}
+use Rattle.spelling.proofs.write_closing.Tie as tie
 
 abbrev Inv-loop : tie.InvT-loop
 Inv-loop states n word next state at end out₀ s₀ i₀ out s i =

@@ -4,8 +4,8 @@ use Rattle.laws.proofs.All.{range, map-more, needs}
 use Rattle.table.specs.Edges.{arrays, rowsOf}
 use Rattle.reading.specs.Reading.{block}
 use Rattle.reading.specs.BlockParts.{under}
-use Rattle.decoder.proofs.read_blocks.Statement.{statement}
-use Rattle.decoder.proofs.read_blocks.Tie as tie
+use Rattle.blocks.proofs.read_blocks.Statement.{statement}
+use Rattle.blocks.proofs.read_blocks.Tie as tie
 
 abbrev Inv-loop : tie.InvT-loop
 Inv-loop states n word next start order words m a count out₀ i₀ out i =

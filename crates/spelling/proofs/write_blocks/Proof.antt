@@ -2,9 +2,9 @@
 use Rattle.laws.proofs.All.{refl, [], _+_, _-_, _*_, _≤_, _<_, arith, now, length, getD, below-at, needs}
 use Rattle.table.specs.Edges.{Arrays, arrays, nextOf}
 use Rattle.table.proofs.RowsOf.{place-next}
-use Rattle.codec.proofs.Writing.{Writes, writes-start, writes-more, writes-end}
-use Rattle.encoder.proofs.write_blocks.Statement.{statement}
-use Rattle.encoder.proofs.write_blocks.Tie as tie
+use Rattle.spelling.proofs.Writing.{Writes, writes-start, writes-more, writes-end}
+use Rattle.spelling.proofs.write_blocks.Statement.{statement}
+use Rattle.spelling.proofs.write_blocks.Tie as tie
 
 abbrev Inv-loop : tie.InvT-loop
 Inv-loop states n word next blocks out₀ s₀ i₀ out s i =
