@@ -1,7 +1,7 @@
 // What the command says on standard error, and how a run ends that says it.
 ghost use mathlib.Core.Path.{_≡_};
 ghost use Rattle.text.specs.Texts.{Added};
-ghost use Rattle.messages.specs.Sayings.{saying, refusalLine, setRefusalLine, marksLine};
+ghost use Rattle.messages.specs.Sayings.{saying, setSaying, marksLine};
 ghost use Rattle.arguments.specs.declared.Status.the-variants.{Failed};
 
 pub mod system;
@@ -10,41 +10,31 @@ pub mod usage;
 use answer::Refusal;
 use arguments::Status;
 use libc::STDERR_FILENO;
+use sentences::put_sentence;
 use text::put;
-use text::put_number;
-
-// The name of the command, the number of a refusal and its condition in front; the answer is the place behind them.
-fn put_saying(out: &mut [u8], r: Refusal) -> usize
-    ensures written { λ e. ⌜ Added (saying r) 0 (now (out .entry)) (now (out .exit)) e ⌝ }
-{
-    let refused = put(out, 0, b"sbc: ");
-    refusals::put_refusal(out, refused, r)
-}
 
 // What is said of a refusal.
 fn put_refusal(out: &mut [u8], r: Refusal) -> usize
-    ensures written { λ e. ⌜ Added (refusalLine r) 0 (now (out .entry)) (now (out .exit)) e ⌝ }
+    ensures written { λ e. ⌜ Added (saying r) 0 (now (out .entry)) (now (out .exit)) e ⌝ }
 {
-    let end = put_saying(out, r);
-    put(out, end, b"\n")
+    let refused = put(out, 0, b"sbc: ");
+    refusals::put_refusal_line(out, refused, r)
 }
 
 // What is said of the refusal of a set.
 fn put_set_refusal(out: &mut [u8], i: usize, r: Refusal) -> usize
-    ensures written { λ e. ⌜ Added (setRefusalLine i r) 0 (now (out .entry)) (now (out .exit)) e ⌝ }
+    ensures written { λ e. ⌜ Added (setSaying i r) 0 (now (out .entry)) (now (out .exit)) e ⌝ }
 {
-    let number = put_saying(out, r);
-    let end = put_number(out, number, b", at record ", i as u64);
-    put(out, end, b"\n")
+    let refused = put(out, 0, b"sbc: ");
+    let number = refusals::put_refusal(out, refused, r);
+    put_sentence(out, number, b", at record #\n", &[i])
 }
 
 // How many of n blocks are marked.
 fn put_marks(out: &mut [u8], k: usize, n: usize) -> usize
     ensures written { λ e. ⌜ Added (marksLine k n) 0 (now (out .entry)) (now (out .exit)) e ⌝ }
 {
-    let of = put_number(out, 0, b"sbc: ", k as u64);
-    let end = put_number(out, of, b" of ", n as u64);
-    put(out, end, b" blocks marked\n")
+    put_sentence(out, 0, b"sbc: # of # blocks marked\n", &[k, n])
 }
 
 // Says a line; the run fails.
@@ -97,7 +87,6 @@ pub fn say_too_long(name: &[u8], most: usize) -> Status
     ensures answer { λ s. ⌜ s ≡ Failed ⌝ }
 {
     let mut what = [0u8; 64];
-    let at = put_number(&mut what, 0, b": longer than ", most as u64);
-    let n = put(&mut what, at, b" bytes");
+    let n = put_sentence(&mut what, 0, b": longer than # bytes", &[most]);
     say(name, &what[..n])
 }

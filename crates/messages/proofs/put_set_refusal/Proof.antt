@@ -1,22 +1,23 @@
--- `put_set_refusal` meets its contract: the number of the record is put behind the number and the condition.
+-- `put_set_refusal` meets its contract: the refusal is put behind the name of the command, then the number of the
+-- record.
 -- Assumes nothing.
-use Rattle.text.proofs.Adding.{added-more}
-use Rattle.messages.specs.Sayings.{setRefusalLine}
+use Rattle.text.proofs.Adding.{_then_}
+use Rattle.messages.specs.Sayings.{setSaying}
 use Rattle.laws.proofs.All.{needs}
 use Rattle.messages.proofs.put_set_refusal.Statement.{statement}
 use Rattle.messages.proofs.put_set_refusal.Tie as tie
 
 returns : tie.Need-returns
-unfolding setRefusalLine
+unfolding setSaying
 returns c =
-    let last = c .before .before in
-    let number = last .before .before .before .before .before in
-    let saying = number .before .before .before .before .before in
-    added-more (added-more (saying .put-saying .ensures) (number .put-number .ensures)) (last .put .ensures)
+    let number = c .before .before in
+    let refused = number .before .before .before .before .before .before in
+    let name = refused .before .before .before .before in
+    name .put .ensures then refused .put-refusal .ensures then number .put-sentence .ensures
 
 pub put-set-refusal-spec : {M : Type 1} → statement M
 put-set-refusal-spec =
     tie.close
     (tie.spec
-    (λ c κs. search needs) (λ c. search needs) (λ c κs. search needs) (λ c. search needs) (λ c κs. search needs)
-    (λ c. search needs) returns)
+    (λ c. search needs) (λ c κs. search needs) (λ c κs. search needs) (λ c. search needs) (λ c. search needs)
+    (λ c κs. search needs) (λ c. search needs) returns)
