@@ -1,5 +1,5 @@
 -- The listing as it is put, and how long it can be: 43,028 bytes hold that of every record.
--- In order: heading-is, entry-is, listing-is; Small, listing-short, listing-most; ready-small, formed-short.
+-- In order: listing-is; Small, listing-short, listing-most; ready-small, formed-short.
 -- Assumes nothing.
 use Rattle.laws.proofs.All.{_≡_, sym, ap, subst, _∙_, List, [], _∷_, _++_, append-assoc, ℕ, _+_, _*_, _^_, _≤_, _<_}
 use Rattle.laws.proofs.All.{arith, length, length-append}
@@ -16,19 +16,8 @@ use Rattle.text.proofs.Numbers.{decimal-short, decimal-long}
 use Rattle.text.proofs.Words.{length-binary}
 use Rattle.text.proofs.Rows.{rows-short}
 use Rattle.views.specs.Edges.{edgeLine, rowLines, edgeLines, linesTo}
-use Rattle.views.specs.Listing.{blank, newline, heading, entry, listing}
+use Rattle.views.specs.Listing.{heading, entry, listing}
 use Rattle.views.proofs.Edges.{lines-are}
-
--- ---- one text behind the other
-pub heading-is : (p q s m a : ℕ) → decimal p ++ (blank ∷ [] ++ decimal q) ++ (blank ∷ [] ++ decimal s)
-    ++ (blank ∷ [] ++ decimal m) ++ (blank ∷ [] ++ decimal a ++ newline ∷ []) ≡ heading p q s m a
-unfolding heading
-heading-is p q s m a = simp append-assoc
-
-pub entry-is : (q s d w t : ℕ) → decimal s ++ (blank ∷ [] ++ decimal d) ++ blank ∷ [] ++ binary q w
-    ++ (blank ∷ [] ++ decimal t ++ newline ∷ []) ≡ entry q s d w t
-unfolding entry
-entry-is q s d w t = simp append-assoc
 
 -- THEOREM: the first line, then all edges in order
 pub listing-is : (t : Table) (n : ℕ) → n ≡ 2 ^ t .p
@@ -51,14 +40,22 @@ pub record Small (c : Code) : Type 0 where
 
 heading-long : (p q s m a : ℕ) → length (heading p q s m a)
     ≡ length (decimal p) + length (decimal q) + length (decimal s) + length (decimal m) + length (decimal a) + 5
-unfolding heading
-heading-long p q s m a = simp length-append (omega arith)
+heading-long p q s m a = go (decimal p) (decimal q) (decimal s) (decimal m) (decimal a)
+  where
+    go : (v w x y z : List ℕ) → length (v ++ (32 ∷ (w ++ (32 ∷ (x ++ (32 ∷ (y ++ (32 ∷ (z ++ (10 ∷ []))))))))))
+        ≡ length v + length w + length x + length y + length z + 5
+    go v w x y z = simp length-append (omega arith)
 
 entry-short : (q s d w t : ℕ) → q ≤ 8 → s < 1000 → d < 1000 → t < 1000 → length (entry q s d w t) ≤ 21
 unfolding entry
 entry-short q s d w t q₁ s₁ d₁ t₁ =
     let b = length-binary q w in
-    simp length-append (omega (arith, decimal-short s s₁, decimal-short d d₁, decimal-short t t₁))
+    go (decimal s) (decimal d) (binary q w) (decimal t) (decimal-short s s₁) (decimal-short d d₁) (omega arith)
+    (decimal-short t t₁)
+  where
+    go : (x y v z : List ℕ) → length x ≤ 3 → length y ≤ 3 → length v ≤ 8 → length z ≤ 3
+        → length (x ++ (32 ∷ (y ++ (32 ∷ []))) ++ v ++ (32 ∷ (z ++ (10 ∷ [])))) ≤ 21
+    go x y v z a b c d = simp length-append (omega arith)
 
 module _ (c : Code) (ok : Small c) where
   row-short : (s : ℕ) → s < length (c .table) → length (rowLines entry c s) ≤ 336

@@ -6,46 +6,23 @@ ghost use Rattle.answer.specs.Outcomes.{fitting, answerOf, outputOf};
 ghost use Rattle.table.specs.Value.{codeIn, Ready};
 ghost use Rattle.text.specs.Texts.{Added};
 ghost use Rattle.views.specs.Edges.{linesTo};
-ghost use Rattle.views.specs.Listing.{heading, entry, listing};
+ghost use Rattle.views.specs.Listing.{entry, listing};
 use crate::filling::fill;
 use answer::Answer;
+use sentences::put_sentence;
 use table::Table;
 use table::chains::ways;
 use text::put;
-use text::put_decimal;
-use text::put_line;
-use text::put_number;
 use text::put_word;
-
-// The first line.
-fn put_heading(
-    out: &mut [u8],
-    at: usize,
-    p: usize,
-    q: usize,
-    states: usize,
-    m: usize,
-    a: usize,
-) -> usize
-    ensures written { λ r. ⌜ Added (heading p q states m a) at (now (out .entry)) (now (out .exit)) r ⌝ }
-{
-    let two = put_decimal(out, at, p as u64);
-    let three = put_number(out, two, b" ", q as u64);
-    let four = put_number(out, three, b" ", states as u64);
-    let five = put_number(out, four, b" ", m as u64);
-    put_line(out, five, b" ", a as u64)
-}
 
 // The line of an edge.
 fn put_entry(out: &mut [u8], at: usize, q: usize, s: usize, d: usize, w: usize, t: usize) -> usize
     requires { ⌜ q ≤ 8 ⌝ }
     ensures written { λ r. ⌜ Added (entry q s d w t) at (now (out .entry)) (now (out .exit)) r ⌝ }
 {
-    let datum = put_decimal(out, at, s as u64);
-    let blank = put_number(out, datum, b" ", d as u64);
-    let word = put(out, blank, b" ");
+    let word = put_sentence(out, at, b"# # ", &[s, d]);
     let next = put_word(out, word, q, w);
-    put_line(out, next, b" ", t as u64)
+    put_sentence(out, next, b" #\n", &[t])
 }
 
 // The lines of all edges, n a state.
@@ -79,7 +56,12 @@ pub fn put_listing(out: &mut [u8], at: usize, t: Table) -> usize
     requires { ⌜ Ready t ⌝ }
     ensures written { λ r. ⌜ Added (listing (codeIn t)) at (now (out .entry)) (now (out .exit)) r ⌝ }
 {
-    let first = put_heading(out, at, t.p, t.q, t.states, t.memory, t.lookahead);
+    let first = put_sentence(
+        out,
+        at,
+        b"# # # # #\n",
+        &[t.p, t.q, t.states, t.memory, t.lookahead],
+    );
     put_entries(out, first, t, ways(t.p))
 }
 

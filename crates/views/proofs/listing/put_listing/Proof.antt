@@ -10,14 +10,11 @@ returns : tie.Need-returns
 returns c =
     let x2 = c .before .before in
     let x1 = x2 .before .before .before .before .before in
-    added-same (listing-is _ _ (x2 .before .ways .ensures .0)) (x1 .put-heading .ensures then x2 .put-entries .ensures)
+    added-same (listing-is _ _ (x2 .before .ways .ensures .0)) (x1 .put-sentence .ensures then x2 .put-entries .ensures)
 
 pub put-listing-spec : {M : Type 1} → statement M
 put-listing-spec =
     tie.close
     (tie.spec
-    (λ c κs. search needs)
-    (λ c κs. search needs)
-    (λ c κs. search needs)
-    (λ c. search needs)
-    returns)
+    (λ c. search needs) (λ c. search needs) (λ c κs. search needs) (λ c κs. search needs) (λ c κs. search needs)
+    (λ c. search needs) returns)
