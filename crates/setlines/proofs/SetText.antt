@@ -18,7 +18,7 @@ use Rattle.places.specs.declared.Place.{Place}
 use Rattle.places.specs.declared.Place.the-variants.{At, Nowhere}
 use Rattle.places.specs.Offsets.{placeAt, offsetOf, recordPlace}
 use Rattle.places.proofs.Offsets.{place→}
-use Rattle.setlines.specs.SetText.{placeText, kindText, recordLine, placedLine, recordText, linesTo}
+use Rattle.setlines.specs.SetText.{goodLine, recordLine, placedLine, recordText, linesTo}
 
 -- ---- where a record stands
 module _ (s : List ℕ) (i : ℕ) where
@@ -57,10 +57,9 @@ module _ (i start len : ℕ) (v : Verdict) (t : Table) (o : Outcome Code) where
   line-bad r e q = ap (recordLine i start len) (sym (ap (λ v. verdictOn v (codeIn t)) e) ∙ q)
 
   pub line-good : v ≡ Good → verdictOn v (codeIn t) ≡ o
-      → placeText i start len ++ kindText (t .p) (t .q) (t .states) (t .memory) (t .lookahead)
-      ≡ recordLine i start len o
+      → goodLine i start len (t .p) (t .q) (t .states) (t .memory) (t .lookahead) ≡ recordLine i start len o
   line-good e q =
-      ap (λ n. placeText i start len ++ kindText (t .p) (t .q) n (t .memory) (t .lookahead))
+      ap (λ n. goodLine i start len (t .p) (t .q) n (t .memory) (t .lookahead))
       (sym (length-map (range (t .states)) (rowIn t) ∙ length-from 0 (t .states)))
       ∙ ap (recordLine i start len) (sym (ap (λ v. verdictOn v (codeIn t)) e) ∙ q)
 

@@ -1,12 +1,10 @@
 -- What is printed of a good set: a line for each record, and how many there are.
--- In order: placeText, kindText, recordLine; recordText, linesTo, setText.
+-- In order: goodLine, recordLine; recordText, linesTo, setText.
 -- Assumes nothing.
 use mathlib.Core.List.{List, [], _∷_, _++_, map}
 use Prim.Native.Nat.{ℕ}
 use lib.ListN.{length, take, drop}
 use Rattle.laws.specs.Lists.{range, concat}
-use Rattle.text.specs.Texts.{bytes}
-use Rattle.text.specs.Words.{told}
 use Rattle.sentences.specs.Sentences.{said}
 use Rattle.answer.specs.Outcomes.{Outcome, done, refused}
 use Rattle.table.specs.Rows.{Code}
@@ -15,19 +13,16 @@ use Rattle.places.specs.declared.Place.{Place}
 use Rattle.places.specs.declared.Place.the-variants.{At, Nowhere}
 use Rattle.places.specs.Offsets.{recordPlace}
 
--- the number of a record, its first byte and its length
-abbrev pub placeText : ℕ → ℕ → ℕ → List ℕ
-placeText i start len = said "record # at byte #, # bytes: " (i ∷ start ∷ len ∷ [])
-
--- p, q, states, m and a of a code
-abbrev pub kindText : ℕ → ℕ → ℕ → ℕ → ℕ → List ℕ
-kindText p q states m a = said "p #, q #, # states, m #, a #\n" (p ∷ q ∷ states ∷ m ∷ a ∷ [])
+-- the number of a record, its first byte and its length; p, q, states, m and a of its code
+abbrev pub goodLine : ℕ → ℕ → ℕ → ℕ → ℕ → ℕ → ℕ → ℕ → List ℕ
+goodLine i start len p q states m a =
+    said "record # at byte #, # bytes: p #, q #, # states, m #, a #\n"
+    (i ∷ start ∷ len ∷ p ∷ q ∷ states ∷ m ∷ a ∷ [])
 
 -- a record at a place, if it is good
 abbrev pub recordLine : ℕ → ℕ → ℕ → Outcome Code → List ℕ
 recordLine i start len (done c) =
-    placeText i start len
-    ++ kindText (c .p) (c .q) (length (c .table)) (c .window .memory) (c .window .lookahead)
+    goodLine i start len (c .p) (c .q) (length (c .table)) (c .window .memory) (c .window .lookahead)
 recordLine i start len (refused r) = []
 
 -- the record at a place of a set
@@ -45,4 +40,4 @@ linesTo s n = concat (map (recordText s) (range n))
 
 -- what is printed of a good set of n records
 unfoldable pub setText : List ℕ → ℕ → List ℕ
-setText s n = linesTo s n ++ told "" n ++ bytes " records, all good\n"
+setText s n = linesTo s n ++ said "# records, all good\n" (n ∷ [])

@@ -5,40 +5,12 @@ ghost use Prim.Native.Nat.{_+_, _≤_};
 ghost use lib.ListN.{length, take, drop};
 ghost use Rattle.text.specs.Texts.{Added};
 ghost use Rattle.checker.specs.Parse.{parse};
-ghost use Rattle.setlines.specs.SetText.{placeText, kindText, recordLine, recordText, linesTo, setText};
+ghost use Rattle.setlines.specs.SetText.{recordLine, recordText, linesTo, setText};
 use answer::Verdict;
 use places::Place;
 use places::find;
 use sentences::put_sentence;
 use text::put;
-use text::put_number;
-
-// The number of a record, its first byte and its length.
-fn put_place(out: &mut [u8], at: usize, i: usize, start: usize, len: usize) -> usize
-    ensures written { λ e. ⌜ Added (placeText i start len) at (now (out .entry)) (now (out .exit)) e ⌝ }
-{
-    put_sentence(out, at, b"record # at byte #, # bytes: ", &[i, start, len])
-}
-
-// p, q, states, m and a of a code.
-fn put_kind(
-    out: &mut [u8],
-    at: usize,
-    p: usize,
-    q: usize,
-    states: usize,
-    m: usize,
-    a: usize,
-) -> usize
-    ensures written { λ e. ⌜ Added (kindText p q states m a) at (now (out .entry)) (now (out .exit)) e ⌝ }
-{
-    put_sentence(
-        out,
-        at,
-        b"p #, q #, # states, m #, a #\n",
-        &[p, q, states, m, a],
-    )
-}
 
 // The record that stands at a place.
 fn put_record_at(out: &mut [u8], at: usize, i: usize, start: usize, bytes: &[u8]) -> usize
@@ -51,10 +23,21 @@ fn put_record_at(out: &mut [u8], at: usize, i: usize, start: usize, bytes: &[u8]
     let t = r.table;
     match v {
         Verdict::Bad(_) => put(out, at, b""),
-        Verdict::Good => {
-            let kind = put_place(out, at, i, start, bytes.len());
-            put_kind(out, kind, t.p, t.q, t.states, t.memory, t.lookahead)
-        }
+        Verdict::Good => put_sentence(
+            out,
+            at,
+            b"record # at byte #, # bytes: p #, q #, # states, m #, a #\n",
+            &[
+                i,
+                start,
+                bytes.len(),
+                t.p,
+                t.q,
+                t.states,
+                t.memory,
+                t.lookahead,
+            ],
+        ),
     }
 }
 
@@ -89,6 +72,5 @@ pub fn put_set(out: &mut [u8], set: &[u8], n: usize) -> usize
     ensures written { λ e. ⌜ Added (setText (now (set .entry)) n) 0 (now (out .entry)) (now (out .exit)) e ⌝ }
 {
     let count = put_records(out, set, n);
-    let end = put_number(out, count, b"", n as u64);
-    put(out, end, b" records, all good\n")
+    put_sentence(out, count, b"# records, all good\n", &[n])
 }

@@ -2,8 +2,7 @@
 -- Assumes nothing.
 use Rattle.laws.proofs.All.{now, length, needs}
 use Rattle.checker.specs.Parse.{parse}
-use Rattle.text.proofs.Adding.{added-same, added-more}
-use Rattle.setlines.specs.SetText.{kindText}
+use Rattle.text.proofs.Adding.{added-same}
 use Rattle.setlines.proofs.SetText.{line-bad, line-good}
 use Rattle.setlines.proofs.put_record_at.Statement.{statement}
 use Rattle.setlines.proofs.put_record_at.Tie as tie
@@ -19,20 +18,18 @@ returns c =
 
 returns-2 : tie.Need-returns-2
 returns-2 c =
-    let kind = c .before .before in
-    let place = kind .before .before .before .before in
-    let r = place .before .before .before .before .before .load in
-    let a = place .before .before .before .before .before .before .before .before .args in
+    let put = c .before .before in
+    let told = put .before .before .before .before in
+    let r = told .before .before .before .load in
+    let a = told .before .before .before .before .before .before .args in
     let bytes = now (a .bytes) in
-    let t = r .result .table in
-    added-same (line-good (a .i) (a .start) (length bytes) (r .result .verdict) t (parse bytes)
-    (place .before .before .enum-told2 .given .1) (r .ensures .0))
-    (added-more {t = kindText (t .p) (t .q) (t .states) (t .memory) (t .lookahead)} (place .put-place .ensures)
-    (kind .put-kind .ensures))
+    added-same (line-good (a .i) (a .start) (length bytes) (r .result .verdict) (r .result .table) (parse bytes)
+    (told .enum-told2 .given .1) (r .ensures .0)) (put .put-sentence .ensures)
 
 pub put-record-at-spec : {M : Type 1} → statement M
 put-record-at-spec =
     tie.close
     (tie.spec
     (λ c κs. search needs) (λ c. search needs) (λ c. search needs) (λ c κs. search needs) (λ c. search needs)
-    (λ c κs. search needs) (λ c κs. search needs) (λ c. search needs) returns (λ c. search needs) returns-2)
+    (λ c. search needs) (λ c. search needs) (λ c κs. search needs) (λ c. search needs) returns (λ c. search needs)
+    returns-2)

@@ -9,14 +9,12 @@ use Rattle.setlines.proofs.put_set.Tie as tie
 returns : tie.Need-returns
 unfolding setText
 returns c =
-    let last = c .before .before in
-    let count = last .before .before .before .before .before in
-    let lines = count .before .before .before .before .before in
-    added-more (added-more (lines .put-records .ensures) (count .put-number .ensures)) (last .put .ensures)
+    let count = c .before .before in
+    let lines = count .before .before .before .before .before .before in
+    added-more (lines .put-records .ensures) (count .put-sentence .ensures)
 
 pub put-set-spec : {M : Type 1} → statement M
 put-set-spec =
     tie.close
     (tie.spec
-    (λ c κs. search needs) (λ c. search needs) (λ c κs. search needs) (λ c. search needs) (λ c κs. search needs)
-    (λ c. search needs) returns)
+    (λ c κs. search needs) (λ c. search needs) (λ c. search needs) (λ c κs. search needs) (λ c. search needs) returns)
