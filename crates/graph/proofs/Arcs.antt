@@ -1,11 +1,12 @@
 -- Edges: when two are the same, how often one occurs, sorting, and the sum over the edges that a list names.
--- In order: same→eq, same-refl, same-is, among→count, count→among, each-among, tot-insert, tot-sort, length-sort,
--- tot-same, pick.
+-- In order: same→eq, same-refl, same-is, among→count, count→among, each-among, image-count, none-count, tot-sort,
+-- length-sort, tot-same, pick.
 -- Assumes nothing.
 use Rattle.laws.proofs.All.{_≡_, refl, sym, ap₂, subst, _∙_, Bool, true, false, _&&_, _||_, List, [], _∷_, ℕ, _+_}
 use Rattle.laws.proofs.All.{_*_, _≤_, _<_, zero-add, add-zero, zero-mul, arith, T, eqb, eqb→eq, eqb-refl, length}
 use Rattle.laws.proofs.All.{if_then_else_, and→, →and, →orL, →orR, so, nay, Whether, T→true, Each, tot, mask, one}
 use Rattle.laws.proofs.All.{each-map, each-always, tot-eq, tot-add, tot-zero, any→count, count→any}
+use Rattle.laws.proofs.All.{tot-map, tot-le, map, le-refl, zero-le}
 use Rattle.laws.proofs.Sorted as sorted
 use Rattle.graph.specs.Arcs.{Arc}
 use Rattle.graph.specs.Splitting.{earlier, sort, same, among}
@@ -13,16 +14,14 @@ use Rattle.graph.specs.Invariant.{count}
 
 -- ---- a test with what it says
 
+pub arc-eq : {e f : Arc} → e .source ≡ f .source → e .word ≡ f .word → e .target ≡ f .target → e ≡ f
+arc-eq a b c = λ i. record { source = a i; word = b i; target = c i }
+
 pub same→eq : (e f : Arc) → T (same e f) → e ≡ f
 same→eq e f t =
     let (a, u) = and→ (eqb (e .source) (f .source)) (eqb (e .word) (f .word) && eqb (e .target) (f .target)) t in
     let (b, c) = and→ (eqb (e .word) (f .word)) (eqb (e .target) (f .target)) u in
-    λ i. record {
-      source = eqb→eq (e .source) (f .source) a i;
-      word = eqb→eq (e .word) (f .word) b i;
-      target =
-          eqb→eq (e .target) (f .target) c i;
-    }
+    arc-eq (eqb→eq (e .source) (f .source) a) (eqb→eq (e .word) (f .word) b) (eqb→eq (e .target) (f .target) c)
 
 pub same-refl : (e : Arc) → T (same e e)
 same-refl e =
@@ -52,6 +51,23 @@ each-among (x ∷ l) = (
   each-map (λ e. T (among l e)) (λ e. T (among (x ∷ l) e))
       (λ e t. →orR (same e x) (among l e) t) l (each-among l),
 )
+
+-- an edge that becomes e by f was b: e is among what becomes of them no more often than b is among them
+pub image-count : (f : Arc → Arc) (e b : Arc) (g : List Arc) → Each (λ a. e ≡ f a → b ≡ a) g
+    → count e (map f g) ≤ count b g
+image-count f e b g h =
+    rw (tot-map (one (same e)) f g) (tot-le (λ a. one (same e) (f a)) (one (same b)) g
+    (each-map (λ a. e ≡ f a → b ≡ a) _ (λ a k. elim (same-is e (f a)) [
+      | so p q ↦ rw (q, k p, T→true (same a a) (same-refl a)) (le-refl 1)
+      | nay p q ↦ rw q zero-le
+    ]) g h))
+
+pub none-count : (e : Arc) (g : List Arc) → Each (λ a. e ≡ a → ⊥) g → count e g ≡ 0
+none-count e [] h = refl
+none-count e (a ∷ g) h = elim (same-is e a) [
+  | so p q ↦ absurd (h .0 p)
+  | nay p q ↦ rw q (omega (arith, none-count e g (h .1)))
+]
 
 -- ---- sorting changes no sum
 pub tot-sort : (f : Arc → ℕ) (l : List Arc) → tot f (sort l) ≡ tot f l

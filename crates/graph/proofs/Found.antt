@@ -9,7 +9,7 @@ use Rattle.laws.proofs.All.{tot, mask, one, times, each-map, each-always, each-
 use Rattle.laws.proofs.All.{first-passes, each-image, image-each, tot-filter, tot-le, tot-map, each-range}
 use Rattle.laws.proofs.All.{each-elem, elem-filter, →elem-filter, each-at, elem-range, range-once, tot-filter-le}
 use Rattle.laws.proofs.All.{index-lt, at-index, index-at}
-use Rattle.graph.proofs.Arcs.{same-is, same-refl}
+use Rattle.graph.proofs.Arcs.{arc-eq, image-count}
 use Rattle.graph.specs.Invariant.{count, Inside, Stays, Joined, Inv}
 use Rattle.graph.specs.Arcs.{Arc, arc, leaves, out}
 use Rattle.graph.specs.Weights.{weight, total}
@@ -124,22 +124,9 @@ module _ (v : List ℕ) (g : List Arc) (i : Each (Inside (length v)) g) (z : ℕ
   distinct′ : ((e : Arc) → count e g ≤ 1) → (e : Arc) → count e (renumbered C g) ≤ 1
   distinct′ d e =
       let e′ = arc (getD C (e .source) 0) (e .word) (getD C (e .target) 0) in
-      rw (tot-map (one (same e)) (renamed C) (within C g))
-      (le-trans (tot-le (λ f. one (same e) (renamed C f)) (one (same e′)) (within C g)
-      (each-map _ _ point (within C g) in-both))
-      (le-trans (tot-filter-le (one (same e′)) (both C) g) (d e′)))
-    where
-      point : (f : Arc) → T (elem (f .source) C) × T (elem (f .target) C)
-          → one (same e) (renamed C f) ≤ one (same (arc (getD C (e .source) 0) (e .word) (getD C (e .target) 0))) f
-      point f h = elim (same-is e (renamed C f)) [
-        | so p q ↦ let a : getD C (e .source) 0 ≡ f .source =
-            ap (λ e. getD C (e .source) 0) p ∙ at-index (f .source) C (h .0) in
-            let b : getD C (e .target) 0 ≡ f .target =
-            ap (λ e. getD C (e .target) 0) p ∙ at-index (f .target) C (h .1) in
-            let c : e .word ≡ f .word = ap (λ e. e .word) p in
-            rw (q, a, b, c, T→true (same f f) (same-refl f)) (le-refl 1)
-        | nay p q ↦ rw q zero-le
-      ]
+      le-trans (image-count (renamed C) e e′ (within C g)
+      (each-map _ _ (λ f h p. arc-eq (cc (at-index (f .source) C (h .0))) (cc) (cc (at-index (f .target) C (h .1)))) (within C g) in-both))
+      (le-trans (tot-filter-le (one (same e′)) (both C) g) (d e′))
 
   enough′ : (n j : ℕ) → j < length C → getD v (getD C j 0) 0 * n ≤ total v (out g (getD C j 0))
       → getD v′ j 0 * n ≤ total v′ (out (renumbered C g) j)

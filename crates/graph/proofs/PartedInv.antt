@@ -4,7 +4,7 @@
 use Rattle.laws.proofs.All.{_≡_, ap, _∙_, Bool, true, false, List, ℕ, suc, _+_, _*_, _-_, _≤_, _<_, zero-le}
 use Rattle.laws.proofs.All.{le-refl, le-trans, le-of-eq, mul-le-mul-right, add-mul, arith, decLt, eqb, length, getD}
 use Rattle.laws.proofs.All.{if_then_else_, Whether, so, nay, eqb-is, Each, mask, one, each-map, each-always}
-use Rattle.laws.proofs.All.{tot-filter, tot-le}
+use Rattle.laws.proofs.All.{tot-filter-le}
 use Rattle.graph.specs.Invariant.{count, Inv, Part}
 use Rattle.graph.specs.Arcs.{Arc, Work, leaves, out}
 use Rattle.graph.specs.Weights.{total}
@@ -28,12 +28,7 @@ which s K y h = go (eqb-is y s) (decLt y K)
     go (nay p q) (no l) = new (omega arith)
 
 pub count-out : (g : List Arc) (s : ℕ) (e : Arc) → count e (out g s) ≤ count e g
-count-out g s e = rw (tot-filter (one (same e)) (leaves s) g)
-    (tot-le (mask (leaves s) (one (same e))) (one (same e)) g (each-always _ (λ f. go f (leaves s f)) g))
-  where
-    go : (f : Arc) (b : Bool) → (if b then one (same e) f else 0) ≤ one (same e) f
-    go f true = le-refl _
-    go f false = zero-le
+count-out g s e = tot-filter-le (one (same e)) (leaves s) g
 
 module _ (n S : ℕ) (x : Work) (s : ℕ) (keep : List Arc) (w : ℕ) (hn : 0 < n) (I : Inv n S x)
     (p : Part n x s keep w) where

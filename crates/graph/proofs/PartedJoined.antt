@@ -8,7 +8,7 @@ use Rattle.graph.specs.Invariant.{Stays, Joined}
 use Rattle.graph.specs.Arcs.{Arc, leaves, enters, out}
 use Rattle.graph.specs.Weights.{weight, total}
 use Rattle.graph.specs.Splitting.{moved, redirected, doubled}
-use Rattle.graph.proofs.PartedSums.{Fate, goes, remains, apart, fate}
+use Rattle.graph.proofs.PartedSums.{goes, stays, fate}
 
 module _ (s K : ℕ) (keep g : List Arc) (hs : s < K) (Q : ℕ → Bool) where
   -- the set before the parting: s is in it if both parts are in Q
@@ -43,8 +43,7 @@ module _ (s K : ℕ) (keep g : List Arc) (hs : s < K) (Q : ℕ → Bool) where
     merged-stays : (e : Arc) → Both (moved s K keep e) → Stays merged e
     merged-stays e b t = elim (fate s K keep e) [
       | goes p u q ↦ use-it (subst Both q b (at-merged (e .source) t .1 p))
-      | remains p u q ↦ use-it (subst Both q b (at-merged (e .source) t .0))
-      | apart p q ↦ use-it (subst Both q b (at-merged (e .source) t .0))
+      | stays u q ↦ use-it (subst Both q b (at-merged (e .source) t .0))
     ]
       where
         use-it : T (Q (e .target)) × (e .target ≡ s → T (Q K)) → T (merged (e .target))

@@ -6,7 +6,8 @@ use Rattle.laws.proofs.All.{if_then_else_, filter, T→true, Each, each-map, ea
 use Rattle.laws.proofs.All.{each-image}
 use Rattle.graph.specs.Arcs.{Arc, enters}
 use Rattle.graph.specs.Splitting.{moved, redirected, doubled}
-use Rattle.graph.proofs.PartedSums.{Fate, goes, remains, apart, fate}
+use Rattle.graph.proofs.PartedSums.{goes, stays, fate}
+use Rattle.graph.proofs.PartedDistinct.{each-doubled}
 
 -- the root of the new state is that of s
 abbrev pub rooted : ℕ → ℕ → (ℕ → ℕ) → ℕ → ℕ
@@ -26,8 +27,7 @@ module _ (P : ℕ → ℕ → ℕ → Type 0) (s K : ℕ) (hs : s < K) (r : ℕ 
   over-moved : (e : Arc) → (e .source < K) × (e .target < K) → Over r e → Over (rooted s K r) (moved s K keep e)
   over-moved e i h = elim (fate s K keep e) [
     | goes p u q ↦ subst (Over (rooted s K r)) (sym q) (rw (rooted-new s K r, tgt) (rw p at h))
-    | remains p u q ↦ subst (Over (rooted s K r)) (sym q) (rw (rooted-old s K r (e .source) (i .0), tgt) h)
-    | apart p q ↦ subst (Over (rooted s K r)) (sym q) (rw (rooted-old s K r (e .source) (i .0), tgt) h)
+    | stays u q ↦ subst (Over (rooted s K r)) (sym q) (rw (rooted-old s K r (e .source) (i .0), tgt) h)
   ]
     where
       tgt : rooted s K r (e .target) ≡ r (e .target)
@@ -49,7 +49,4 @@ module _ (P : ℕ → ℕ → ℕ → Type 0) (s K : ℕ) (hs : s < K) (r : ℕ 
       let o : Each (Over (rooted s K r)) g′ = each-image (Over (rooted s K r)) (moved s K keep) g
       (each-map (λ e. ((e .source < K) × (e .target < K)) × Over r e) _
       (λ e u. over-moved e (u .0) (u .1)) g (each-both _ (Over r) g i h)) in
-      each-append (Over (rooted s K r)) g′ (map (redirected K) (filter (enters s) g′)) o
-      (each-image (Over (rooted s K r)) (redirected K) (filter (enters s) g′)
-      (each-filter (λ e. Over (rooted s K r) (redirected K e)) (enters s) g′
-      (each-map (Over (rooted s K r)) _ over-turned g′ o)))
+      each-doubled (Over (rooted s K r)) s K g′ o (each-map (Over (rooted s K r)) _ over-turned g′ o)

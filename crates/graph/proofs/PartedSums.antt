@@ -15,57 +15,40 @@ use Rattle.graph.proofs.Parted.{weights′, w-old, w-new, w-other}
 -- ---- what becomes of an edge
 pub data Fate (s K : ℕ) (keep : List Arc) (e : Arc) : Type 0 where
   goes : e .source ≡ s → among keep e ≡ false → moved s K keep e ≡ arc K (e .word) (e .target) → Fate s K keep e
-  remains : e .source ≡ s → among keep e ≡ true → moved s K keep e ≡ e → Fate s K keep e
-  apart : (e .source ≡ s → ⊥) → moved s K keep e ≡ e → Fate s K keep e
+  stays : (e .source ≡ s → among keep e ≡ true) → moved s K keep e ≡ e → Fate s K keep e
 
 pub fate : (s K : ℕ) (keep : List Arc) (e : Arc) → Fate s K keep e
 fate s K keep e = go (eqb-is (e .source) s) (among keep e) refl
   where
     go : Whether (e .source ≡ s) (eqb (e .source) s) → (b : Bool) → among keep e ≡ b → Fate s K keep e
-    go (so p q) true u = remains p u (rw (q, u))
+    go (so p q) true u = stays (λ r. u) (rw (q, u))
     go (so p q) false u = goes p u (rw (q, u))
-    go (nay p q) b u = apart p (rw q)
-
--- an edge counts, or counts 0
-mask-so : (f : Arc → ℕ) (x : ℕ) (e : Arc) → e .source ≡ x → mask (leaves x) f e ≡ f e
-mask-so f x e p = rw (eq-eqb (e .source) x p)
-
-mask-nay : (f : Arc → ℕ) (x : ℕ) (e : Arc) → (e .source ≡ x → ⊥) → mask (leaves x) f e ≡ 0
-mask-nay f x e p = rw (ne-eqb (e .source) x p)
+    go (nay p q) b u = stays (λ r. absurd (p r)) (rw q)
 
 -- ---- moving edges
-module _ (f : Arc → ℕ) (s K : ℕ) (keep : List Arc) (free : (e : Arc) → f (arc K (e .word) (e .target)) ≡ f e) where
+module _ (v : List ℕ) (s K : ℕ) (keep : List Arc) where
+  abbrev of : ℕ → Arc → ℕ
+  of x = mask (leaves x) (weight v)
+
   -- another state's sum stays
-  moved-other : (x : ℕ) → (x ≡ s → ⊥) → x < K → (e : Arc) → mask (leaves x) f (moved s K keep e) ≡ mask (leaves x) f e
+  moved-other : (x : ℕ) → (x ≡ s → ⊥) → x < K → (e : Arc) → of x (moved s K keep e) ≡ of x e
   moved-other x d h e = elim (fate s K keep e) [
-    | goes p u q ↦ ap (mask (leaves x) f) q ∙ mask-nay f x (arc K (e .word) (e .target)) (λ r. omega arith)
-        ∙ sym (mask-nay f x e (λ r. d (sym r ∙ p)))
-    | remains p u q ↦ ap (mask (leaves x) f) q
-    | apart p q ↦ ap (mask (leaves x) f) q
+    | goes p u q ↦ rw (q, ne-eqb K x (λ r. omega arith), ne-eqb (e .source) x (λ r. omega arith))
+    | stays u q ↦ rw q
   ]
 
   -- the old part has the edges kept
-  moved-old : s < K → (e : Arc) → mask (leaves s) f (moved s K keep e) ≡ mask (leaves s) (mask (among keep) f) e
+  moved-old : s < K → (e : Arc) → of s (moved s K keep e) ≡ mask (leaves s) (mask (among keep) (weight v)) e
   moved-old h e = elim (fate s K keep e) [
-    | goes p u q ↦ ap (mask (leaves s) f) q ∙ mask-nay f s (arc K (e .word) (e .target)) (λ r. omega arith)
-        ∙ sym (mask-so (mask (among keep) f) s e p ∙ rw u)
-    | remains p u q ↦ ap (mask (leaves s) f) q ∙ mask-so f s e p
-        ∙ sym (mask-so (mask (among keep) f) s e p ∙ rw u)
-    | apart p q ↦ ap (mask (leaves s) f) q ∙ mask-nay f s e p ∙ sym (mask-nay (mask (among keep) f) s e p)
+    | goes p u q ↦ rw (q, ne-eqb K s (λ r. omega arith), eq-eqb (e .source) s p, u)
+    | stays u q ↦ elim (eqb-is (e .source) s) [ so p r ↦ rw (q, r, u p) | nay p r ↦ rw (q, r) ]
   ]
 
   -- the two parts together have all edges
-  moved-both : s < K → (e : Arc) → e .source < K
-      → mask (leaves s) f (moved s K keep e) + mask (leaves K) f (moved s K keep e) ≡ mask (leaves s) f e
+  moved-both : s < K → (e : Arc) → e .source < K → of s (moved s K keep e) + of K (moved s K keep e) ≡ of s e
   moved-both h e i = elim (fate s K keep e) [
-    | goes p u q ↦ let e′ = arc K (e .word) (e .target) in
-        ap (λ e′. mask (leaves s) f e′ + mask (leaves K) f e′) q
-        ∙ ap₂ (λ a b. a + b) (mask-nay f s e′ (λ r. omega arith)) (mask-so f K e′ refl ∙ free e)
-        ∙ zero-add (f e) ∙ sym (mask-so f s e p)
-    | remains p u q ↦ ap (λ e′. mask (leaves s) f e′ + mask (leaves K) f e′) q
-        ∙ ap (λ b. mask (leaves s) f e + b) (mask-nay f K e (λ r. omega arith)) ∙ add-zero _
-    | apart p q ↦ ap (λ e′. mask (leaves s) f e′ + mask (leaves K) f e′) q
-        ∙ ap (λ b. mask (leaves s) f e + b) (mask-nay f K e (λ r. omega arith)) ∙ add-zero _
+    | goes p u q ↦ rw (q, ne-eqb K s (λ r. omega arith), eq-eqb K K refl, eq-eqb (e .source) s p) (zero-add _)
+    | stays u q ↦ rw (q, ne-eqb (e .source) K (λ r. omega arith)) (add-zero _)
   ]
 
 -- ---- the sums after the edges have been moved
@@ -81,14 +64,14 @@ module _ (v : List ℕ) (g keep : List Arc) (s : ℕ) (hs : s < length v) where
   pub shifted-other : (x : ℕ) → x < length v → (x ≡ s → ⊥) → total v (out shifted x) ≡ total v (out g x)
   shifted-other x h d =
       shifted-tot x ∙ tot-eq _ (mask (leaves x) (weight v)) g
-      (each-always _ (moved-other (weight v) s (length v) keep (λ e. refl) x d h) g)
+      (each-always _ (moved-other v s (length v) keep x d h) g)
       ∙ sym (tot-filter (weight v) (leaves x) g)
 
   pub shifted-old : ((e : Arc) → count e keep ≤ count e (out g s)) → ((e : Arc) → count e (out g s) ≤ 1)
       → total v (out shifted s) ≡ total v keep
   shifted-old h d =
       shifted-tot s ∙ tot-eq _ (mask (leaves s) (mask (among keep) (weight v))) g
-      (each-always _ (moved-old (weight v) s (length v) keep (λ e. refl) hs) g)
+      (each-always _ (moved-old v s (length v) keep hs) g)
       ∙ sym (tot-filter (mask (among keep) (weight v)) (leaves s) g) ∙ pick (weight v) keep (out g s) h d
 
   pub shifted-both : Each (Inside (length v)) g
@@ -98,8 +81,7 @@ module _ (v : List ℕ) (g keep : List Arc) (s : ℕ) (hs : s < length v) where
       ∙ sym (tot-add (λ e. mask (leaves s) (weight v) (moved s (length v) keep e))
       (λ e. mask (leaves (length v)) (weight v) (moved s (length v) keep e)) g)
       ∙ tot-eq _ (mask (leaves s) (weight v)) g
-      (each-map (Inside (length v)) _
-      (λ e k. moved-both (weight v) s (length v) keep (λ e. refl) hs e (k .0)) g i)
+      (each-map (Inside (length v)) _ (λ e k. moved-both v s (length v) keep hs e (k .0)) g i)
       ∙ sym (tot-filter (weight v) (leaves s) g)
 
 -- ---- the sums after the edges into s have been doubled
@@ -118,17 +100,10 @@ module _ (v : List ℕ) (s w : ℕ) (hs : s < length v) (hw : w ≤ getD v s 0) 
   twice-mask : (x : ℕ) (e : Arc) → e .target < K
       → mask (leaves x) (weight (weights′ v s w hs)) e + mask (enters s)
       (λ e. mask (leaves x) (weight (weights′ v s w hs)) (redirected K e)) e ≡ mask (leaves x) (weight v) e
-  twice-mask x e h = go (eqb (e .source) x)
-    where
-      zero-if : (b : Bool) → 0 + (if b then 0 else 0) ≡ 0
-      zero-if true = refl
-      zero-if false = refl
-
-      go : (b : Bool) → (if b then weight (weights′ v s w hs) e else 0) +
-          (if enters s e then (if b then weight (weights′ v s w hs) (redirected K e) else 0) else 0) ≡
-          (if b then weight v e else 0)
-      go true = twice e h
-      go false = zero-if (enters s e)
+  twice-mask x e h = elim (eqb-is (e .source) x) [
+    | so p q ↦ rw q (twice e h)
+    | nay p q ↦ rw q (elim (eqb-is (e .target) s) [ so a r ↦ rw r | nay a r ↦ rw r ])
+  ]
 
   pub doubled-tot : (g : List Arc) → Each (λ e. e .target < K) g → (x : ℕ)
       → total (weights′ v s w hs) (out (doubled s K g) x) ≡ total v (out g x)

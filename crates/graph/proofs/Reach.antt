@@ -5,26 +5,24 @@ use Rattle.laws.proofs.All.{_≡_, refl, sym, subst, _∙_, _⊎_, inl, inr, Bo
 use Rattle.laws.proofs.All.{map, ℕ, _<_, le-trans, le-of-eq, T, eqb, eqb→eq, eqb-refl, length, getD, length-map}
 use Rattle.laws.proofs.All.{range, any, and→, →and, or→, →orL, →orR, length-from, map-range-at, tab→, →tab, Each}
 use Rattle.laws.proofs.All.{each-map, each-both, each-any, any-each, member, missing, missing-le, grow-sub}
-use Rattle.laws.proofs.All.{member-lt, iterate-keeps, settles}
+use Rattle.laws.proofs.All.{member-lt, iterate-keeps, settles, each-for, T-not, not-T, length-map-range}
 use Rattle.graph.specs.Invariant.{Inside, Stays}
 use Rattle.graph.specs.Arcs.{Arc}
-use Rattle.graph.specs.Component.{leadsInto, withSources, reaching, reachings, reaches}
+use Rattle.graph.specs.Component.{leadsInto, reachesInto, withSources, reaching, reachings, reaches}
 
 before-length : (g : List Arc) (S : List Bool) → length (withSources g S) ≡ length S
-before-length g S = length-map (range (length S)) (λ s. member S s || any (leadsInto S s) g)
-    ∙ length-from 0 (length S)
+before-length g S = length-map-range (reachesInto g S) (length S)
 
 before-more : (g : List Arc) (S : List Bool) (i : ℕ) → T (member S i) → T (member (withSources g S) i)
 before-more g S i t =
-    →tab (λ s. member S s || any (leadsInto S s) g) (length S) i (member-lt S i t)
-    (→orL (member S i) (any (leadsInto S i) g) t)
+    →tab (reachesInto g S) (length S) i (member-lt S i t) (→orL (member S i) (any (leadsInto S i) g) t)
 
 module _ (K : ℕ) (g : List Arc) (t : ℕ) where
   abbrev start : List Bool
   start = map (eqb t) (range K)
 
   start-length : length start ≡ K
-  start-length = length-map (range K) (eqb t) ∙ length-from 0 K
+  start-length = length-map-range (eqb t) K
 
   reaching-length : length (reaching K g t) ≡ K
   reaching-length = iterate-keeps (withSources g) (λ S. length S ≡ K)
@@ -50,16 +48,10 @@ module _ (K : ℕ) (g : List Arc) (t : ℕ) where
       (f (e .source) (→and (eqb (e .source) (e .source)) (member R (e .target)) (eqb-refl (e .source)) u))) g
       (each-for (λ s e. T (leadsInto R s e) → T (any (leadsInto R s) g)) g (λ s. each-any (leadsInto R s) g))
     where
-      each-for : (P : ℕ → Arc → Type 0) (l : List Arc) → ((y : ℕ) → Each (P y) l) → Each (λ x. (y : ℕ) → P y x) l
-      each-for P [] h = tt
-      each-for P (x ∷ l) h = (λ y. h y .0, each-for P l (λ y. h y .1))
-
       close : (s : ℕ) → s < K → T (any (leadsInto (reaching K g t) s) g) → T (member (reaching K g t) s)
-      close s h u =
-          subst (λ S. T (member S s)) reaching-fixed
-          (→tab (λ s. member (reaching K g t) s || any (leadsInto (reaching K g t) s) g)
-          (length (reaching K g t)) s (rw reaching-length h)
-          (→orR (member (reaching K g t) s) (any (leadsInto (reaching K g t) s) g) u))
+      close s h u = let R = reaching K g t in
+          subst (λ S. T (member S s)) reaching-fixed (→tab (reachesInto g R) (length R) s (rw reaching-length h)
+          (→orR (member R s) (any (leadsInto R s) g) u))
 
   abbrev Sound : (ℕ → Bool) → List Bool → Type 0
   Sound Q S = (s : ℕ) → T (member S s) → T (Q s) → T (Q t)
@@ -73,7 +65,7 @@ module _ (K : ℕ) (g : List Arc) (t : ℕ) where
 
       keep : (S : List Bool) → Sound Q S → Sound Q (withSources g S)
       keep S h s m q = elim (or→ (member S s) (any (leadsInto S s) g)
-          (tab→ (λ s. member S s || any (leadsInto S s) g) (length S) s m .1)) [
+          (tab→ (reachesInto g S) (length S) s m .1)) [
             | inl a ↦ h s a q
             | inr a ↦ found (any-each (leadsInto S s) (Stays Q) g a c)
           ]
@@ -101,35 +93,22 @@ reaches-is K g =
     at t h = map-range-at (reaching K g) K t [] h
 
 module _ (K : ℕ) (g : List Arc) (reach : ℕ → ℕ → Bool) (R : Reaching K g reach) (i : Each (Inside K) g) where
-  not-T : (b : Bool) → T (not b) → T b → ⊥
-  not-T true a c = a
-  not-T false a c = c
-
-  T-not : (b : Bool) → (T b → ⊥) → T (not b)
-  T-not true h = h tt
-  T-not false h = tt
-
   pub reach-trans : (s t u : ℕ) → t < K → u < K → T (reach s t) → T (reach t u) → T (reach s u)
   reach-trans s t u ht hu a b = go (reach s u) refl
     where
       closed : Each (Stays (λ x. not (reach x u))) g
       closed = each-map _ (Stays (λ x. not (reach x u)))
-          (λ e h n. T-not (reach (e .target) u) (λ m. not-T (reach (e .source) u) n (h .1 (h .0 .0) m))) g
+          (λ e h n. not-T (reach (e .target) u) (λ m. T-not (reach (e .source) u) n (h .1 (h .0 .0) m))) g
           (each-both (Inside K) _ g i (R .step u hu))
 
       go : (c : Bool) → reach s u ≡ c → T (reach s u)
       go true q = rw q tt
-      go false q = absurd (not-T (reach t u) (R .sound t ht (λ x. not (reach x u)) closed s a (rw q tt)) b)
+      go false q = absurd (T-not (reach t u) (R .sound t ht (λ x. not (reach x u)) closed s a (rw q tt)) b)
 
   -- an edge is reaching
   pub reach-edge : Each (λ e. T (reach (e .source) (e .target))) g
   reach-edge =
       each-map _ (λ e. T (reach (e .source) (e .target)))
       (λ e h. h .1 (e .target) (h .0 .1) (h .0 .0) (R .self (e .target) (h .0 .1))) g
-      (each-both (Inside K) _ g i (each-for-lt g (λ t h. R .step t h)))
-    where
-      each-for-lt : (l : List Arc)
-          → ((t : ℕ) → t < K → Each (λ e. e .source < K → T (reach (e .target) t) → T (reach (e .source) t)) l)
-          → Each (λ e. (t : ℕ) → t < K → e .source < K → T (reach (e .target) t) → T (reach (e .source) t)) l
-      each-for-lt [] h = tt
-      each-for-lt (x ∷ l) h = (λ t k. h t k .0, each-for-lt l (λ t k. h t k .1))
+      (each-both (Inside K) _ g i (each-for _ g (λ t. each-for
+      (λ (l : t < K) e. e .source < K → T (reach (e .target) t) → T (reach (e .source) t)) g (R .step t))))

@@ -7,7 +7,7 @@ use Rattle.graph.specs.Invariant.{Inv}
 use Rattle.graph.specs.Arcs.{Work}
 use Rattle.graph.specs.Splitting.{chosen, kept, split, unfinished, goesOn, splits}
 use Rattle.graph.proofs.Split.{split-inv, split-length, split-part}
-use Rattle.graph.proofs.Loop.{splits-on, splits-off}
+use Rattle.graph.proofs.Loop.{short, splits-keep}
 use Rattle.graph.proofs.PartedRoots.{rooted, parted-over}
 
 -- r gives each state its root, one of the first K states, which are their own roots; P holds of roots and word of each
@@ -45,20 +45,8 @@ module _ (P : ℕ → ℕ → ℕ → Type 0) (K n S : ℕ) (hn : 0 < n) where
       go y h (so p q) = rw q (R .from (chosen (x .weights) (x .arcs)) (split-part n S x hn I t .state))
       go y h (nay p q) = rw q (R .from y (omega arith))
 
-  abbrev Roots : Work → Type 0
-  Roots y = (r : ℕ → ℕ) × Rooted P K y r
-
   pub splits-rooted : (m : ℕ) (x : Work) (r : ℕ → ℕ) → Inv n S x → Rooted P K x r
       → (r′ : ℕ → ℕ) × Rooted P K (splits m n x) r′
-  unfolding splits
-  splits-rooted zero x r I R = (r, R)
-  splits-rooted (suc m) x r I R = go (goesOn n x) refl (λ y r. splits-rooted m y r)
-    where
-      go : (b : Bool) → goesOn n x ≡ b → ((y : Work) (r : ℕ → ℕ) → Inv n S y → Rooted P K y r → Roots (splits m n y))
-          → Roots (splits (suc m) n x)
-      go true q f =
-          let t : T (unfinished n x) = and→ (not (ltb 2048 (length (x .arcs)))) (unfinished n x) (rw q tt) .1 in
-          subst Roots (sym (splits-on m n x q))
-          (f (split n x) (rooted (chosen (x .weights) (x .arcs)) (length (x .weights)) r) (split-inv n S x hn I t)
-          (split-rooted x r I t R))
-      go false q f = subst Roots (sym (splits-off m n x q)) (r, R)
+  splits-rooted m x r I R = splits-keep (λ y. Inv n S y × ((r : ℕ → ℕ) × Rooted P K y r)) n
+      (λ y q h. let t = short n y q in
+      (split-inv n S y hn (h .0) t, (_, split-rooted y (h .1 .0) (h .0) t (h .1 .1)))) m x (I, (r, R)) .1
