@@ -14,51 +14,35 @@ use Rattle.reading.specs.Reading.{readings, readingsOf, reading}
 use Rattle.windows.proofs.Same.{Same, AgreeSame}
 
 -- ---- a path by its data and its words
-abbrev pub Reads : Rows → ℕ → List ℕ → List ℕ → Type 0
-Reads g s [] [] = Unit {0}
-Reads g s [] (w ∷ ws) = ⊥
-Reads g s (x ∷ xs) [] = ⊥
-Reads g s (x ∷ xs) (w ∷ ws) = (x < length (edges g s)) × (at g s x .word ≡ w) × Reads g (at g s x .next) xs ws
+pub data Reads (g : Rows) : ℕ → List ℕ → List ℕ → Type 0 where
+  end : {s : ℕ} → Reads g s [] []
+  step : {s x w : ℕ} {xs ws : List ℕ} → x < length (edges g s) → at g s x .word ≡ w
+      → Reads g (at g s x .next) xs ws → Reads g s (x ∷ xs) (w ∷ ws)
 
-pub reads-length : (g : Rows) (s : ℕ) (xs ws : List ℕ) → Reads g s xs ws → length xs ≡ length ws
-reads-length g s [] [] h = refl
-reads-length g s [] (w ∷ ws) h = absurd h
-reads-length g s (x ∷ xs) [] h = absurd h
-reads-length g s (x ∷ xs) (w ∷ ws) (a, b, h) = ap suc (reads-length g (at g s x .next) xs ws h)
+pub reads-length : {g : Rows} {s : ℕ} {xs ws : List ℕ} → Reads g s xs ws → length xs ≡ length ws
+reads-length end = refl
+reads-length (step a b h) = ap suc (reads-length h)
 
 -- two paths with the same words
-pub reads-same : (g : Rows) (s t : ℕ) (xs ys ws : List ℕ) → Reads g s xs ws → Reads g t ys ws → Same g s t xs ys
-reads-same g s t [] [] [] h k = tt
-reads-same g s t [] [] (w ∷ ws) h k = tt
-reads-same g s t [] (y ∷ ys) [] h k = k
-reads-same g s t [] (y ∷ ys) (w ∷ ws) h k = h
-reads-same g s t (x ∷ xs) [] [] h k = h
-reads-same g s t (x ∷ xs) [] (w ∷ ws) h k = k
-reads-same g s t (x ∷ xs) (y ∷ ys) [] h k = absurd h
-reads-same g s t (x ∷ xs) (y ∷ ys) (w ∷ ws) (a, b, h) (a', b', k) =
-    (a, a', b ∙ sym b', reads-same g (at g s x .next) (at g t y .next) xs ys ws h k)
+pub reads-same : {g : Rows} {s t : ℕ} {xs ys ws : List ℕ} → Reads g s xs ws → Reads g t ys ws → Same g s t xs ys
+reads-same end end = tt
+reads-same (step a b h) (step a' b' k) = (a, a', b ∙ sym b', reads-same h k)
 
-pub reads-append : (g : Rows) (s : ℕ) (xs ys vs ws : List ℕ) → Reads g s xs vs → Reads g (ends g s xs) ys ws
+pub reads-append : {g : Rows} {s : ℕ} {xs ys vs ws : List ℕ} → Reads g s xs vs → Reads g (ends g s xs) ys ws
     → Reads g s (xs ++ ys) (vs ++ ws)
-reads-append g s [] ys [] ws h k = k
-reads-append g s [] ys (v ∷ vs) ws h k = absurd h
-reads-append g s (x ∷ xs) ys [] ws h k = absurd h
-reads-append g s (x ∷ xs) ys (v ∷ vs) ws (a, b, h) k = (a, b, reads-append g (at g s x .next) xs ys vs ws h k)
+reads-append end k = k
+reads-append (step a b h) k = step a b (reads-append h k)
 
-pub reads-take : (g : Rows) (k s : ℕ) (xs ws : List ℕ) → Reads g s xs ws → Reads g s (take k xs) (take k ws)
-reads-take g zero s xs ws h = tt
-reads-take g (suc k) s [] [] h = tt
-reads-take g (suc k) s [] (w ∷ ws) h = absurd h
-reads-take g (suc k) s (x ∷ xs) [] h = absurd h
-reads-take g (suc k) s (x ∷ xs) (w ∷ ws) (a, b, h) = (a, b, reads-take g k (at g s x .next) xs ws h)
+pub reads-take : {g : Rows} (k : ℕ) {s : ℕ} {xs ws : List ℕ} → Reads g s xs ws → Reads g s (take k xs) (take k ws)
+reads-take zero h = end
+reads-take (suc k) end = end
+reads-take (suc k) (step a b h) = step a b (reads-take k h)
 
-pub reads-drop : (g : Rows) (k s : ℕ) (xs ws : List ℕ) → Reads g s xs ws
+pub reads-drop : {g : Rows} (k : ℕ) {s : ℕ} {xs ws : List ℕ} → Reads g s xs ws
     → Reads g (ends g s (take k xs)) (drop k xs) (drop k ws)
-reads-drop g zero s xs ws h = h
-reads-drop g (suc k) s [] [] h = tt
-reads-drop g (suc k) s [] (w ∷ ws) h = absurd h
-reads-drop g (suc k) s (x ∷ xs) [] h = absurd h
-reads-drop g (suc k) s (x ∷ xs) (w ∷ ws) (a, b, h) = reads-drop g k (at g s x .next) xs ws h
+reads-drop zero h = h
+reads-drop (suc k) end = end
+reads-drop (suc k) (step a b h) = reads-drop k h
 
 -- ---- sets of states
 
@@ -77,51 +61,45 @@ leads→ g s w t h =
 -- ---- along words
 pub alongAll→ : (g : Rows) (ws : List ℕ) (S : List Bool) (t : ℕ) → T (member (alongAll g S ws) t)
     → (s : ℕ) × (xs : List ℕ) × T (member S s) × Reads g s xs ws × (ends g s xs ≡ t)
-alongAll→ g [] S t h = (t, [], h, tt, refl)
+alongAll→ g [] S t h = (t, [], h, end, refl)
 alongAll→ g (w ∷ ws) S t h =
     let (s', xs, h', r, e) = alongAll→ g ws (along g S w) t h in
     let (s, i, l) = any-below→ _ (length g)
     (tab→ (λ t. any (λ s. member S s && leads g s w t) (range (length g))) (length g) s' h' .1) in
     let (m, l') = and→ (member S s) (leads g s w s') l in
     let (x, a, b, c) = leads→ g s w s' l' in
-    (s, x ∷ xs, m, (a, b, subst (λ k. Reads g k xs ws) (sym c) r), rw c e)
+    (s, x ∷ xs, m, step a b (subst (λ k. Reads g k xs ws) (sym c) r), rw c e)
 
-pub →alongAll : (g : Rows) → Closed g → (ws : List ℕ) (S : List Bool) (s : ℕ) (xs : List ℕ) → s < length g
-    → T (member S s) → Reads g s xs ws → T (member (alongAll g S ws) (ends g s xs))
-→alongAll g c [] S s [] i h r = h
-→alongAll g c [] S s (x ∷ xs) i h r = absurd r
-→alongAll g c (w ∷ ws) S s [] i h r = absurd r
-→alongAll g c (w ∷ ws) S s (x ∷ xs) i h (a, b, r) =
-    →alongAll g c ws (along g S w) (at g s x .next) xs (c s x a)
-    (→tab _ (length g) (at g s x .next) (c s x a) (→any-below _ (length g) s i
+pub →alongAll : {g : Rows} {ws xs : List ℕ} {s : ℕ} → Closed g → (S : List Bool) → s < length g → T (member S s)
+    → Reads g s xs ws → T (member (alongAll g S ws) (ends g s xs))
+→alongAll c S i h end = h
+→alongAll {g} {s} c S i h (step {x} {w} a b r) =
+    →alongAll c (along g S w) (c s x a) (→tab _ (length g) (at g s x .next) (c s x a) (→any-below _ (length g) s i
     (→and (member S s) (leads g s w (at g s x .next)) h
     (subst (λ v. T (leads g s v (at g s x .next))) b (→leads g s x a))))) r
 
-pub reads-end : (g : Rows) → Closed g → (xs ws : List ℕ) (s : ℕ) → s < length g → Reads g s xs ws
+pub reads-end : {g : Rows} {s : ℕ} {xs ws : List ℕ} → Closed g → s < length g → Reads g s xs ws
     → ends g s xs < length g
-reads-end g c [] ws s i h = i
-reads-end g c (x ∷ xs) [] s i h = absurd h
-reads-end g c (x ∷ xs) (w ∷ ws) s i (a, b, h) = reads-end g c xs ws (at g s x .next) (c s x a) h
+reads-end c i end = i
+reads-end {s} c i (step {x} a b h) = reads-end c (c s x a) h
 
 -- ---- the set holds the states from which some path spells the words
 pub able→ : (g : Rows) (ws : List ℕ) (s : ℕ) → T (member (able g ws) s) → (xs : List ℕ) × Reads g s xs ws
-able→ g [] s h = ([], tt)
+able→ g [] s h = ([], end)
 able→ g (w ∷ ws) s h =
     let (x, a, u) = any→ (enters (able g ws) w) (edge 0 0) (edges g s)
     (tab→ (λ s. any (enters (able g ws) w) (edges g s)) (length g) s h .1) in
     let (b, k) = and→ (eqb (at g s x .word) w) (member (able g ws) (at g s x .next)) u in
     let (xs, r) = able→ g ws (at g s x .next) k in
-    (x ∷ xs, (a, eqb→eq (at g s x .word) w b, r))
+    (x ∷ xs, step a (eqb→eq (at g s x .word) w b) r)
 
-pub →able : (g : Rows) → Closed g → (ws xs : List ℕ) (s : ℕ) → s < length g → Reads g s xs ws
+pub →able : {g : Rows} {ws xs : List ℕ} {s : ℕ} → Closed g → s < length g → Reads g s xs ws
     → T (member (able g ws) s)
-→able g c [] xs s h r = →tab (λ s. true) (length g) s h tt
-→able g c (w ∷ ws) [] s h r = absurd r
-→able g c (w ∷ ws) (x ∷ xs) s h (a, b, r) =
+→able {g} {s} c h end = →tab (λ s. true) (length g) s h tt
+→able {g} {s} c h (step {x} {w} {ws} a b r) =
     →tab (λ s. any (enters (able g ws) w) (edges g s)) (length g) s h
     (→any (enters (able g ws) w) (edge 0 0) (edges g s) x a
-    (→and (eqb (at g s x .word) w) (member (able g ws) (at g s x .next)) (rw b (eqb-refl w))
-    (→able g c ws xs (at g s x .next) (c s x a) r)))
+    (→and (eqb (at g s x .word) w) (member (able g ws) (at g s x .next)) (rw b (eqb-refl w)) (→able c (c s x a) r)))
 
 -- ---- the readings
 
@@ -159,7 +137,7 @@ unfolding Reading
     (elem-range (length (edges g s)) d a)
     (→and (member S s) (enters (able g ws) w (at g s d)) i
     (→and (eqb (at g s d .word) w) (member (able g ws) (at g s d .next)) (rw b (eqb-refl w))
-    (→able g c ws ys (at g s d .next) (c s d a) r)))))
+    (→able c (c s d a) r)))))
 
 only : (l : List ℕ) (x : ℕ) → T (elem x l) → ((d : ℕ) → T (elem d l) → d ≡ x) → getD l 0 255 ≡ x
 only [] x h f = absurd h
@@ -167,33 +145,21 @@ only (y ∷ l) x h f = f y (→orL (eqb y y) (elem y l) (eqb-refl y))
 
 -- ---- a stretch: words before, one word, words ahead
 module _ (g : Rows) (c : Closed g) (S : List Bool) (us vs : List ℕ) (x : ℕ) (pre ws : List ℕ) (w s : ℕ)
-    (before : Reads g s us pre) (after : Reads g (ends g s us) (x ∷ vs) (w ∷ ws))
+    (before : Reads g s us pre) (here : x < length (edges g (ends g s us))) (word : at g (ends g s us) x .word ≡ w)
+    (after : Reads g (at g (ends g s us) x .next) vs ws)
     (agree : (t : ℕ) → T (member S t) → AgreeSame g (length pre) (length ws) t s) where
   other : (d : ℕ) → Reading g (alongAll g S pre) w ws d → d ≡ x
   unfolding Reading
-  other d (t', ys, n, k, a, b, r) = go (alongAll→ g pre S t' k)
-    where
-      go : (t : ℕ) × (us' : List ℕ) × T (member S t) × Reads g t us' pre × (ends g t us' ≡ t') → d ≡ x
-      go (t, us', i, q, e) =
-          agree t i us' us ys vs d x (reads-length g t us' pre q) (reads-length g s us pre before)
-          (reads-length g (at g t' d .next) ys ws r) (reads-length g _ vs ws (after .2))
-          (reads-same g t s (us' ++ d ∷ ys) (us ++ x ∷ vs) (pre ++ w ∷ ws)
-          (reads-append g t us' (d ∷ ys) pre (w ∷ ws) q
-          (subst (λ u. Reads g u (d ∷ ys) (w ∷ ws)) (sym e) (a, b, r)))
-          (reads-append g s us (x ∷ vs) pre (w ∷ ws) before after))
+  other d (t', ys, n, k, a, b, r) =
+      let (t, us', i, q, e) = alongAll→ g pre S t' k in
+      agree t i us' us ys vs d x (reads-length q) (reads-length before) (reads-length r) (reads-length after)
+      (reads-same (reads-append q (rw e (step a b r))) (reads-append before (step here word after)))
 
   pub stretch : s < length g → T (member S s) → reading g (alongAll g S pre) w ws ≡ x
   unfolding Reading
   stretch n i = only (readings g (alongAll g S pre) w (able g ws)) x
-      (→readings g c (alongAll g S pre) w ws x (
-        ends g s us,
-        vs,
-        reads-end g c us pre s n before,
-        →alongAll g c pre S s us n i before,
-        after .0,
-        after .1,
-        after .2,
-      ))
+      (→readings g c (alongAll g S pre) w ws x
+      (ends g s us, vs, reads-end c n before, →alongAll c S n i before, here, word, after))
       (λ d h. other d (readings→ g (alongAll g S pre) w ws d h))
 
 -- the same at place k of a stretch W of words
@@ -202,11 +168,14 @@ pub at-place : (g : Rows) → Closed g → (S : List Bool) (ds W : List ℕ) (k 
     → ((t : ℕ) → T (member S t) → AgreeSame g k (length W - suc k) t s)
     → reading g (alongAll g S (take k W)) (getD W k 0) (drop (suc k) W) ≡ getD ds k 0
 at-place g c S ds W k s n i r l agree =
-    stretch g c S (take k ds) (drop (suc k) ds) (getD ds k 0) (take k W) (drop (suc k) W) (getD W k 0) s
-    (reads-take g k s ds W r)
-    (subst₂ (λ a b. Reads g (ends g s (take k ds)) a b) (drop-cons ds k 0 (rw (reads-length g s ds W r) l))
-    (drop-cons W k 0 l) (reads-drop g k s ds W r))
-    (rw (length-take-le k W (omega arith), length-drop) agree) n i
+    go (subst₂ (λ a b. Reads g (ends g s (take k ds)) a b) (drop-cons ds k 0 (rw (reads-length r) l))
+    (drop-cons W k 0 l) (reads-drop k r))
+  where
+    go : Reads g (ends g s (take k ds)) (getD ds k 0 ∷ drop (suc k) ds) (getD W k 0 ∷ drop (suc k) W)
+        → reading g (alongAll g S (take k W)) (getD W k 0) (drop (suc k) W) ≡ getD ds k 0
+    go (step a b h) =
+        stretch g c S (take k ds) (drop (suc k) ds) (getD ds k 0) (take k W) (drop (suc k) W) (getD W k 0) s
+        (reads-take k r) a b h (rw (length-take-le k W (omega arith), length-drop) agree) n i
 
 -- two data that the rule can read behind the same words are one, if all paths from S agree there
 pub one-reading : (g : Rows) → Closed g → (S : List Bool) (pre ws : List ℕ) (w : ℕ)
@@ -214,12 +183,8 @@ pub one-reading : (g : Rows) → Closed g → (S : List Bool) (pre ws : List ℕ
     → (d e : ℕ) → T (elem d (readings g (alongAll g S pre) w (able g ws)))
     → T (elem e (readings g (alongAll g S pre) w (able g ws))) → d ≡ e
 unfolding Reading
-one-reading g c S pre ws w agree d e h k = go (readings→ g (alongAll g S pre) w ws e k)
-  where
-    go : Reading g (alongAll g S pre) w ws e → d ≡ e
-    go (t, vs, n, m, a, b, r) = behind (alongAll→ g pre S t m)
-      where
-        behind : (s : ℕ) × (us : List ℕ) × T (member S s) × Reads g s us pre × (ends g s us ≡ t) → d ≡ e
-        behind (s, us, i, q, p) =
-            other g c S us vs e pre ws w s q (subst (λ u. Reads g u (e ∷ vs) (w ∷ ws)) (sym p) (a, b, r))
-            (λ u l. agree u s l i) d (readings→ g (alongAll g S pre) w ws d h)
+one-reading g c S pre ws w agree d e h k =
+    let (t, vs, n, m, a, b, r) = readings→ g (alongAll g S pre) w ws e k in
+    let (s, us, i, q, p) = alongAll→ g pre S t m in
+    other g c S us vs e pre ws w s q (rw p a) (rw p b) (rw p r) (λ u l. agree u s l i) d
+    (readings→ g (alongAll g S pre) w ws d h)
