@@ -1,13 +1,13 @@
 -- Demand 2, second half, of the outcomes of encoding and decoding under a code: round trip, and recordings recognised.
 -- In order: words-below; →encoded, encoded→, →decoded; returns; recognised-answers.
 -- Assumes nothing.
-use Rattle.laws.proofs.All.{_≡_, sym, ap, subst, _∙_, _↔_, List, _++_, ℕ, _+_, _-_, _^_, _≤_, arith, leb, le→leb}
-use Rattle.laws.proofs.All.{leb→le, length, Below}
-use Rattle.answer.specs.declared.Refusal.the-variants.{TooFewWords, ShortOutput}
+use Rattle.laws.proofs.All.{_≡_, sym, ap, subst, _∙_, _↔_, List, _++_, ℕ, _+_, _-_, _^_, _≤_, arith, leb, leb→le}
+use Rattle.laws.proofs.All.{le-leb, length, Below}
+use Rattle.answer.specs.declared.Refusal.the-variants.{ShortOutput}
 use Rattle.answer.specs.Outcomes.{done, unless}
 use Rattle.answer.specs.FirstBad.{allBelow}
 use Rattle.answer.proofs.FirstBad.{allBelow-true, allBelow→}
-use Rattle.answer.proofs.Outcomes.{unless-true, unless→}
+use Rattle.answer.proofs.Outcomes.{unless→}
 use Rattle.table.specs.Rows.{Code}
 use Rattle.table.specs.Paths.{Blocks, recording, closing}
 use Rattle.windows.specs.Window.{Window}
@@ -28,9 +28,7 @@ module _ (c : Code) where
       → encoded c room ds ≡ done (recording c ds)
   unfolding encoded
   →encoded room ds b h =
-      unless-true ShortOutput (leb (length ds + c .window .lookahead) room) (allBelow (2 ^ c .p) ds (recording c ds))
-      (le→leb (length ds + c .window .lookahead) room h)
-      ∙ allBelow-true (2 ^ c .p) ds (recording c ds) b
+      rw (le-leb (length ds + c .window .lookahead) room h) (allBelow-true (2 ^ c .p) ds (recording c ds) b)
 
   pub encoded→ : (room : ℕ) (ds xs : List ℕ) → encoded c room ds ≡ done xs
       → (length ds + c .window .lookahead ≤ room) × Blocks c ds × (recording c ds ≡ xs)
@@ -45,13 +43,8 @@ module _ (c : Code) where
       → length ws - c .window .lookahead ≤ room → Below (2 ^ c .q) ws → decoded c room ws ≡ done (decode c ws)
   unfolding decoded
   →decoded room ws l h b =
-      let last = allBelow (2 ^ c .q) ws (decode c ws) in
-      unless-true TooFewWords (leb (c .window .lookahead) (length ws))
-      (unless ShortOutput (leb (length ws - c .window .lookahead) room) last)
-      (le→leb (c .window .lookahead) (length ws) l)
-      ∙ unless-true ShortOutput (leb (length ws - c .window .lookahead) room) last
-      (le→leb (length ws - c .window .lookahead) room h)
-      ∙ allBelow-true (2 ^ c .q) ws (decode c ws) b
+      rw (le-leb (c .window .lookahead) (length ws) l, le-leb (length ws - c .window .lookahead) room h)
+      (allBelow-true (2 ^ c .q) ws (decode c ws) b)
 
 -- ---- under an accepted table
 module _ (c : Code) (f : Formed c) (w : Window (c .table) (c .window)) where

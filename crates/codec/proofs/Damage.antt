@@ -1,9 +1,9 @@
 -- A block that stands clear is read as it was recorded, whatever the rest of the list holds.
 -- In order: closed-blocks, recovered.
 -- Assumes nothing.
-use Rattle.laws.proofs.All.{_≡_, refl, sym, ap, _∙_, inl, inr, List, _++_, ℕ, _+_, _-_, _^_, _≤_, _<_, zero-le, arith}
-use Rattle.laws.proofs.All.{length, getD, take, drop, List·getD-append, pow-pos, map-range-at, Below, below-zeros}
-use Rattle.laws.proofs.All.{below-append, take-all}
+use Rattle.laws.proofs.All.{_≡_, refl, sym, ap, _∙_, inl, inr, List, _++_, ℕ, _+_, _-_, _^_, _<_, zero-le, arith}
+use Rattle.laws.proofs.All.{length, getD, List·getD-append, pow-pos, map-range-at, Below, below-zeros, below-append}
+use Rattle.laws.proofs.All.{take-all}
 use Rattle.table.specs.Rows.{Code}
 use Rattle.table.specs.Paths.{Blocks, recording, closing}
 use Rattle.table.proofs.Paths.{length-spells, length-recording, blocks→path}

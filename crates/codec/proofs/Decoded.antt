@@ -1,7 +1,7 @@
 -- Decoding under a table by value, with the number of data that the code has computed.
 -- In order: length-decode, decoded-in.
 -- Assumes nothing.
-use Rattle.laws.proofs.All.{_≡_, sym, ap, _∙_, List, _++_, map, ℕ, _-_, _^_, length, length-map, range, length-from}
+use Rattle.laws.proofs.All.{_≡_, sym, List, _++_, map, ℕ, _-_, _^_, length, range, length-map-range}
 use Rattle.table.specs.declared.Table.{Table}
 use Rattle.table.specs.Rows.{Code}
 use Rattle.table.specs.Value.{codeIn}
@@ -10,13 +10,9 @@ use Rattle.reading.specs.Reading.{block, decode}
 use Rattle.reading.specs.BlockParts.{under}
 
 pub length-decode : (c : Code) (ws : List ℕ) → length ws - c .window .lookahead ≡ length (decode c ws)
-length-decode c ws =
-    let k = length ws - c .window .lookahead in
-    sym (length-map (range k) (block c ws) ∙ length-from 0 k)
+length-decode c ws = sym (length-map-range (block c ws) (length ws - c .window .lookahead))
 
 pub decoded-in : (t : Table) (n : ℕ) (ws out : List ℕ) → n ≡ 2 ^ t .p
     → map (block (under (rowsOf (arrays (t .states) n (t .word) (t .next))) (t .memory) (t .lookahead)) ws)
     (range (length ws - t .lookahead)) ++ out ≡ decode (codeIn t) ws ++ out
-decoded-in t n ws out e =
-    ap (λ k. map (block (under (rowsOf (arrays (t .states) k (t .word) (t .next))) (t .memory) (t .lookahead)) ws)
-    (range (length ws - t .lookahead)) ++ out) e
+decoded-in t n ws out e = rw e

@@ -2,7 +2,7 @@
 -- the calls that do not look at 9 and 10 answer as those that do.
 -- In order: encodes, decodes; loaded; fields-too, checked.
 -- Assumes nothing.
-use Rattle.laws.proofs.All.{_≡_, sym, ap, _∙_, List, [], ℕ, _+_, _-_, _^_, _≤_, T, length, Below}
+use Rattle.laws.proofs.All.{_≡_, sym, _∙_, List, [], ℕ, _+_, _-_, _^_, _≤_, T, length, Below}
 use Rattle.answer.specs.declared.Refusal.the-variants.{Field, Disobeys, WindowFails}
 use Rattle.answer.specs.Outcomes.{done, unless, onward}
 use Rattle.answer.proofs.Outcomes.{unless-true, unless→, onward→}
@@ -29,10 +29,7 @@ module _ (xs : List ℕ) where
       → (encodeUnder xs room ds ≡ done (recording c ds))
       × (length (recording c ds) ≡ length ds + c .window .lookahead)
   unfolding encodeUnder
-  encodes c p room ds b h = (
-    ap (λ o. onward o (λ c. encoded c room ds)) p ∙ →encoded c room ds b h,
-    length-recording c ds,
-  )
+  encodes c p room ds b h = (rw p (→encoded c room ds b h), length-recording c ds)
 
   -- a words or more, all good, and room give the blocks: "From W words come W − a blocks"
   pub decodes : (c : Code) → parse xs ≡ done c → (room : ℕ) (ws : List ℕ) → Below (2 ^ c .q) ws
@@ -40,10 +37,7 @@ module _ (xs : List ℕ) where
       → (decodeUnder xs room ws ≡ done (decode c ws))
       × (length (decode c ws) ≡ length ws - c .window .lookahead)
   unfolding decodeUnder
-  decodes c p room ws b l h = (
-    ap (λ o. onward o (λ c. decoded c room ws)) p ∙ →decoded c room ws l h b,
-    sym (length-decode c ws),
-  )
+  decodes c p room ws b l h = (rw p (→decoded c room ws l h b), sym (length-decode c ws))
 
   -- a table by value whose code the record holds answers as the record does
   pub loaded : (t : Table) → parse xs ≡ done (codeIn t) → (room : ℕ) (ys : List ℕ)
@@ -51,10 +45,8 @@ module _ (xs : List ℕ) where
   unfolding ready encodedWith decodedWith encodeUnder decodeUnder
   loaded t p room ys =
       let k : T (ready t) = parse-formed xs (codeIn t) p in (
-        unless-true Field (ready t) (encoded (codeIn t) room ys) k
-            ∙ sym (ap (λ o. onward o (λ c. encoded c room ys)) p),
-        unless-true Field (ready t) (decoded (codeIn t) room ys) k
-            ∙ sym (ap (λ o. onward o (λ c. decoded c room ys)) p),
+        rw p (unless-true Field (ready t) (encoded (codeIn t) room ys) k),
+        rw p (unless-true Field (ready t) (decoded (codeIn t) room ys) k),
       )
 
   -- the code of an accepted record is the one that its fields name
@@ -73,4 +65,4 @@ module _ (xs : List ℕ) where
   checked e room ys =
       let (c, p, _) = onward→ (parse xs) (λ c. done []) [] e in
       let f = fields-too c p in
-      (ap (λ o. onward o (λ c. encoded c room ys)) f, ap (λ o. onward o (λ c. decoded c room ys)) f)
+      (rw f, rw f)

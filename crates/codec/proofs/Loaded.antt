@@ -1,11 +1,10 @@
 -- Encoding and decoding under the record in some bytes, once the record is read or loaded: o is what that came to.
 -- In order: handed; under-bad; encode-read, decode-read.
 -- Assumes nothing.
-use Rattle.laws.proofs.All.{_≡_, sym, ap, _∙_, List, ℕ, T, T→true}
+use Rattle.laws.proofs.All.{_≡_, ap, _∙_, List, ℕ, T, T→true}
 use Rattle.answer.specs.declared.Refusal.{Refusal}
-use Rattle.answer.specs.declared.Refusal.the-variants.{Field}
 use Rattle.answer.specs.declared.Answer.{Answer}
-use Rattle.answer.specs.Outcomes.{Outcome, done, refused, unless, onward, answerOf, outputOf, verdictOn}
+use Rattle.answer.specs.Outcomes.{Outcome, done, refused, onward, answerOf, outputOf}
 use Rattle.table.specs.Rows.{Code}
 use Rattle.table.specs.Value.{codeIn, ready}
 use Rattle.record.specs.declared.TableAnswer.{TableAnswer}
@@ -21,20 +20,16 @@ handed o o′ a out out′ e p q = (p ∙ ap answerOf e, q ∙ ap (λ x. outputO
 
 module _ (o : Outcome Code) (r : TableAnswer) (e : outcomeIn r ≡ o) where
   pub under-bad : (f : Code → Outcome (List ℕ)) (x : Refusal) → r .verdict ≡ Bad x → onward o f ≡ refused x
-  under-bad f x q = ap (λ o. onward o f) (sym e ∙ ap (λ v. verdictOn v (codeIn (r .table))) q)
+  under-bad f x q = rw (← e, q)
 
   under-read : r .verdict ≡ Good → o ≡ done (codeIn (r .table))
-  under-read q = sym e ∙ ap (λ v. verdictOn v (codeIn (r .table))) q
+  under-read q = rw (← e, q)
 
   module _ (room : ℕ) (ys : List ℕ) (q : r .verdict ≡ Good) (k : T (ready (r .table))) where
     pub encode-read : encodedWith (r .table) room ys ≡ onward o (λ c. encoded c room ys)
     unfolding encodedWith
-    encode-read =
-        ap (λ b. unless Field b (encoded (codeIn (r .table)) room ys)) (T→true (ready (r .table)) k)
-        ∙ sym (ap (λ o. onward o (λ c. encoded c room ys)) (under-read q))
+    encode-read = rw (T→true (ready (r .table)) k, under-read q)
 
     pub decode-read : decodedWith (r .table) room ys ≡ onward o (λ c. decoded c room ys)
     unfolding decodedWith
-    decode-read =
-        ap (λ b. unless Field b (decoded (codeIn (r .table)) room ys)) (T→true (ready (r .table)) k)
-        ∙ sym (ap (λ o. onward o (λ c. decoded c room ys)) (under-read q))
+    decode-read = rw (T→true (ready (r .table)) k, under-read q)

@@ -1,8 +1,8 @@
 -- The reading of a block depends on its window of words alone.
 -- In order: past-later, past-early; readWindow; block-later, block-early; block-local, block-local-start.
 -- Assumes nothing.
-use Rattle.laws.proofs.All.{_≡_, sym, ap, subst, _∙_, Bool, List, ℕ, suc, _+_, _-_, _≤_, _<_, arith, getD, take}
-use Rattle.laws.proofs.All.{drop, lt-ltb, le-ltb, take-take, getD-take, getD-drop, drop-take, drop-drop}
+use Rattle.laws.proofs.All.{_≡_, sym, ap, _∙_, Bool, List, ℕ, suc, _+_, _-_, _≤_, _<_, arith, getD, take, drop}
+use Rattle.laws.proofs.All.{lt-ltb, le-ltb, take-take, getD-take, getD-drop, drop-take, drop-drop}
 use Rattle.table.specs.Rows.{Rows, Code}
 use Rattle.stepping.specs.StateSets.{everyState, oneState, alongAll}
 use Rattle.reading.specs.Reading.{reading, past, block}

@@ -1,7 +1,7 @@
 -- Demands 2 and 3 from bytes to bytes: of the record's bytes, the blocks and the words.
 -- In order: demand-2-returns; demand-2-recognised; demand-3; different-data.
 -- Assumes nothing.
-use Rattle.laws.proofs.All.{_≡_, sym, ap, _∙_, _↔_, List, ℕ, _-_, _^_, _≤_, _<_, length, getD, Below}
+use Rattle.laws.proofs.All.{_≡_, sym, _∙_, _↔_, List, ℕ, _-_, _^_, _≤_, _<_, length, getD, Below}
 use Rattle.answer.specs.Outcomes.{done, onward}
 use Rattle.answer.proofs.Outcomes.{onward→}
 use Rattle.table.specs.Rows.{Code}
@@ -31,7 +31,7 @@ module _ (xs : List ℕ) (bytes : Below 256 xs) where
   demand-2-returns room room′ ds R h e =
       let (c, p, q) = onward→ (parse xs) (λ c. encoded c room ds) R e in
       let (f, w) = facts c p in
-      ap (λ a. onward a (λ c. decoded c room′ R)) p ∙ returns c f w room room′ ds R h q
+      rw p (returns c f w room room′ ds R h q)
 
   -- recordings are recognised
   pub demand-2-recognised : (c : Code) → parse xs ≡ done c → (room : ℕ) (L : List ℕ) → length L ≤ room
@@ -39,13 +39,7 @@ module _ (xs : List ℕ) (bytes : Below 256 xs) where
   unfolding encodeUnder decodeUnder
   demand-2-recognised c p room L h =
       let (f, w) = facts c p in
-      let r = recognised-answers c f w room L h in
-      let dec = ap (λ a. onward a (λ c. decoded c room L)) p in
-      let enc : (ds : List ℕ) → onward (parse xs) (λ c. encoded c room ds) ≡ encoded c room ds =
-      λ ds. ap (λ a. onward a (λ c. encoded c room ds)) p in (
-        (λ k. let (ds, d, e) = r .0 k in (ds, dec ∙ d, enc ds ∙ e)),
-        (λ (ds, d, e). r .1 (ds, sym dec ∙ d, sym (enc ds) ∙ e)),
-      )
+      rw p (recognised-answers c f w room L h)
 
   -- demand 3, one claim over whole lists
   pub demand-3 : (c : Code) → parse xs ≡ done c → (ds L : List ℕ) (room : ℕ) → Blocks c ds → Below (2 ^ c .q) L
@@ -56,7 +50,7 @@ module _ (xs : List ℕ) (bytes : Below 256 xs) where
   demand-3 c p ds L room b w l h =
       let (f, k) = facts c p in (
         decode c L,
-        ap (λ a. onward a (λ c. decoded c room L)) p ∙ →decoded c room L l h w,
+        rw p (→decoded c room L l h w),
         (λ i j hi cl. recovered c (sound c f k) ds L b i j hi cl),
       )
 
@@ -67,7 +61,6 @@ module _ (xs : List ℕ) (bytes : Below 256 xs) where
   different-data room room′ ds es R e e′ =
       let (c, p, q) = onward→ (parse xs) (λ c. encoded c room ds) R e in
       let (f, w) = facts c p in
-      let q′ : encoded c room′ es ≡ done R = sym (ap (λ a. onward a (λ c. encoded c room′ es)) p) ∙ e′ in
       let (_, b, r) = encoded→ c room ds R q in
-      let (_, b′, r′) = encoded→ c room′ es R q′ in
+      let (_, b′, r′) = encoded→ c room′ es R (rw p at e′) in
       recording-inj c (sound c f w) ds es b b′ (r ∙ sym r′)

@@ -2,7 +2,7 @@
 -- In order: length-decode; clear-self; decode-recording; recognised; recording-inj.
 -- Assumes nothing.
 use Rattle.laws.proofs.All.{_≡_, refl, sym, ap, _∙_, inl, inr, _↔_, List, ℕ, _+_, _-_, _≤_, _<_, arith, decLt}
-use Rattle.laws.proofs.All.{length, length-map, ext-getD, range, length-from, getD-any}
+use Rattle.laws.proofs.All.{length, length-map-range, ext-getD, getD-any}
 use Rattle.table.specs.Rows.{Code}
 use Rattle.table.specs.Paths.{Blocks, recording}
 use Rattle.checker.specs.Accepted.{Sound}
@@ -13,9 +13,7 @@ use Rattle.codec.proofs.Damage.{recovered}
 
 -- "From W words come W − a blocks"
 pub length-decode : (c : Code) (ws : List ℕ) → length (decode c ws) ≡ length ws - c .window .lookahead
-length-decode c ws =
-    length-map (range (length ws - c .window .lookahead)) (block c ws)
-    ∙ length-from 0 (length ws - c .window .lookahead)
+length-decode c ws = length-map-range (block c ws) (length ws - c .window .lookahead)
 
 -- a block of the recording itself stands clear at its own place
 clear-self : (c : Code) (R : List ℕ) (i : ℕ) → i + c .window .lookahead < length R → Dec (i < c .window .memory)

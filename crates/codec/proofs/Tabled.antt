@@ -3,11 +3,11 @@
 -- decode-done.
 -- Assumes nothing.
 use Rattle.laws.proofs.All.{_≡_, sym, ap, _∙_, true, false, List, _++_, ℕ, _+_, _-_, _^_, _≤_, _<_, arith, lt-leb}
-use Rattle.laws.proofs.All.{le-leb, leb, length, drop}
+use Rattle.laws.proofs.All.{le-leb, length, drop}
 use Rattle.answer.specs.declared.Refusal.{Refusal}
 use Rattle.answer.specs.declared.Refusal.the-variants.{Field, BadByte, TooFewWords, ShortOutput}
 use Rattle.answer.specs.declared.Answer.the-variants.{Done, Refused}
-use Rattle.answer.specs.Outcomes.{Outcome, done, refused, unless, answerOf, outputOf}
+use Rattle.answer.specs.Outcomes.{Outcome, done, refused, answerOf, outputOf}
 use Rattle.answer.specs.FirstBad.{firstBad, allBelow}
 use Rattle.answer.proofs.FirstBad.{bad-le, below-bad, below-done}
 use Rattle.table.specs.declared.Table.{Table}
@@ -31,23 +31,17 @@ finished o xs out out′ n e q b =
 module _ (t : Table) (room : ℕ) (ds : List ℕ) where
   pub encode-7 : ready t ≡ false → encodedWith t room ds ≡ refused Field
   unfolding encodedWith
-  encode-7 e = ap (λ b. unless Field b (encoded (codeIn t) room ds)) e
+  encode-7 e = rw e
 
   module _ (r : ready t ≡ true) where
     pub encode-13 : room < length ds + t .lookahead → encodedWith t room ds ≡ refused ShortOutput
     unfolding encodedWith encoded
-    encode-13 h =
-        ap (λ b. unless Field b (encoded (codeIn t) room ds)) r
-        ∙ ap (λ b. unless ShortOutput b (allBelow (2 ^ t .p) ds (recording (codeIn t) ds)))
-        (lt-leb (length ds + t .lookahead) room h)
+    encode-13 h = rw (r, lt-leb (length ds + t .lookahead) room h)
 
     module _ (h : length ds + t .lookahead ≤ room) where
       last : encodedWith t room ds ≡ allBelow (2 ^ t .p) ds (recording (codeIn t) ds)
       unfolding encodedWith encoded
-      last =
-          ap (λ b. unless Field b (encoded (codeIn t) room ds)) r
-          ∙ ap (λ b. unless ShortOutput b (allBelow (2 ^ t .p) ds (recording (codeIn t) ds)))
-          (le-leb (length ds + t .lookahead) room h)
+      last = rw (r, le-leb (length ds + t .lookahead) room h)
 
       pub encode-11 : (n k : ℕ) → n ≡ 2 ^ t .p → k ≡ firstBad n ds → k < length ds
           → encodedWith t room ds ≡ refused (BadByte k)
@@ -65,7 +59,7 @@ module _ (t : Table) (room : ℕ) (ds : List ℕ) where
 module _ (t : Table) (room : ℕ) (ws : List ℕ) where
   pub decode-7 : ready t ≡ false → decodedWith t room ws ≡ refused Field
   unfolding decodedWith
-  decode-7 e = ap (λ b. unless Field b (decoded (codeIn t) room ws)) e
+  decode-7 e = rw e
 
   module _ (r : ready t ≡ true) where
     abbrev rest : Outcome (List ℕ)
@@ -73,25 +67,17 @@ module _ (t : Table) (room : ℕ) (ws : List ℕ) where
 
     pub decode-12 : length ws < t .lookahead → decodedWith t room ws ≡ refused TooFewWords
     unfolding decodedWith decoded
-    decode-12 h =
-        ap (λ b. unless Field b (decoded (codeIn t) room ws)) r
-        ∙ ap (λ b. unless TooFewWords b (unless ShortOutput (leb (length ws - t .lookahead) room) rest))
-        (lt-leb (t .lookahead) (length ws) h)
+    decode-12 h = rw (r, lt-leb (t .lookahead) (length ws) h)
 
     module _ (h : t .lookahead ≤ length ws) where
-      enough : decodedWith t room ws ≡ unless ShortOutput (leb (length ws - t .lookahead) room) rest
-      unfolding decodedWith decoded
-      enough =
-          ap (λ b. unless Field b (decoded (codeIn t) room ws)) r
-          ∙ ap (λ b. unless TooFewWords b (unless ShortOutput (leb (length ws - t .lookahead) room) rest))
-          (le-leb (t .lookahead) (length ws) h)
-
       pub decode-13 : room < length ws - t .lookahead → decodedWith t room ws ≡ refused ShortOutput
-      decode-13 l = enough ∙ ap (λ b. unless ShortOutput b rest) (lt-leb (length ws - t .lookahead) room l)
+      unfolding decodedWith decoded
+      decode-13 l = rw (r, le-leb (t .lookahead) (length ws) h, lt-leb (length ws - t .lookahead) room l)
 
       module _ (l : length ws - t .lookahead ≤ room) where
         fits : decodedWith t room ws ≡ rest
-        fits = enough ∙ ap (λ b. unless ShortOutput b rest) (le-leb (length ws - t .lookahead) room l)
+        unfolding decodedWith decoded
+        fits = rw (r, le-leb (t .lookahead) (length ws) h, le-leb (length ws - t .lookahead) room l)
 
         pub decode-11 : (n k : ℕ) → n ≡ 2 ^ t .q → k ≡ firstBad n ws → k < length ws
             → decodedWith t room ws ≡ refused (BadByte k)

@@ -3,9 +3,9 @@
 -- Assumes nothing.
 use Rattle.laws.proofs.All.{_≡_, refl, subst, _⊎_, inl, inr, Bool, true, false, not, _&&_, _||_, List, ℕ, zero, suc}
 use Rattle.laws.proofs.All.{_+_, _≤_, _<_, zero-le, le-refl, arith, T, eqb, if_then_else_, filter, any, elem, all}
-use Rattle.laws.proofs.All.{and→, →and, Whether, so, nay, eqb-is, T→true, imp→, Each, tot, one, times, each-map}
-use Rattle.laws.proofs.All.{each-both, each-any, tot-le, tot-add, any→count, each-elem, elem-each, elem-filter}
-use Rattle.laws.proofs.All.{→elem-filter, all-each, not-all}
+use Rattle.laws.proofs.All.{and→, →and, so, nay, eqb-is, T→true, imp→, Each, tot, one, times, each-map, each-both}
+use Rattle.laws.proofs.All.{each-any, tot-le, tot-add, any→count, each-elem, elem-each, elem-filter, →elem-filter}
+use Rattle.laws.proofs.All.{all-each, not-all}
 use Rattle.graph.specs.Invariant.{Inside, Stays}
 use Rattle.graph.specs.Arcs.{Arc}
 use Rattle.graph.specs.Component.{returns}

@@ -3,8 +3,8 @@
 -- Assumes nothing.
 use Rattle.laws.proofs.All.{_≡_, sym, ap₂, _∙_, Bool, true, false, List, [], _∷_, ℕ, _+_, _*_, _<_, zero-add}
 use Rattle.laws.proofs.All.{zero-mul, arith, decLt, eqb, length, getD, List·getD-eq-default, if_then_else_, range}
-use Rattle.laws.proofs.All.{filter, Whether, so, nay, eqb-is, tot, one, times, each-always, tot-eq, tot-add}
-use Rattle.laws.proofs.All.{tot-zero, any→count, range-once, elem-range}
+use Rattle.laws.proofs.All.{filter, so, nay, eqb-is, tot, one, times, each-always, tot-eq, tot-add, tot-zero}
+use Rattle.laws.proofs.All.{any→count, range-once, elem-range}
 use Rattle.graph.specs.Arcs.{Arc, enters, out}
 use Rattle.graph.specs.Weights.{total, wordsBetween}
 

@@ -1,10 +1,10 @@
 -- Parting a state: how many edges there will be.
 -- In order: parted-count.
 -- Assumes nothing.
-use Rattle.laws.proofs.All.{_≡_, ap, List, map, ℕ, _+_, eqb, length, length-append, length-map, filter, filter-map}
+use Rattle.laws.proofs.All.{_≡_, ap, List, map, ℕ, _+_, length, length-append, length-map, filter, filter-map}
 use Rattle.laws.proofs.All.{filter-same, each-always}
 use Rattle.graph.specs.Arcs.{Arc, enters}
-use Rattle.graph.specs.Splitting.{moved, redirected, doubled}
+use Rattle.graph.specs.Splitting.{moved, doubled}
 use Rattle.graph.proofs.PartedSums.{goes, stays, fate}
 
 -- how many edges there will be

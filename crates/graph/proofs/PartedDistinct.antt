@@ -1,8 +1,8 @@
 -- Parting a state: the edges stay distinct and inside.
 -- In order: each-doubled, shifted-inside, doubled-inside, parted-distinct.
 -- Assumes nothing.
-use Rattle.laws.proofs.All.{_≡_, refl, sym, ap, _∙_, List, map, ℕ, suc, _+_, _≤_, _<_, le-refl, le-trans, arith, T}
-use Rattle.laws.proofs.All.{eqb, eqb→eq, filter, so, nay, eqb-is, Each, one, each-map, each-always, each-append}
+use Rattle.laws.proofs.All.{_≡_, sym, ap, _∙_, List, map, ℕ, suc, _≤_, _<_, le-refl, le-trans, arith, T, eqb}
+use Rattle.laws.proofs.All.{eqb→eq, filter, so, nay, eqb-is, Each, one, each-map, each-always, each-append}
 use Rattle.laws.proofs.All.{each-filter, each-image, tot-append, tot-filter-le}
 use Rattle.graph.specs.Invariant.{count, Inside}
 use Rattle.graph.specs.Arcs.{Arc, arc, enters}

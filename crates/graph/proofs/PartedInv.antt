@@ -1,10 +1,9 @@
 -- Parting a state keeps the invariant, given what the choice of the run must bring.
 -- In order: count-out, parted-length, parted-inv.
 -- Assumes nothing.
-use Rattle.laws.proofs.All.{_≡_, ap, _∙_, Bool, true, false, List, ℕ, suc, _+_, _*_, _-_, _≤_, _<_, zero-le}
-use Rattle.laws.proofs.All.{le-refl, le-trans, le-of-eq, mul-le-mul-right, add-mul, arith, decLt, eqb, length, getD}
-use Rattle.laws.proofs.All.{if_then_else_, Whether, so, nay, eqb-is, Each, mask, one, each-map, each-always}
-use Rattle.laws.proofs.All.{tot-filter-le}
+use Rattle.laws.proofs.All.{_≡_, ap, _∙_, List, ℕ, suc, _+_, _*_, _-_, _≤_, _<_, le-refl, le-trans, le-of-eq}
+use Rattle.laws.proofs.All.{mul-le-mul-right, add-mul, arith, decLt, eqb, length, getD, Whether, so, nay, eqb-is}
+use Rattle.laws.proofs.All.{Each, one, each-map, tot-filter-le}
 use Rattle.graph.specs.Invariant.{count, Inv, Part}
 use Rattle.graph.specs.Arcs.{Arc, Work, leaves, out}
 use Rattle.graph.specs.Weights.{total}

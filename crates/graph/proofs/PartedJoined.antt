@@ -2,7 +2,7 @@
 -- In order: parted-joined.
 -- Assumes nothing.
 use Rattle.laws.proofs.All.{_≡_, refl, subst, Bool, _&&_, List, map, ℕ, suc, _<_, arith, decLt, T, eqb, eq-eqb}
-use Rattle.laws.proofs.All.{if_then_else_, filter, and→, →and, Whether, so, nay, eqb-is, Each, tot, mask, each-map}
+use Rattle.laws.proofs.All.{if_then_else_, filter, and→, →and, so, nay, eqb-is, Each, tot, mask, each-map}
 use Rattle.laws.proofs.All.{each-both, each-front, each-back, filter-each, image-each, tot-filter, tot-some}
 use Rattle.graph.specs.Invariant.{Stays, Joined}
 use Rattle.graph.specs.Arcs.{Arc, leaves, enters, out}

@@ -2,8 +2,7 @@
 -- In order: rooted, parted-over.
 -- Assumes nothing.
 use Rattle.laws.proofs.All.{_≡_, sym, ap, subst, _∙_, List, map, ℕ, _<_, arith, T, eqb, eqb→eq, eqb-refl, ne-eqb}
-use Rattle.laws.proofs.All.{if_then_else_, filter, T→true, Each, each-map, each-both, each-append, each-filter}
-use Rattle.laws.proofs.All.{each-image}
+use Rattle.laws.proofs.All.{if_then_else_, T→true, Each, each-map, each-both, each-image}
 use Rattle.graph.specs.Arcs.{Arc, enters}
 use Rattle.graph.specs.Splitting.{moved, redirected, doubled}
 use Rattle.graph.proofs.PartedSums.{goes, stays, fate}

@@ -2,9 +2,9 @@
 -- In order: Fate, fate, shifted, shifted-other, shifted-old, shifted-both, doubled-tot.
 -- Assumes nothing.
 use Rattle.laws.proofs.All.{_≡_, refl, sym, ap, ap₂, _∙_, Bool, true, false, List, map, ℕ, _+_, _≤_, _<_, zero-add}
-use Rattle.laws.proofs.All.{add-zero, arith, eqb, eq-eqb, ne-eqb, length, getD, if_then_else_, filter, Whether, so}
-use Rattle.laws.proofs.All.{nay, eqb-is, Each, tot, mask, each-map, each-always, tot-append, tot-filter, tot-eq}
-use Rattle.laws.proofs.All.{tot-add, tot-map}
+use Rattle.laws.proofs.All.{add-zero, arith, eqb, eq-eqb, ne-eqb, length, getD, filter, Whether, so, nay, eqb-is}
+use Rattle.laws.proofs.All.{Each, tot, mask, each-map, each-always, tot-append, tot-filter, tot-eq, tot-add}
+use Rattle.laws.proofs.All.{tot-map}
 use Rattle.graph.proofs.Arcs.{pick}
 use Rattle.graph.specs.Invariant.{count, Inside}
 use Rattle.graph.specs.Arcs.{Arc, arc, leaves, enters, out}

@@ -1,11 +1,11 @@
 -- Reaching: its steps, and that a closed set which holds a state holds all that it reaches.
 -- In order: Reaching, reaches-is, reach-trans, reach-edge.
 -- Assumes nothing.
-use Rattle.laws.proofs.All.{_≡_, refl, sym, subst, _∙_, _⊎_, inl, inr, Bool, true, false, not, _||_, List, [], _∷_}
-use Rattle.laws.proofs.All.{map, ℕ, _<_, le-trans, le-of-eq, T, eqb, eqb→eq, eqb-refl, length, getD, length-map}
-use Rattle.laws.proofs.All.{range, any, and→, →and, or→, →orL, →orR, length-from, map-range-at, tab→, →tab, Each}
-use Rattle.laws.proofs.All.{each-map, each-both, each-any, any-each, member, missing, missing-le, grow-sub}
-use Rattle.laws.proofs.All.{member-lt, iterate-keeps, settles, each-for, T-not, not-T, length-map-range}
+use Rattle.laws.proofs.All.{_≡_, refl, sym, subst, _∙_, inl, inr, Bool, true, false, not, List, [], map, ℕ, _<_}
+use Rattle.laws.proofs.All.{le-trans, le-of-eq, T, eqb, eqb→eq, eqb-refl, length, getD, range, any, and→, →and, or→}
+use Rattle.laws.proofs.All.{→orL, →orR, map-range-at, tab→, →tab, Each, each-map, each-both, each-any, any-each}
+use Rattle.laws.proofs.All.{member, missing, missing-le, grow-sub, member-lt, iterate-keeps, settles, each-for}
+use Rattle.laws.proofs.All.{T-not, not-T, length-map-range}
 use Rattle.graph.specs.Invariant.{Inside, Stays}
 use Rattle.graph.specs.Arcs.{Arc}
 use Rattle.graph.specs.Component.{leadsInto, reachesInto, withSources, reaching, reachings, reaches}

@@ -1,11 +1,11 @@
 -- Roots through all splits: every edge at the end is an edge of the component between the roots.
 -- In order: Rooted, splits-rooted.
 -- Assumes nothing.
-use Rattle.laws.proofs.All.{_≡_, refl, sym, subst, Bool, true, false, not, ℕ, zero, suc, _≤_, _<_, arith, T, eqb}
-use Rattle.laws.proofs.All.{ltb, ne-eqb, length, from, and→, Whether, so, nay, eqb-is, Each}
+use Rattle.laws.proofs.All.{_≡_, ℕ, suc, _≤_, _<_, arith, T, eqb, ne-eqb, length, from, Whether, so, nay, eqb-is}
+use Rattle.laws.proofs.All.{Each}
 use Rattle.graph.specs.Invariant.{Inv}
 use Rattle.graph.specs.Arcs.{Work}
-use Rattle.graph.specs.Splitting.{chosen, kept, split, unfinished, goesOn, splits}
+use Rattle.graph.specs.Splitting.{chosen, kept, split, unfinished, splits}
 use Rattle.graph.proofs.Split.{split-inv, split-length, split-part}
 use Rattle.graph.proofs.Loop.{short, splits-keep}
 use Rattle.graph.proofs.PartedRoots.{rooted, parted-over}

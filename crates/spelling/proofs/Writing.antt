@@ -18,14 +18,10 @@ use Rattle.table.proofs.RowsOf.{edge-at, place-next}
 module _ (t : Rows) (first : ℕ) (ds : List ℕ) (k : ℕ) (h : k < length ds) where
   spells-more : spells t first (take (k + 1) ds)
       ≡ spells t first (take k ds) ++ at t (ends t first (take k ds)) (getD ds k 0) .word ∷ []
-  spells-more =
-      ap (spells t first) (ap (λ j. take j ds) (add-one k) ∙ take-suc ds k 0 h)
-      ∙ spells-append t (take k ds) (getD ds k 0 ∷ []) first
+  spells-more = rw (add-one, take-suc ds k 0) (spells-append t (take k ds) (getD ds k 0 ∷ []) first)
 
   ends-more : ends t first (take (k + 1) ds) ≡ at t (ends t first (take k ds)) (getD ds k 0) .next
-  ends-more =
-      ap (ends t first) (ap (λ j. take j ds) (add-one k) ∙ take-suc ds k 0 h)
-      ∙ ends-append t (take k ds) (getD ds k 0 ∷ []) first
+  ends-more = rw (add-one, take-suc ds k 0) (ends-append t (take k ds) (getD ds k 0 ∷ []) first)
 
 -- behind the front, out holds the words of the first k data of the path; i is the next place and s the state there
 pub record Writes (t : Arrays) (front : List ℕ) (first : ℕ) (ds out₀ : List ℕ) (k i s : ℕ) (out : List ℕ)
@@ -65,8 +61,7 @@ module _ (t : Arrays) (front : List ℕ) (first : ℕ) (ds out₀ : List ℕ) wh
   })
     where
       here : at (rowsOf t) (ends (rowsOf t) first (take k ds)) (getD ds k 0) ≡ edgeOf t s (getD ds k 0)
-      here =
-          ap (λ x. at (rowsOf t) x (getD ds k 0)) (sym (m .state)) ∙ edge-at t s (getD ds k 0) (m .inside) d
+      here = rw (← m .state) (edge-at t s (getD ds k 0) (m .inside) d)
 
       long-so-far : length (front ++ spells (rowsOf t) first (take k ds)) ≡ i
       long-so-far =
@@ -78,10 +73,7 @@ module _ (t : Arrays) (front : List ℕ) (first : ℕ) (ds out₀ : List ℕ) wh
       → length ds ≤ k
       → (s ≡ ends (rowsOf t) first ds) × (out ≡ (front ++ spells (rowsOf t) first ds) ++ drop j out₀)
   writes-end k i s out m j q h =
-      let e : take k ds ≡ ds = take-all k ds h in (
-        m .state ∙ ap (ends (rowsOf t) first) e,
-        m .bytes ∙ ap₂ (λ x y. (front ++ spells (rowsOf t) first x) ++ drop y out₀) e q,
-      )
+      let e : take k ds ≡ ds = take-all k ds h in (rw e at (m .state), rw (e, q) at (m .bytes))
 
 -- ---- blocks, and closing words behind them
 pub recorded : (t : Rows) (ds zs out₀ out₁ out₂ : List ℕ) (n s e : ℕ) → n ≡ length ds → s ≡ ends t 0 ds → n ≤ e
@@ -98,11 +90,9 @@ recorded t ds zs out₀ out₁ out₂ n s e h q l b₁ b₂ =
 
     past : drop e (spells t 0 ds ++ drop n out₀) ≡ drop e out₀
     past =
-        let z : n + (e - n) ≡ e = omega arith in
-        ap (λ k. drop k (spells t 0 ds ++ drop n out₀)) (sym z)
-        ∙ sym (drop-drop (e - n) n (spells t 0 ds ++ drop n out₀))
-        ∙ ap (drop (e - n)) (drop-at (spells t 0 ds) (drop n out₀) n long)
-        ∙ drop-drop (e - n) n out₀ ∙ ap (λ k. drop k out₀) z
+        let z : e ≡ n + (e - n) = omega arith in
+        rw z (rw (← drop-drop (e - n) n (spells t 0 ds ++ drop n out₀), drop-at (spells t 0 ds) (drop n out₀) n long)
+        (drop-drop (e - n) n out₀))
 
 -- the same under a table by value, with the number of data that the code has computed
 pub recorded-in : (t : Table) (n : ℕ) (ds out₀ out₁ out₂ : List ℕ) (s : ℕ) → n ≡ 2 ^ t .p
@@ -114,5 +104,4 @@ pub recorded-in : (t : Table) (n : ℕ) (ds out₀ out₁ out₂ : List ℕ) (s 
 recorded-in t n ds out₀ out₁ out₂ s q h b₁ b₂ =
     let e = length ds + t .lookahead in
     recorded (rowsOf (arrays (t .states) n (t .word) (t .next))) ds (closing (codeIn t)) out₀ out₁ out₂ (length ds) s e
-    refl h (omega arith) b₁ b₂
-    ∙ ap (λ m. spells (rowsOf (arrays (t .states) m (t .word) (t .next))) 0 (ds ++ closing (codeIn t)) ++ drop e out₀) q
+    refl h (omega arith) b₁ b₂ ∙ rw q
