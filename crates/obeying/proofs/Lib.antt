@@ -2,6 +2,5 @@ pub mod Reached
 pub mod AnyClosure
 pub mod Exact
 pub mod Breaks
-pub mod PairQueue
-pub mod PairTests
+pub mod Reaching
 pub mod PairPlaces

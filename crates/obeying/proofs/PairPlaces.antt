@@ -12,14 +12,15 @@ use Rattle.constraint.proofs.Values.{length-constraintOf}
 use Rattle.constraint.proofs.PowerTable.{codes-at}
 use Rattle.table.specs.declared.Table.{Table}
 use Rattle.table.specs.Rows.{Edge, at}
-use Rattle.table.specs.Value.{wordAt, nextAt, rowsIn, codeIn, Ready}
+use Rattle.table.specs.Value.{wordAt, nextAt, rowsIn, codeIn}
 use Rattle.obeying.specs.Obeys.{reachedPairs, obeys}
 use Rattle.table.specs.Edges.{lent}
 use Rattle.table.proofs.Shape.{inside}
 use Rattle.table.proofs.RowsOf.{length-rows, row-long, edge-at}
 use Rattle.obeying.proofs.Reached.{reached-lt, reached-start, reached-step}
 use Rattle.obeying.proofs.AnyClosure.{obeys-by, disobeys-by}
-use Rattle.obeying.specs.Obeying.{stateAfter, pairAfter, Reached, findsAt, Followed, Followable}
+use Rattle.queue.specs.Places.{stateAfter, pairAfter, findsAt}
+use Rattle.obeying.specs.Obeying.{Reached, Followed, Followable}
 use Rattle.obeying.specs.Obeying.Reached.{origin, carried}
 
 -- ---- one edge from the pair of s and k

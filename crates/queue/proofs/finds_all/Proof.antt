@@ -1,10 +1,10 @@
 -- The data below d find their way; the first that does not ends the loop.
 use Rattle.laws.proofs.All.{sym, _∙_, ℕ, _-_, _≤_, _<_, not-suc-le-zero, arith, needs, below-more, now, T}
-use Rattle.obeying.specs.Obeying.{stateAfter, findsAt}
+use Rattle.queue.specs.Places.{stateAfter, findsAt}
 use Rattle.table.proofs.LoopTests.{all-passed, all-failed}
-use Rattle.obeying.proofs.PairTests.{other-than, same-as}
-use Rattle.obeying.proofs.finds_all.Statement.{statement}
-use Rattle.obeying.proofs.finds_all.Tie as tie
+use Rattle.queue.proofs.PairTests.{other-than, same-as}
+use Rattle.queue.proofs.finds_all.Statement.{statement}
+use Rattle.queue.proofs.finds_all.Tie as tie
 
 abbrev Inv-loop : tie.InvT-loop
 Inv-loop word power n x d₀ d = (d ≤ n) × ((i : ℕ) → i < d → T (findsAt word power x i))

@@ -1,14 +1,11 @@
--- Laws of a set of places and the list of its members, to which the places that edges lead to are added until all
--- members have been followed.
--- In order: member-put; absent-put, absent-blank; queue-blank, queue-room, queue-put, queue-same;
--- grown-none, grown-more; Reaching, reach-start, reach-more, reach-done, reach-fail, reach-test.
+-- Laws of a set of places and the list of its members, to which places are added.
+-- In order: member-put; absent-put, absent-blank; queue-blank, queue-room, queue-put, queue-same; grown-none, grown-more.
 -- Assumes nothing.
-use Rattle.laws.proofs.All.{_≡_, refl, sym, ap, subst, _∙_, _⊎_, inl, inr, Bool, true, false, List, [], _∷_, ℕ}
-use Rattle.laws.proofs.All.{zero, suc, _+_, _≤_, _<_, not-suc-le-zero, le-of-suc-le-suc, arith, ℕ-discrete}
-use Rattle.laws.proofs.All.{below-more, T, length, getD, set, length-set, replicate, length-replicate}
-use Rattle.laws.proofs.All.{getD-set-same, getD-set-other, range, all, member, member-lt, member-blank}
-use Rattle.obeying.specs.Obeying.{Reached, absent, Queue, Grown, Followed}
-use Rattle.obeying.specs.Obeying.Reached.{origin, carried}
+use Rattle.laws.proofs.All.{_≡_, refl, sym, subst, _∙_, _⊎_, inl, inr, Bool, true, false, List, [], _∷_, ℕ, zero}
+use Rattle.laws.proofs.All.{suc, _+_, _<_, not-suc-le-zero, le-of-suc-le-suc, arith, ℕ-discrete, below-more, T}
+use Rattle.laws.proofs.All.{length, getD, set, length-set, replicate, length-replicate, getD-set-same}
+use Rattle.laws.proofs.All.{getD-set-other, member, member-blank}
+use Rattle.queue.specs.Places.{absent, Queue, Grown}
 
 -- ---- members
 pub member-put : (S : List Bool) (y : ℕ) → y < length S → T (member (set S y true) y)
@@ -128,86 +125,3 @@ module _ (g : ℕ → ℕ) (i : ℕ) (S S₁ S₂ : List Bool) (L L₁ L₂ : Li
       | inr (d, h, e) ↦ inr (i, omega arith, sym z ∙ e)
     ];
   }
-
--- ---- the places of the list followed one after the other
--- the places below i of the list have been followed
-pub record Reaching (f : ℕ → ℕ → ℕ) (n start i : ℕ) (S : List Bool) (L : List ℕ) (m : ℕ) : Type 0 where
-  pub queue : Queue S L m
-  pub within : i ≤ m
-  pub begins : T (member S start)
-  pub closed : (j : ℕ) → j < i → (d : ℕ) → d < n → f (getD L j 0) d < 2048 → T (member S (f (getD L j 0) d))
-  pub only : (x : ℕ) → T (member S x) → Reached f n start x
-
-module _ (f : ℕ → ℕ → ℕ) (n start : ℕ) where
-  pub reach-start : start < 2048
-      → Reaching f n start 0 (set (replicate 2048 false) start true) (set (replicate 2048 0) 0 start) 1
-  reach-start h = record {
-    queue = first .queue;
-    within = omega arith;
-    begins = first .added 0 (omega arith) h;
-    closed = λ j a. absurd (not-suc-le-zero a);
-    only = λ x u. elim (first .only x u) [
-      | inl v ↦ absurd (blank-none 2048 x v)
-      | inr (d, a, e) ↦ subst (Reached f n start) e origin
-    ];
-  }
-    where
-      blank : member (replicate 2048 false) start ≡ false
-      blank = member-blank 2048 start
-
-      first : Grown (λ d. start) 1 (replicate 2048 false) (replicate 2048 0) 0
-          (set (replicate 2048 false) start true) (set (replicate 2048 0) 0 start) 1
-      first = queue-put (replicate 2048 false) (replicate 2048 0) 0 queue-blank start h blank
-
-  module _ (i : ℕ) (S : List Bool) (L : List ℕ) (m : ℕ) (r : Reaching f n start i S L m) where
-    pub reach-more : (S' : List Bool) (L' : List ℕ) (m' : ℕ) → i < m → Grown (f (getD L i 0)) n S L m S' L' m'
-        → Reaching f n start (i + 1) S' L' m'
-    reach-more S' L' m' h g = record {
-      queue = g .queue;
-      within = let l = g .longer in omega arith;
-      begins = g .holds start (r .begins);
-      closed = below-more Done i
-          (λ j a. subst Follows (sym (g .kept j (omega arith))) (λ d b l. g .holds _ (r .closed j a d b l)))
-          (subst Follows (sym (g .kept i h)) (λ d b l. g .added d b l));
-      only = λ x u. elim (g .only x u) [
-        | inl v ↦ r .only x v
-        | inr (d, a, e) ↦ carried (getD L i 0) d x (r .only (getD L i 0) (r .queue .listed i h)) a e
-            (let n = g .queue .long in omega (arith, member-lt S' x u))
-      ];
-    }
-      where
-        Follows : ℕ → Type 0
-        Follows x = (d : ℕ) → d < n → f x d < 2048 → T (member S' (f x d))
-
-        Done : ℕ → Type 0
-        Done j = Follows (getD L' j 0)
-
-    reach-all : m ≤ i → {x : ℕ} → Reached f n start x → T (member S x)
-    reach-all h origin = r .begins
-    reach-all h (carried x d y u l e b) =
-        let (j, a, q) = r .queue .every x (reach-all h u) in
-        subst (λ z. T (member S z)) (ap (λ z. f z d) q ∙ e)
-        (r .closed j (omega arith) d l (subst (λ z. z < 2048) (sym (ap (λ z. f z d) q ∙ e)) b))
-
-    -- all members have been followed, and each has passed
-    pub reach-done : (g : ℕ → ℕ → Bool) → m ≤ i → ((j : ℕ) → j < i → T (all (g (getD L j 0)) (range n)))
-        → Followed f g n start true
-    reach-done g h k = record {
-      passed = λ u x v. let (j, a, q) = r .queue .every x (reach-all h v) in
-          subst (λ z. T (all (g z) (range n))) q (k j (omega arith));
-      failed = λ e. absurd (subst T e tt);
-    }
-
-    -- one that is still to be followed fails
-    pub reach-fail : (g : ℕ → ℕ → Bool) → i < m → all (g (getD L i 0)) (range n) ≡ false → Followed f g n start false
-    reach-fail g h e = record {
-      passed = λ u. absurd u;
-      failed = λ q. (getD L i 0, r .only (getD L i 0) (r .queue .listed i h), e);
-    }
-
-    pub reach-test : (g : ℕ → ℕ → Bool) (S' : List Bool) (L' : List ℕ) (m' : ℕ) → i < m
-        → Grown (f (getD L i 0)) n S L m S' L' m' → ((j : ℕ) → j < i → T (all (g (getD L j 0)) (range n)))
-        → all (g (getD L i 0)) (range n) ≡ true → (j : ℕ) → j < i + 1 → T (all (g (getD L' j 0)) (range n))
-    reach-test g S' L' m' h w k e = below-more (λ j. T (all (g (getD L' j 0)) (range n))) i
-        (λ j a. subst (λ z. T (all (g z) (range n))) (sym (w .kept j (let l = r .within in omega arith))) (k j a))
-        (subst (λ z. T (all (g z) (range n))) (sym (w .kept i h)) (subst T (sym e) tt))

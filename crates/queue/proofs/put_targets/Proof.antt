@@ -1,9 +1,9 @@
 -- Each turn puts the place of one datum.
 use Rattle.laws.proofs.All.{_≡_, _-_, _≤_, arith, needs}
-use Rattle.obeying.specs.Obeying.{pairAfter, Grown}
-use Rattle.obeying.proofs.PairQueue.{grown-none, grown-more}
-use Rattle.obeying.proofs.put_targets.Statement.{statement}
-use Rattle.obeying.proofs.put_targets.Tie as tie
+use Rattle.queue.specs.Places.{pairAfter, Grown}
+use Rattle.queue.proofs.Queue.{grown-none, grown-more}
+use Rattle.queue.proofs.put_targets.Statement.{statement}
+use Rattle.queue.proofs.put_targets.Tie as tie
 
 abbrev Inv-loop : tie.InvT-loop
 Inv-loop word next power n x m set₀ list₀ count₀ d₀ set list count d =

@@ -1,9 +1,9 @@
 -- Each return is one side of the definition's test.
 use Rattle.laws.proofs.All.{sym, ap₂, _∙_, _+_, _*_, needs, now}
-use Rattle.obeying.specs.Obeying.{stateAfter}
-use Rattle.obeying.proofs.PairTests.{pick-same, pick-other}
-use Rattle.obeying.proofs.pair_after.Statement.{statement}
-use Rattle.obeying.proofs.pair_after.Tie as tie
+use Rattle.queue.specs.Places.{stateAfter}
+use Rattle.queue.proofs.PairTests.{pick-same, pick-other}
+use Rattle.queue.proofs.pair_after.Statement.{statement}
+use Rattle.queue.proofs.pair_after.Tie as tie
 
 returns : tie.Need-returns
 returns c =

@@ -1,7 +1,7 @@
 -- Both reads are at the places that the definition names.
 use Rattle.laws.proofs.All.{ap, _∙_, _+_, _*_, _%_, now, getD, needs}
-use Rattle.obeying.proofs.state_after.Statement.{statement}
-use Rattle.obeying.proofs.state_after.Tie as tie
+use Rattle.queue.proofs.state_after.Statement.{statement}
+use Rattle.queue.proofs.state_after.Tie as tie
 
 returns : tie.Need-returns
 returns c =

@@ -1,8 +1,8 @@
 -- A place of the set changes nothing; another has room in the list, since not all places are in the set.
 use Rattle.laws.proofs.All.{arith, now, T, sym, subst, needs}
-use Rattle.obeying.proofs.PairQueue.{queue-room, queue-put, queue-same}
-use Rattle.obeying.proofs.put.Statement.{statement}
-use Rattle.obeying.proofs.put.Tie as tie
+use Rattle.queue.proofs.Queue.{queue-room, queue-put, queue-same}
+use Rattle.queue.proofs.put.Statement.{statement}
+use Rattle.queue.proofs.put.Tie as tie
 
 returns : tie.Need-returns
 returns c =
