@@ -1,5 +1,5 @@
 -- The compiler's code passes the checker: its fields are in range, every recording obeys, its window works.
--- In order: Made, made; made-formed; made-obeys; window-found; compiled-code; compile-parses; compiled-ready.
+-- In order: Made, made; made-formed; made-obeys; compiled-code; compile-parses; compiled-ready.
 -- Assumes nothing.
 use Rattle.laws.proofs.All.{_≡_, sym, ap, subst, _∙_, inl, inr, _&&_, [], ℕ, zero, _^_, _≤_, _<_, le-trans, arith}
 use Rattle.laws.proofs.All.{T, ltb, leb, eqb, lt→ltb, le→leb, eqb-refl, length, getD, sum, all, Each, →and, →orL}
@@ -13,13 +13,13 @@ use Rattle.obeying.specs.Obeys.{obeys}
 use Rattle.table.specs.declared.Table.{Table}
 use Rattle.table.specs.Value.{codeIn, ready}
 use Rattle.table.specs.Formed.{head, inRange, goodState, goodNext, goodEdge, goodRow, formed}
-use Rattle.windows.proofs.WindowLeast.{window-least, Chosen}
 use Rattle.obeying.proofs.AnyClosure.{obeys-by}
 use Rattle.record.specs.Layout.{pack}
 use Rattle.checker.specs.Parse.{parse}
 use Rattle.checker.proofs.Parse.{parse-pack-good}
 use Rattle.graph.specs.Arcs.{Reads}
 use Rattle.finish.proofs.TableOf.{Tabled}
+use Rattle.windowing.proofs.Windowed.{window-found}
 use Rattle.job.specs.Jobs.{Job, Allowed}
 use Rattle.compiler.specs.Compile.{ways, componentOf, startOf, finishedOf, tableFor, code, compile}
 use Rattle.compiler.proofs.Compiled.{live-some, states-few, table-coded}
@@ -73,14 +73,6 @@ made-obeys j m =
     fails : (s k d : ℕ) → Root s k → d < length (edges t s)
         → (walk (j .constraint) (j .q) (at t s d .word) k ≡ none) → ⊥
     fails s k d r hd e = m .table .over s d (r .0) (datum s d (r .0) hd) .1 .1 (reads s k d r hd ∙ e)
-
--- ---- its window works and is small
-pub window-found : (t : Rows) → window t .memory ≤ 15 → (window t .lookahead < 16) × T (works t (window t))
-window-found t h = go (window-least t)
-  where
-    go : Chosen t (window t) → (window t .lookahead < 16) × T (works t (window t))
-    go (inl (_, a, k, _)) = (a, k)
-    go (inr (e, _)) = let z : window t .memory ≡ 16 = ap (λ z. z .memory) e in absurd (omega arith)
 
 -- ---- its fields are in range
 good-state : (K s : ℕ) → Target K s → T (goodState K s)

@@ -1,14 +1,17 @@
 -- Compiling stage by stage: what each stage of the code needs, and what compiling comes to at each of its returns.
--- In order: compile-heavy, compile-crowded, compile-table; crowded-stays; has-states, held-powers,
--- held-component; begun-splits, begun-crowded, begun-room, begun-short, begun-work, begun-finished.
+-- In order: compile-heavy, compile-crowded, compile-table; crowded-stays; weighed-bad, weighed-good; has-states,
+-- held-powers, held-component; begun-splits, begun-crowded, begun-room, begun-short, begun-work, begun-finished.
 -- Assumes nothing.
 use Rattle.laws.proofs.All.{_≡_, sym, ap, ap₂, subst, _∙_, Bool, true, false, not, _&&_, List, [], _∷_, ℕ, zero}
-use Rattle.laws.proofs.All.{suc, _+_, _*_, _^_, _≤_, _<_, arith, lt-ltb, le-leb, lt-leb, ltb-false, ltb, leb}
+use Rattle.laws.proofs.All.{suc, _+_, _*_, _^_, _≤_, _<_, arith, lt-ltb, le-leb, lt-leb, ltb-false, leb}
 use Rattle.laws.proofs.All.{length, getD, length-map, pow-mono, sum, range, length-from, inl}
 use Rattle.answer.specs.declared.Refusal.{Refusal}
 use Rattle.answer.specs.declared.Refusal.the-variants.{NoCode, TooHeavy, TooManyEdges, NoWindow}
-use Rattle.answer.specs.Outcomes.{Outcome, done, refused, unless}
-use Rattle.answer.proofs.Outcomes.{unless-false}
+use Rattle.answer.specs.Outcomes.{done, refused, unless}
+use Rattle.answer.proofs.Outcomes.{unless-false, refused-not}
+use Rattle.answer.proofs.RefusedOutcomes.{refused-inj}
+use Rattle.weighing.specs.Weighed.{weighed}
+use Rattle.weighing.proofs.Weighed.{weighed-by}
 use Rattle.constraint.specs.Walking.{Target, walk}
 use Rattle.constraint.specs.Value.{constraintOf}
 use Rattle.constraint.specs.PowerTable.{powerCodes, codeOf, powerTable}
@@ -38,7 +41,7 @@ use Rattle.compiler.specs.Compile.{ways, graphOf, weightsOf, componentOf
 use Rattle.job.specs.JobValues.{jobIn, JobReady}
 use Rattle.compiler.specs.Stages.{Begun}
 use Rattle.compiler.proofs.Compiled.{live-some, first-inv}
-use Rattle.compiler.proofs.Compile.{ways-pos}
+use Rattle.compiler.proofs.Compile.{ways-pos, compile-none}
 use Rattle.compiler.proofs.Promises.{split-ends}
 
 -- ---- the outcome at each return
@@ -71,6 +74,29 @@ stays (suc k) n x e = ap crowded (splits-off k n x (ap (λ b. not b && unfinishe
 pub crowded-stays : (n : ℕ) (x : Work) → crowded x ≡ true → crowded (splitAll n x) ≡ true
 unfolding splitAll
 crowded-stays n x e = stays (sum (x .weights)) n x e
+
+-- ---- the component's weight and edges
+module _ (j : Job) (total : ℕ) (b : Bool) (e : total ≡ sum (componentOf j .weights)) (q : b ≡ crowded (componentOf j))
+  where
+    pub weighed-bad : (r : Refusal) → weighed total b ≡ refused r → compile j ≡ refused r
+    weighed-bad r =
+        weighed-by total b (λ o. o ≡ refused r → compile j ≡ refused r)
+        (λ z x. compile-none j (sym e ∙ z) ∙ ap refused (refused-inj NoCode r x))
+        (λ h l x. compile-heavy j (omega arith) (omega arith) ∙ ap refused (refused-inj TooHeavy r x))
+        (λ h l c x.
+        compile-crowded j (omega arith) (omega arith) (crowded-stays (ways j) (componentOf j) (sym q ∙ c))
+        ∙ ap refused (refused-inj TooManyEdges r x))
+        (λ h l c x. absurd (refused-not r total (sym x)))
+
+    pub weighed-good : weighed total b ≡ done total
+        → (0 < sum (componentOf j .weights)) × (sum (componentOf j .weights) ≤ 128) × (b ≡ false)
+    weighed-good =
+        weighed-by total b
+        (λ o. o ≡ done total → (0 < sum (componentOf j .weights)) × (sum (componentOf j .weights) ≤ 128) × (b ≡ false))
+        (λ z x. absurd (refused-not NoCode total x))
+        (λ h l x. absurd (refused-not TooHeavy total x))
+        (λ h l c x. absurd (refused-not TooManyEdges total x))
+        (λ h l c x. (omega arith, omega arith, c))
 
 -- ---- the power table of a job
 module _ (j : JobValue) (r : JobReady j) where

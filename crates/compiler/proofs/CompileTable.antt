@@ -1,21 +1,18 @@
--- The table that compiling in code makes, and its window.
--- In order: tableBy, table-rows, table-ready, table-code; windowed-none, windowed-found, whole-with.
+-- The table that compiling in code makes.
+-- In order: tableBy, table-rows, table-ready, table-code.
 -- Assumes nothing.
-use Rattle.laws.proofs.All.{_≡_, sym, ap, ap₂, subst, _∙_, Bool, true, false, ℕ, _^_, _≤_, _<_, arith, le-leb}
-use Rattle.laws.proofs.All.{lt-leb, leb, length}
+use Rattle.laws.proofs.All.{_≡_, sym, ap, ap₂, subst, _∙_, false, ℕ, _^_, _≤_, _<_, leb, length}
 use Rattle.answer.specs.declared.Refusal.the-variants.{NoWindow}
-use Rattle.answer.specs.Outcomes.{Outcome, done, refused, unless}
-use Rattle.answer.proofs.Outcomes.{unless-false}
+use Rattle.answer.specs.Outcomes.{done, unless}
 use Rattle.table.specs.declared.Table.{Table}
-use Rattle.search.specs.declared.Found.{Found}
-use Rattle.table.specs.Rows.{Size, Code, edge, at}
+use Rattle.table.specs.Rows.{edge, at}
 use Rattle.windows.specs.Search.{window}
 use Rattle.table.specs.Edges.{lent}
-use Rattle.search.specs.Finding.{foundSize}
 use Rattle.table.specs.Value.{wordAt, nextAt, rowsIn, codeIn, Ready}
 use Rattle.table.proofs.RowsOf.{length-rows, edge-at}
 use Rattle.graph.specs.declared.Graph.{Graph}
 use Rattle.graph.specs.declared.NextGraph.{NextGraph}
+use Rattle.windowing.specs.Windowed.{windowed}
 use Rattle.finish.specs.declared.finish_table.TableRows.{TableRows}
 use Rattle.graph.specs.Splitting.{crowded}
 use Rattle.finish.specs.TableOf.{tableOf}
@@ -24,8 +21,8 @@ use Rattle.finish.specs.Finishing.{TableIn, rowsOfTable}
 use Rattle.job.specs.declared.JobValue.{JobValue}
 use Rattle.compiler.specs.Compile.{tableFor, compile}
 use Rattle.job.specs.JobValues.{jobIn, JobReady}
-use Rattle.compiler.specs.Stages.{windowed, Begun, withSize, Whole}
-use Rattle.compiler.proofs.Accepted.{Made, made, window-found}
+use Rattle.compiler.specs.Stages.{Begun}
+use Rattle.compiler.proofs.Accepted.{Made, made}
 use Rattle.compiler.proofs.CompileSteps.{compile-table, begun-room, begun-work, begun-short}
 
 -- the table with these rows, and no window yet
@@ -94,51 +91,3 @@ module _ (j : JobValue) (a : JobReady j) (n : ℕ) (g : Graph) (start : ℕ) (b 
         }))) (b .first)
         table-rows
         ∙ sym (compile-table (jobIn j) (b .some) (b .light) (begun-room (jobIn j) (a .allowed) n g start b r s e))
-
--- ---- the window
-passed : (b : Bool) (x : Outcome Code) → b ≡ true → unless NoWindow b x ≡ x
-passed b x e = ap (λ c. unless NoWindow c x) e
-
-module _ (t : Table) (w : Found) (e : foundSize w ≡ window (rowsIn t)) where
-  pub windowed-none : (m : ℕ) → m ≡ foundSize w .memory → 15 < m → windowed (codeIn t) ≡ refused NoWindow
-  windowed-none m q h =
-      let z : m ≡ window (rowsIn t) .memory = q ∙ ap (λ x. x .memory) e in
-      unless-false NoWindow _ _ (lt-leb _ _ (subst (λ k. 15 < k) z h))
-
-  module _ (m a : ℕ) (q : m ≡ foundSize w .memory) (p : a ≡ foundSize w .lookahead) (h : m ≤ 15) where
-    size-is : window (rowsIn t) ≡ record { memory = m; lookahead = a }
-    size-is = sym e ∙ ap₂ {C = Size} (λ x y. record { memory = x; lookahead = y }) (sym q) (sym p)
-
-    small : window (rowsIn t) .memory ≤ 15
-    small = subst (λ k. k ≤ 15) (q ∙ ap (λ x. x .memory) e) h
-
-    -- THEOREM: the table with the window that was found
-    pub windowed-found : done (codeIn (withSize t m a)) ≡ windowed (codeIn t)
-    windowed-found =
-        ap (λ z. done (record {
-          p = t .p;
-          q = t .q;
-          window = z;
-          constraint = codeIn t .constraint;
-          start = t .start;
-          table = rowsIn t;
-        })) (sym size-is)
-        ∙ sym (passed (leb (window (rowsIn t) .memory) 15) _ (le-leb _ _ small))
-
-    pub whole-with : Ready t → Whole (withSize t m a)
-    whole-with r = record {
-      ready = record {
-        some = r .some;
-        few = r .few;
-        narrow = r .narrow;
-        short = r .short;
-        reading = r .reading;
-        inside = r .inside;
-        limits = r .limits;
-      };
-      memory = h;
-      lookahead =
-          let k : a ≡ window (rowsIn t) .lookahead = p ∙ ap (λ x. x .lookahead) e in
-          let l = window-found (rowsIn t) small .0 in
-          omega arith;
-    }

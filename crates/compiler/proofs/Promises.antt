@@ -17,13 +17,14 @@ use Rattle.record.specs.Parse.{packInto}
 use Rattle.checker.specs.Parse.{parse}
 use Rattle.graph.specs.Arcs.{out}
 use Rattle.graph.proofs.Loop.{states-le, splitted-end, splitted-full}
+use Rattle.windowing.proofs.Windowed.{window-found}
 use Rattle.job.specs.Jobs.{Job, readJob, readRunLength, Allowed}
 use Rattle.compiler.specs.Compile.{ways, componentOf, finishedOf, tableFor, code, compile, compileInto}
 use Rattle.compiler.specs.Compile.{compileJob, compileRunLength}
 use Rattle.compiler.proofs.Compiled.{live-some, first-inv}
 use Rattle.job.proofs.Jobs.{readJob-allowed, readRunLength-allowed}
 use Rattle.compiler.proofs.Compile.{ways-pos, Reason, reason, nothing, heavy, crowding, windowless, coded}
-use Rattle.compiler.proofs.Accepted.{Made, made, window-found, compile-parses}
+use Rattle.compiler.proofs.Accepted.{Made, made, compile-parses}
 
 -- ---- splitting ends with n edges a state or too many edges, and with no more states than the weights sum to
 pub split-ends : (j : Job) → Allowed j → 0 < sum (componentOf j .weights)

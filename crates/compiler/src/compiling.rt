@@ -1,13 +1,12 @@
 // A job compiled: weights, component, splits, table, window, with refusals "3, 4, 5, 6" in this order.
 ghost use mathlib.Core.Path.{_≡_};
-ghost use Rattle.search.specs.Finding.{foundSize};
-ghost use Rattle.table.specs.Value.{codeIn, Ready};
 ghost use Rattle.answer.specs.declared.Verdict.the-variants.{Good};
 ghost use Rattle.record.specs.Checks.{outcomeIn};
 ghost use Rattle.component.specs.ComponentParts.{FoundIn};
 ghost use Rattle.compiler.specs.Compile.{ways, graphOf, weightsOf, compile};
 ghost use Rattle.job.specs.JobValues.{jobIn, JobReady};
-ghost use Rattle.compiler.specs.Stages.{windowed, Begun, withSize, Whole};
+ghost use Rattle.windowing.specs.Windowed.{Whole};
+ghost use Rattle.compiler.specs.Stages.{Begun};
 use answer::Refusal;
 use answer::Verdict;
 use component::component_graph::ComponentAnswer;
@@ -18,12 +17,12 @@ use graph::Graph;
 use job::JobValue;
 use record::TableAnswer;
 use record::declined;
-use search::Found;
-use search::least_window;
 use splitting::split_graph::split_all;
 use table::Table;
 use table::chains::ways;
+use weighing::weigh;
 use weights::state_weights::state_weights;
+use windowing::with_window;
 
 // The component of a job, with n ways out of each state to come.
 fn component_of(j: JobValue, n: usize) -> ComponentAnswer
@@ -35,54 +34,6 @@ fn component_of(j: JobValue, n: usize) -> ComponentAnswer
     let k = j.constraint.states;
     let v = state_weights(&power, words, k, n, j.cap);
     find_component(&power, words, k, v)
-}
-
-// The memory of a window that was found, 16 for none.
-fn memory_of(w: Found) -> usize
-    ensures answer { λ r. ⌜ r ≡ foundSize w .memory ⌝ }
-{
-    match w {
-        Found::None => 16,
-        Found::Window(m, _) => m,
-    }
-}
-
-// The lookahead of a window that was found, 16 for none.
-fn lookahead_of(w: Found) -> usize
-    ensures answer { λ r. ⌜ r ≡ foundSize w .lookahead ⌝ }
-{
-    match w {
-        Found::None => 16,
-        Found::Window(_, a) => a,
-    }
-}
-
-// The table with memory m and lookahead a.
-fn with_size(t: Table, m: usize, a: usize) -> Table
-    ensures answer { λ r. ⌜ r ≡ withSize t m a ⌝ }
-{
-    let mut r = t;
-    r.memory = m;
-    r.lookahead = a;
-    r
-}
-
-// The table with its least window, or refusal 6.
-fn with_window(t: Table) -> TableAnswer
-    requires { ⌜ Ready t ⌝ }
-    ensures answer { λ r. ⌜ outcomeIn r ≡ windowed (codeIn t) ⌝ }
-    ensures kept { λ r. ⌜ (r .verdict ≡ Good → Whole (r .table)) ⌝ }
-{
-    let w = least_window(t);
-    let m = memory_of(w);
-    if 15 < m {
-        return declined(Refusal::NoWindow);
-    }
-    let a = lookahead_of(w);
-    TableAnswer {
-        verdict: Verdict::Good,
-        table: with_size(t, m, a),
-    }
 }
 
 // The component split to the end, and its table with the least window: refusals 5 and 6.
@@ -122,15 +73,11 @@ pub fn compile(j: JobValue) -> TableAnswer
 {
     let n = ways(j.p);
     let found = component_of(j, n);
-    if found.total == 0 {
-        return declined(Refusal::NoCode);
+    match weigh(found.total, found.crowded) {
+        Verdict::Bad(r) => declined(r),
+        Verdict::Good => {
+            let g = found.graph;
+            split_and_window(j, n, g, found.start)
+        }
     }
-    if 128 < found.total {
-        return declined(Refusal::TooHeavy);
-    }
-    if found.crowded {
-        return declined(Refusal::TooManyEdges);
-    }
-    let g = found.graph;
-    split_and_window(j, n, g, found.start)
 }

@@ -1,10 +1,9 @@
--- `compile` meets its contract: each return follows the checks before it, in document 01's order.
+-- `compile` meets its contract: the refusal of the component by its weight and its edges, or what splitting comes to.
 -- Assumes nothing.
-use Rattle.laws.proofs.All.{sym, _∙_, arith, needs, needs}
-use Rattle.compiler.specs.Compile.{ways, componentOf}
+use Rattle.laws.proofs.All.{sym, _∙_, needs}
+use Rattle.answer.proofs.Outcomes.{said-good, said-bad}
 use Rattle.job.specs.JobValues.{jobIn}
-use Rattle.compiler.proofs.Compile.{compile-none}
-use Rattle.compiler.proofs.CompileSteps.{compile-heavy, compile-crowded, crowded-stays}
+use Rattle.compiler.proofs.CompileSteps.{weighed-bad, weighed-good}
 use Rattle.compiler.proofs.compiling.compile.Statement.{statement}
 use Rattle.compiler.proofs.compiling.compile.Tie as tie
 
@@ -14,53 +13,39 @@ ways-requires c κs = c .pre .allowed .p₂
 component-of-requires : tie.Need-component-of-requires
 component-of-requires c κs = (c .before .pre, c .ways .ensures .0)
 
-returns : tie.Need-returns
-returns c =
-    let f = c .before .before .before .component-of in
-    let j = jobIn (c .before .before .before .before .before .args .j) in (
-      c .declined .ensures .0 ∙ sym (compile-none j (sym (f .ensures .total) ∙ c .before .if1 .taken)),
-      λ e. absurd (c .declined .ensures .1 .0 e),
-    )
-
-returns-2 : tie.Need-returns-2
-returns-2 c =
-    let f = c .before .before .before .before .before .component-of in
-    let j = jobIn (c .before .before .before .before .before .before .before .args .j) in (
-      c .declined2 .ensures .0
-          ∙ sym (compile-heavy j (omega (arith, f .ensures .total, c .before .before .before .if1 .left))
-          (omega (arith, f .ensures .total, c .before .if2 .taken))),
-      λ e. absurd (c .declined2 .ensures .1 .0 e),
-    )
-
-returns-3 : tie.Need-returns-3
-returns-3 c =
-    let f = c .before .before .before .before .before .before .component-of in
-    let j = jobIn (c .before .before .before .before .before .before .before .before .args .j) in (
-      c .declined3 .ensures .0
-          ∙ sym (compile-crowded j (omega (arith, f .ensures .total, c .before .before .before .before .if1 .left))
-          (omega (arith, f .ensures .total, c .before .before .if2 .left))
-          (crowded-stays (ways j) (componentOf j) (sym (f .ensures .crowds) ∙ c .before .if3 .taken))),
-      λ e. absurd (c .declined3 .ensures .1 .0 e),
-    )
-
 split-and-window-requires : tie.Need-split-and-window-requires
 split-and-window-requires c κs =
-    let f = c .before .before .before .before .before .before .component-of .ensures in
-    let b = c .before .before .before .before .before .before .before .before in (
-      b .pre,
+    let w = c .before .before .before in
+    let f = w .before .component-of .ensures in
+    let s = w .before .before .before in
+    let (some, light, room) = weighed-good (jobIn (s .args .j)) _ _ (f .total) (f .crowds)
+    (said-good _ _ _ (w .weigh .ensures) (c .before .enum-told .given .1)) in (
+      s .pre,
       record {
-        count = c .before .before .before .before .before .before .before .ways .ensures .0;
-        work = f .work (c .before .if3 .left);
-        fits = f .fits (c .before .if3 .left);
+        count = w .before .before .ways .ensures .0;
+        work = f .work room;
+        fits = f .fits room;
         first = f .start;
-        some = omega (arith, f .total, c .before .before .before .before .if1 .left);
-        light = omega (arith, f .total, c .before .before .if2 .left);
+        some = some;
+        light = light;
       },
+    )
+
+returns : tie.Need-returns
+returns c =
+    let k = c .before .before in
+    let w = k .before .before in
+    let f = w .before .component-of .ensures in
+    let j = jobIn (w .before .before .before .args .j) in (
+      c .declined .ensures .0
+          ∙ sym (weighed-bad j _ _ (f .total) (f .crowds) _
+          (said-bad _ _ _ (w .weigh .ensures) _ (k .r .given .1))),
+      λ e. absurd (c .declined .ensures .1 .0 e),
     )
 
 pub compile-spec : {M : Type 1} → statement M
 compile-spec =
     tie.close
     (tie.spec
-    ways-requires component-of-requires (λ c κs. search needs) returns (λ c κs. search needs) returns-2
-    (λ c κs. search needs) returns-3 split-and-window-requires (λ c. search needs))
+    ways-requires component-of-requires (λ c κs. search needs) (λ c. search needs) (λ c κs. search needs)
+    (λ c. search needs) split-and-window-requires returns (λ c. search needs))

@@ -1,12 +1,12 @@
 -- `with_window` meets its contract: the search finds the least window, and memory 16 stands for none.
 -- Assumes nothing.
-use Rattle.laws.proofs.All.{sym, ap, subst, _∙_, needs, needs}
+use Rattle.laws.proofs.All.{sym, ap, subst, _∙_, needs}
 use Rattle.answer.specs.Outcomes.{done}
 use Rattle.table.specs.Value.{codeIn}
-use Rattle.compiler.specs.Stages.{Whole}
-use Rattle.compiler.proofs.CompileTable.{windowed-none, windowed-found, whole-with}
-use Rattle.compiler.proofs.compiling.with_window.Statement.{statement}
-use Rattle.compiler.proofs.compiling.with_window.Tie as tie
+use Rattle.windowing.specs.Windowed.{Whole}
+use Rattle.windowing.proofs.Windowed.{windowed-none, windowed-found, whole-with}
+use Rattle.windowing.proofs.with_window.Statement.{statement}
+use Rattle.windowing.proofs.with_window.Tie as tie
 
 least-window-requires : tie.Need-least-window-requires
 least-window-requires c κs = c .pre
