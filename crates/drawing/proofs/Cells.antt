@@ -1,5 +1,5 @@
 -- The matrix of the code that a table stands for.
--- In order: column-is, row-small, row-is; row-none, row-more; words-few, axes-are, matrix-is.
+-- In order: column-is, row-small, row-is; row-none, row-more; words-few, heading-is, matrix-is.
 -- Assumes nothing.
 use Rattle.laws.proofs.All.{_≡_, refl, sym, ap, _∙_, List, [], _++_, ℕ, _+_, _*_, _^_, _≤_, mul-le-mul, arith}
 use Rattle.laws.proofs.All.{pow-mono, concat-more}
@@ -9,7 +9,7 @@ use Rattle.table.specs.Value.{codeIn}
 use Rattle.table.proofs.RowsOf.{length-rows}
 use Rattle.text.specs.Texts.{bytes}
 use Rattle.views.specs.Edges.{linesTo}
-use Rattle.drawing.specs.Matrix.{columnX, rowY, columnText, rowText, cell, inRow, sizes, axes, matrix}
+use Rattle.drawing.specs.Matrix.{columnX, rowY, columnText, cell, inRow, sizes, heading, axes, matrix}
 use Rattle.views.proofs.Edges.{lines-are}
 
 -- ---- places
@@ -37,10 +37,10 @@ row-more f n = sym (concat-more f n)
 pub words-few : (q w : ℕ) → q ≤ 8 → w ≡ 2 ^ q → w ≤ 256
 words-few q w h e = omega (arith, pow-mono {i = q} {j = 8} h)
 
-pub axes-are : (q n states x y w : ℕ) → x ≡ columnX w → y ≡ rowY n states → w ≡ 2 ^ q
-    → sizes x y states ++ inRow (columnText q) w ++ inRow (rowText n) states ≡ axes q n states
-unfolding axes
-axes-are q n states x y w e f g = rw (e, f, g)
+pub heading-is : (q n states x y w : ℕ) → x ≡ columnX w → y ≡ rowY n states → w ≡ 2 ^ q
+    → sizes x y states ++ inRow (columnText q) w ≡ heading q n states
+unfolding heading
+heading-is q n states x y w e f g = rw (e, f, g)
 
 -- THEOREM: the matrix has its axes, all edges in order and its end
 pub matrix-is : (t : Table) (n : ℕ) → n ≡ 2 ^ t .p

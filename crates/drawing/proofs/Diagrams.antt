@@ -1,23 +1,30 @@
 -- The diagram of the code that a table stands for.
--- In order: opens-so, opens-not; other-before, other-apart, other-joined, others-none, others-more; arrow-open,
--- arrow-none; arrows-none, arrows-more; diagram-is, diagram-drawn, matrix-drawn, nothing-drawn.
+-- In order: added-here; opens-so, opens-not; others-none, others-joined, others-apart; arrows-none, arrows-open,
+-- arrows-same; diagram-is, diagram-drawn, matrix-drawn, nothing-drawn.
 -- Assumes nothing.
-use Rattle.laws.proofs.All.{_≡_, refl, sym, ap, ap₂, _∙_, Bool, true, false, not, and-false, List, [], _++_, ℕ, _+_}
-use Rattle.laws.proofs.All.{_*_, _/_, _%_, _^_, _≤_, _<_, arith, lt-ltb, le-ltb, lt-leb, le-leb, eqb, ltb, length}
-use Rattle.laws.proofs.All.{if_then_else_, range, concat, any-range-same, concat-more}
+use Rattle.laws.proofs.All.{_≡_, refl, sym, ap, ap₂, subst, _∙_, true, false, not, _&&_, and-false, List, []}
+use Rattle.laws.proofs.All.{_∷_, _++_, append-nil, ℕ, zero, suc, _+_, _*_, _/_, _%_, _^_, _≤_, _<_, arith, lt-ltb}
+use Rattle.laws.proofs.All.{le-ltb, lt-leb, le-leb, eqb, ltb, if_then_else_, concat, any-range-same, concat-more}
 use Rattle.constraint.proofs.Values.{map-below}
 use Rattle.table.specs.declared.Table.{Table}
 use Rattle.table.specs.Edges.{lent}
 use Rattle.table.specs.Marks.{some}
-use Rattle.table.specs.Rows.{edges, at}
+use Rattle.table.specs.Rows.{at}
 use Rattle.table.specs.Value.{wordAt, nextAt, codeIn, ready}
 use Rattle.table.proofs.Marks.{some-stop}
 use Rattle.table.proofs.RowsOf.{length-rows, row-long, edge-at}
-use Rattle.text.specs.Texts.{bytes}
-use Rattle.drawing.specs.Drawn.{label, joined, opens, other, others, arrowHead, arrow, arrowOf}
-use Rattle.drawing.specs.Drawn.{tableArrow, arrowsTo, opening, diagram, drawn, drawText}
+use Rattle.text.specs.Texts.{bytes, Added}
+use Rattle.text.specs.Words.{binary}
+use Rattle.sentences.specs.Sentences.{said}
+use Rattle.drawing.specs.Drawn.{joined, opens, other, others, arrowHead, arrowText, arrow}
+use Rattle.drawing.specs.Drawn.{arrowOf, tableArrow, arrowsTo, opening, diagram, drawn, drawText}
 use Rattle.drawing.specs.Matrix.{matrix}
 use Rattle.views.proofs.Edges.{edges-are}
+
+-- a text, where the bytes behind it and the place have other names
+pub added-here : {s B C D : List ℕ} {at m r : ℕ} → D ≡ C → m ≡ r → Added s at B C r → Added s at B D m
+added-here {s = s} {B = B} {C = C} {at = at} {m = m} e f p =
+    subst (λ l. Added s at B l m) (sym e) (subst (λ k. Added s at B C k) (sym f) p)
 
 -- ---- the first datum of an arrow
 pub opens-so : (next : ℕ → ℕ) (d : ℕ) → some (joined next d) d ≡ false → true ≡ opens next d
@@ -29,49 +36,64 @@ unfolding opens
 opens-not next d j h e = sym (ap not (some-stop (joined next d) d j h e))
 
 -- ---- the other data of a label
-pub other-before : (q d j w t own : ℕ) → j ≤ d → [] ≡ other q d j w t own
-unfolding other
-other-before q d j w t own h = rw (le-ltb d j h)
-
-pub other-apart : (q d j w t own : ℕ) → eqb t own ≡ false → [] ≡ other q d j w t own
-unfolding other
-other-apart q d j w t own e = rw (e, and-false (ltb d j))
-
-pub other-joined : (q d j w t own : ℕ) → d < j → eqb t own ≡ true
-    → label (bytes ", ") q j w ≡ other q d j w t own
-unfolding other
-other-joined q d j w t own h e = rw (lt-ltb d j h, e)
-
 module _ (q : ℕ) (word next : ℕ → ℕ) (d : ℕ) where
-  pub others-none : [] ≡ others q word next d 0
-  unfolding others
-  others-none = refl
+  other-before : (j : ℕ) → j ≤ d → other q word next d j ≡ []
+  unfolding other
+  other-before j h = rw (le-ltb d j h)
 
-  pub others-more : (n : ℕ) → others q word next d n ++ other q d n (word n) (next n) (next d)
-      ≡ others q word next d (n + 1)
+  other-apart : (j : ℕ) → joined next d j ≡ false → other q word next d j ≡ []
+  unfolding other
+  other-apart j e = rw (e, and-false (ltb d j))
+
+  other-joined : (j : ℕ) → d < j → joined next d j ≡ true
+      → other q word next d j ≡ said ", #/" (j ∷ []) ++ binary q (word j)
+  unfolding other
+  other-joined j h e = rw (lt-ltb d j h, e)
+
+  others-more : (n : ℕ) → others q word next d (n + 1) ≡ others q word next d n ++ other q word next d n
   unfolding others
-  others-more n = sym (concat-more (λ j. other q d j (word j) (next j) (next d)) n)
+  others-more n = concat-more (other q word next d) n
+
+  -- the data up to d add nothing
+  pub others-none : (k : ℕ) → k ≤ d + 1 → [] ≡ others q word next d k
+  unfolding others
+  others-none zero h = refl
+  others-none (suc k) h =
+      let z : suc k ≡ k + 1 = omega arith in
+      sym (ap (others q word next d) z ∙ others-more k
+      ∙ ap₂ _++_ (sym (others-none k (omega arith))) (other-before k (omega arith)))
+
+  pub others-joined : (n : ℕ) → d < n → joined next d n ≡ true
+      → others q word next d n ++ (said ", #/" (n ∷ []) ++ binary q (word n)) ≡ others q word next d (n + 1)
+  others-joined n h e = sym (others-more n ∙ ap (λ l. others q word next d n ++ l) (other-joined n h e))
+
+  pub others-apart : (n : ℕ) → joined next d n ≡ false → others q word next d n ≡ others q word next d (n + 1)
+  others-apart n e =
+      let l = others q word next d n in
+      sym (others-more n ∙ ap (λ o. l ++ o) (other-apart n e) ∙ append-nil l)
 
 -- ---- an arrow
-pub arrow-open : (q n : ℕ) (word next : ℕ → ℕ) (s d : ℕ) → opens next d ≡ true
-    → arrowHead q s d (word d) (next d) ++ others q word next d n ++ bytes "\"];\n" ≡ arrow q n word next s d
+arrow-open : (q n : ℕ) (word next : ℕ → ℕ) (s d : ℕ) → opens next d ≡ true
+    → arrow q n word next s d ≡ arrowText q n word next s d
 unfolding arrow
 arrow-open q n word next s d e = rw e
 
-pub arrow-none : (q n : ℕ) (word next : ℕ → ℕ) (s d : ℕ) → opens next d ≡ false → [] ≡ arrow q n word next s d
+arrow-none : (q n : ℕ) (word next : ℕ → ℕ) (s d : ℕ) → opens next d ≡ false → arrow q n word next s d ≡ []
 unfolding arrow
 arrow-none q n word next s d e = rw e
 
 -- words and next states that are the same below n give the same arrow
 arrow-same : (q n : ℕ) (w v x y : ℕ → ℕ) (s d : ℕ) → ((j : ℕ) → j < n → w j ≡ v j) → ((j : ℕ) → j < n → x j ≡ y j)
     → d < n → arrow q n w x s d ≡ arrow q n v y s d
-unfolding arrow others opens some
+unfolding arrow other others opens some
 arrow-same q n w v x y s d words nexts h =
     ap₂ (λ b l. if not b then l else [])
     (any-range-same (joined x d) (joined y d) d (λ j l. ap₂ eqb (nexts j (omega arith)) (nexts d h)))
-    (ap₂ (λ a l. a ++ concat l ++ bytes "\"];\n") (ap₂ (arrowHead q s d) (words d h) (nexts d h))
-    (map-below [] (λ j. other q d j (w j) (x j) (x d)) (λ j. other q d j (v j) (y j) (y d)) n (λ j l.
-    ap₂ (λ a b. other q d j a b (x d)) (words j l) (nexts j l) ∙ ap (other q d j (v j) (y j)) (nexts d h))))
+    (ap₂ (λ a l. a ++ concat l ++ bytes "\"];\n")
+    (ap₂ (λ a b. arrowHead s b d ++ binary q a) (words d h) (nexts d h))
+    (map-below [] (other q w x d) (other q v y d) n (λ j l.
+    ap₂ (λ a b. if ltb d j && b then said ", #/" (j ∷ []) ++ binary q a else []) (words j l)
+    (ap₂ eqb (nexts j l) (nexts d h)))))
 
 -- ---- the arrows of a table
 module _ (t : Table) where
@@ -79,12 +101,24 @@ module _ (t : Table) where
   unfolding arrowsTo
   arrows-none = refl
 
-  pub arrows-more : (n e : ℕ) → n ≡ 2 ^ t .p
-      → arrowsTo t e ++ arrow (t .q) n (wordAt t (e / n)) (nextAt t (e / n)) (e / n) (e % n) ≡ arrowsTo t (e + 1)
+  arrows-more : (n e : ℕ) → n ≡ 2 ^ t .p
+      → arrowsTo t (e + 1) ≡ arrowsTo t e ++ arrow (t .q) n (wordAt t (e / n)) (nextAt t (e / n)) (e / n) (e % n)
   unfolding arrowsTo
   arrows-more n e p =
-      ap (λ m. arrowsTo t e ++ arrow (t .q) m (wordAt t (e / m)) (nextAt t (e / m)) (e / m) (e % m)) p
-      ∙ sym (concat-more (λ i. tableArrow t (i / 2 ^ t .p) (i % 2 ^ t .p)) e)
+      concat-more (λ i. tableArrow t (i / 2 ^ t .p) (i % 2 ^ t .p)) e
+      ∙ ap (λ m. arrowsTo t e ++ arrow (t .q) m (wordAt t (e / m)) (nextAt t (e / m)) (e / m) (e % m)) (sym p)
+
+  pub arrows-open : (n e : ℕ) → n ≡ 2 ^ t .p → opens (nextAt t (e / n)) (e % n) ≡ true
+      → arrowsTo t e ++ arrowText (t .q) n (wordAt t (e / n)) (nextAt t (e / n)) (e / n) (e % n) ≡ arrowsTo t (e + 1)
+  arrows-open n e p h =
+      sym (arrows-more n e p ∙ ap (λ l. arrowsTo t e ++ l)
+      (arrow-open (t .q) n (wordAt t (e / n)) (nextAt t (e / n)) (e / n) (e % n) h))
+
+  pub arrows-same : (n e : ℕ) → n ≡ 2 ^ t .p → opens (nextAt t (e / n)) (e % n) ≡ false
+      → arrowsTo t e ≡ arrowsTo t (e + 1)
+  arrows-same n e p h =
+      sym (arrows-more n e p ∙ ap (λ l. arrowsTo t e ++ l)
+      (arrow-none (t .q) n (wordAt t (e / n)) (nextAt t (e / n)) (e / n) (e % n) h) ∙ append-nil (arrowsTo t e))
 
   same : (s d : ℕ) → s < t .states → d < 2 ^ t .p → arrowOf (codeIn t) s d ≡ tableArrow t s d
   same s d h l =

@@ -1,10 +1,10 @@
 -- A code as `draw` prints it: the state diagram as a Graphviz digraph, one arrow for all edges between two states,
 -- or a matrix.
--- In order: label; joined, opens; other, others; arrowHead, arrow, arrowOf; opening, diagram; tableArrow, arrowsTo, of
--- a table by value; drawn; drawText.
+-- In order: joined, opens; other, others; arrowHead, arrowText, arrow, arrowOf; opening, diagram; tableArrow,
+-- arrowsTo, of a table by value; drawn; drawText.
 -- Assumes nothing.
 use mathlib.Core.Bool.{Bool, not, _&&_}
-use mathlib.Core.List.{List, [], _++_, map}
+use mathlib.Core.List.{List, [], _∷_, _++_, map}
 use Prim.Native.Nat.{ℕ, _/_, _%_, _^_}
 use lib.Dec.{eqb, ltb, leb}
 use lib.ListN.{length}
@@ -13,14 +13,11 @@ use Rattle.table.specs.Marks.{some}
 use Rattle.table.specs.declared.Table.{Table}
 use Rattle.table.specs.Rows.{edges, at, Code}
 use Rattle.table.specs.Value.{wordAt, nextAt, codeIn, ready}
-use Rattle.text.specs.Texts.{bytes, decimal}
-use Rattle.text.specs.Words.{told, binary}
+use Rattle.text.specs.Texts.{bytes}
+use Rattle.text.specs.Words.{binary}
+use Rattle.sentences.specs.Sentences.{said}
 use Rattle.views.specs.Edges.{allEdges}
 use Rattle.drawing.specs.Matrix.{matrix}
-
--- words, then a datum and its word of q bits: `1/011`
-unfoldable pub label : List ℕ → ℕ → ℕ → ℕ → List ℕ
-label name q d w = name ++ decimal d ++ bytes "/" ++ binary q w
 
 -- the data d and j of a state lead to one state
 abbrev pub joined : (ℕ → ℕ) → ℕ → ℕ → Bool
@@ -30,22 +27,26 @@ joined next d j = eqb (next j) (next d)
 unfoldable pub opens : (ℕ → ℕ) → ℕ → Bool
 opens next d = not (some (joined next d) d)
 
--- what j adds to the label that d opens
-unfoldable pub other : ℕ → ℕ → ℕ → ℕ → ℕ → ℕ → List ℕ
-other q d j w t own = if ltb d j && eqb t own then label (bytes ", ") q j w else []
+-- what j adds to the label that d opens, if it is behind d and leads to the same state: `, 3/110`
+unfoldable pub other : ℕ → (ℕ → ℕ) → (ℕ → ℕ) → ℕ → ℕ → List ℕ
+other q word next d j = if ltb d j && joined next d j then said ", #/" (j ∷ []) ++ binary q (word j) else []
 
 -- what the data below n add to it
 unfoldable pub others : ℕ → (ℕ → ℕ) → (ℕ → ℕ) → ℕ → ℕ → List ℕ
-others q word next d n = concat (map (λ j. other q d j (word j) (next j) (next d)) (range n))
+others q word next d n = concat (map (other q word next d) (range n))
 
--- an arrow up to its first datum: `  0 -> 2 [label="1/011`
-unfoldable pub arrowHead : ℕ → ℕ → ℕ → ℕ → ℕ → List ℕ
-arrowHead q s d w t = told "  " s ++ told " -> " t ++ label (bytes " [label=\"") q d w
+-- the arrow from s to t up to its first datum d: `  0 -> 2 [label="1/`
+abbrev pub arrowHead : ℕ → ℕ → ℕ → List ℕ
+arrowHead s t d = said "  # -> # [label=\"#/" (s ∷ t ∷ d ∷ [])
 
--- the arrow of state s for all n data that lead where d leads, at the first of them: `  0 -> 2 [label="1/011, 3/110"];`
+-- the arrow of state s for all n data that lead where d leads, which is the first: `  0 -> 2 [label="1/011, 3/110"];`
+abbrev pub arrowText : ℕ → ℕ → (ℕ → ℕ) → (ℕ → ℕ) → ℕ → ℕ → List ℕ
+arrowText q n word next s d =
+    arrowHead s (next d) d ++ binary q (word d) ++ others q word next d n ++ bytes "\"];\n"
+
+-- the arrow of state s where d is the first of its data
 unfoldable pub arrow : ℕ → ℕ → (ℕ → ℕ) → (ℕ → ℕ) → ℕ → ℕ → List ℕ
-arrow q n word next s d =
-    if opens next d then arrowHead q s d (word d) (next d) ++ others q word next d n ++ bytes "\"];\n" else []
+arrow q n word next s d = if opens next d then arrowText q n word next s d else []
 
 -- the arrow of state s at datum d
 abbrev pub arrowOf : Code → ℕ → ℕ → List ℕ

@@ -1,16 +1,32 @@
 // The matrix of a code of many states: states by words, next state and datum, as SVG.
 ghost use mathlib.Core.Path.{_≡_};
 ghost use Prim.Native.Nat.{_*_, _^_, _≤_, _<_};
-ghost use Rattle.table.specs.Value.{codeIn, Ready};
+ghost use Rattle.table.specs.Value.{wordAt, nextAt, codeIn, Ready};
 ghost use Rattle.text.specs.Texts.{Added};
-ghost use Rattle.views.specs.Edges.{linesTo};
-ghost use Rattle.drawing.specs.Matrix.{columnX, rowY, place, columnText, rowText, cell, inRow, sizes, axes};
-ghost use Rattle.drawing.specs.Matrix.{matrix};
+ghost use Rattle.drawing.specs.Matrix.{columnX, rowY, columnText, cell, heading, axes, matrix};
+use sentences::put_sentence;
 use table::Table;
+use table::chains::wide;
 use text::put;
-use text::put_decimal;
-use text::put_number;
 use text::put_word;
+
+// The word of the edge of state s that carries d.
+pub fn word_at(code: Table, s: usize, d: usize) -> usize
+    requires { ⌜ (s < 128) × (d < 16) ⌝ }
+    ensures answer { λ r. ⌜ (r ≡ wordAt code s d) × (r < 256) ⌝ }
+{
+    let words = code.word;
+    wide(words[s * 16 + d])
+}
+
+// The next state of the edge of state s that carries d.
+pub fn next_at(code: Table, s: usize, d: usize) -> usize
+    requires { ⌜ (s < 128) × (d < 16) ⌝ }
+    ensures answer { λ r. ⌜ r ≡ nextAt code s d ⌝ }
+{
+    let states = code.next;
+    wide(states[s * 16 + d])
+}
 
 // How many words of q bits there are.
 fn words_of(q: usize) -> usize
@@ -36,31 +52,33 @@ fn row_y(n: usize, s: usize) -> usize
     60 + s * (n * 3 + 12)
 }
 
-// A text at x and y.
-fn put_place(out: &mut [u8], at: usize, x: usize, y: usize) -> usize
-    ensures written { λ r. ⌜ Added (place x y) at (now (out .entry)) (now (out .exit)) r ⌝ }
-{
-    let down = put_number(out, at, b"<text x=\"", x as u64);
-    let end = put_number(out, down, b"\" y=\"", y as u64);
-    put(out, end, b"\">")
-}
-
 // A word above its column.
 fn put_column(out: &mut [u8], at: usize, q: usize, w: usize) -> usize
     requires { ⌜ (q ≤ 8) × (w ≤ 256) ⌝ }
     ensures written { λ r. ⌜ Added (columnText q w) at (now (out .entry)) (now (out .exit)) r ⌝ }
 {
-    let word = put_place(out, at, column_x(w), 40);
+    let word = put_sentence(out, at, b"<text x=\"#\" y=\"#\">", &[column_x(w), 40]);
     let end = put_word(out, word, q, w);
     put(out, end, b"</text>\n")
 }
 
-// All words above their columns.
-fn put_columns(out: &mut [u8], first: usize, q: usize, words: usize) -> usize
-    requires { ⌜ (q ≤ 8) × (words ≤ 256) ⌝ }
-    ensures written { λ r. ⌜ Added (inRow (columnText q) words) first (now (out .entry)) (now (out .exit)) r ⌝ }
+// The size of the matrix, why it is drawn, and all words above their columns.
+fn put_heading(out: &mut [u8], first: usize, q: usize, n: usize, states: usize) -> usize
+    requires { ⌜ (q ≤ 8) × (n ≤ 16) × (states ≤ 128) ⌝ }
+    ensures written { λ r. ⌜ Added (heading q n states) first (now (out .entry)) (now (out .exit)) r ⌝ }
 {
-    let mut at = put(out, first, b"");
+    let words = words_of(q);
+    let x = column_x(words);
+    let y = row_y(n, states);
+    let mut at = put_sentence(
+        out,
+        first,
+        b"<svg xmlns=\"http://www.w3.org/2000/svg\" font-family=\"monospace\" font-size=\"10\" \
+        width=\"#\" height=\"#\">\n<rect width=\"100%\" height=\"100%\" fill=\"white\"/>\n\
+        <text x=\"4\" y=\"16\">A picture of # states is not readable. \
+        Rows are states, columns are words, entries are datum/next state.</text>\n",
+        &[x, y, states],
+    );
     let mut w = 0;
     while w < words {
         at = put_column(out, at, q, w);
@@ -69,113 +87,49 @@ fn put_columns(out: &mut [u8], first: usize, q: usize, words: usize) -> usize
     at
 }
 
-// A state in front of its row.
-fn put_row(out: &mut [u8], at: usize, n: usize, s: usize) -> usize
-    requires { ⌜ (n ≤ 16) × (s ≤ 128) ⌝ }
-    ensures written { λ r. ⌜ Added (rowText n s) at (now (out .entry)) (now (out .exit)) r ⌝ }
+// All that stands around the entries: the heading, and all states in front of their rows.
+fn put_axes(out: &mut [u8], first: usize, q: usize, n: usize, states: usize) -> usize
+    requires { ⌜ (q ≤ 8) × (n ≤ 16) × (states ≤ 128) ⌝ }
+    ensures written { λ r. ⌜ Added (axes q n states) first (now (out .entry)) (now (out .exit)) r ⌝ }
 {
-    let state = put_place(out, at, 4, row_y(n, s));
-    let end = put_decimal(out, state, s as u64);
-    put(out, end, b"</text>\n")
-}
-
-// All states in front of their rows.
-fn put_rows(out: &mut [u8], first: usize, n: usize, states: usize) -> usize
-    requires { ⌜ (n ≤ 16) × (states ≤ 128) ⌝ }
-    ensures written { λ r. ⌜ Added (inRow (rowText n) states) first (now (out .entry)) (now (out .exit)) r ⌝ }
-{
-    let mut at = put(out, first, b"");
+    let mut at = put_heading(out, first, q, n, states);
     let mut s = 0;
     while s < states {
-        at = put_row(out, at, n, s);
+        let y = row_y(n, s);
+        at = put_sentence(out, at, b"<text x=\"4\" y=\"#\">#</text>\n", &[y, s]);
         s += 1;
     }
     at
 }
 
 // The entry of an edge.
-fn put_cell(
-    out: &mut [u8],
-    at: usize,
-    n: usize,
-    q: usize,
-    s: usize,
-    d: usize,
-    w: u8,
-    t: u8,
-) -> usize
+fn put_entry(out: &mut [u8], at: usize, code: Table, n: usize, s: usize, d: usize) -> usize
     requires { ⌜ (n ≤ 16) × (s < 128) × (d < 16) ⌝ }
-    ensures written { λ r. ⌜ Added (cell n q s d w t) at (now (out .entry)) (now (out .exit)) r ⌝ }
-{
-    let x = column_x(w as usize) + d % 4 * 40;
-    let y = row_y(n, s) + d / 4 * 12;
-    let datum = put_place(out, at, x, y);
-    let next = put_decimal(out, datum, d as u64);
-    let end = put_number(out, next, b"/", t as u64);
-    put(out, end, b"</text>\n")
-}
-
-// The entries of all edges, n a state.
-fn put_cells(out: &mut [u8], first: usize, code: Table, n: usize) -> usize
-    requires { ⌜ Ready code × (n ≡ 2 ^ code .p) ⌝ }
     ensures written { λ r. ⌜
-        Added (linesTo (cell n) code (code .states * n)) first (now (out .entry)) (now (out .exit)) r ⌝ }
+        Added (cell n (code .q) s d (wordAt code s d) (nextAt code s d)) at (now (out .entry)) (now (out .exit)) r ⌝ }
 {
-    let q = code.q;
-    let edges = code.states * n;
-    let mut at = put(out, first, b"");
-    let mut e = 0;
-    while e < edges {
-        let i = e / n * 16 + e % n;
-        at = put_cell(out, at, n, q, e / n, e % n, code.word[i], code.next[i]);
-        e += 1;
-    }
-    at
-}
-
-// The size of the matrix, and why it is drawn.
-fn put_sizes(out: &mut [u8], at: usize, x: usize, y: usize, states: usize) -> usize
-    ensures written { λ r. ⌜ Added (sizes x y states) at (now (out .entry)) (now (out .exit)) r ⌝ }
-{
-    let height = put_number(
+    let x = column_x(word_at(code, s, d)) + d % 4 * 40;
+    let y = row_y(n, s) + d / 4 * 12;
+    let t = next_at(code, s, d);
+    put_sentence(
         out,
         at,
-        b"<svg xmlns=\"http://www.w3.org/2000/svg\" font-family=\"monospace\" font-size=\"10\" width=\"",
-        x as u64,
-    );
-    let count = put_number(out, height, b"\" height=\"", y as u64);
-    let end = put_number(
-        out,
-        count,
-        b"\">\n<rect width=\"100%\" height=\"100%\" fill=\"white\"/>\n<text x=\"4\" y=\"16\">A picture of ",
-        states as u64,
-    );
-    put(
-        out,
-        end,
-        b" states is not readable. Rows are states, columns are words, entries are datum/next state.</text>\n",
+        b"<text x=\"#\" y=\"#\">#/#</text>\n",
+        &[x, y, d, t],
     )
 }
 
-// All that stands around the entries.
-fn put_axes(out: &mut [u8], at: usize, q: usize, n: usize, states: usize) -> usize
-    requires { ⌜ (q ≤ 8) × (n ≤ 16) × (states ≤ 128) ⌝ }
-    ensures written { λ r. ⌜ Added (axes q n states) at (now (out .entry)) (now (out .exit)) r ⌝ }
-{
-    let words = words_of(q);
-    let x = column_x(words);
-    let y = row_y(n, states);
-    let columns = put_sizes(out, at, x, y, states);
-    let rows = put_columns(out, columns, q, words);
-    put_rows(out, rows, n, states)
-}
-
-// The matrix behind the first `at` bytes, with n data a state; the answer is the place behind it.
-pub fn put_matrix(out: &mut [u8], at: usize, t: Table, n: usize) -> usize
+// The matrix behind the place `first`, with n data a state; the answer is the place behind it.
+pub fn put_matrix(out: &mut [u8], first: usize, t: Table, n: usize) -> usize
     requires { ⌜ Ready t × (n ≡ 2 ^ t .p) ⌝ }
-    ensures written { λ r. ⌜ Added (matrix (codeIn t)) at (now (out .entry)) (now (out .exit)) r ⌝ }
+    ensures written { λ r. ⌜ Added (matrix (codeIn t)) first (now (out .entry)) (now (out .exit)) r ⌝ }
 {
-    let cells = put_axes(out, at, t.q, n, t.states);
-    let end = put_cells(out, cells, t, n);
-    put(out, end, b"</svg>\n")
+    let mut at = put_axes(out, first, t.q, n, t.states);
+    let edges = t.states * n;
+    let mut e = 0;
+    while e < edges {
+        at = put_entry(out, at, t, n, e / n, e % n);
+        e += 1;
+    }
+    put(out, at, b"</svg>\n")
 }

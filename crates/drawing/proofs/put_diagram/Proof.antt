@@ -1,26 +1,97 @@
--- `put_diagram` meets its contract: opening, arrows and closing brace are put in a row.
+-- `put_diagram` meets its contract. The loop's invariant: the text put since the loop began has the arrows of the edges
+-- passed. The measure is what is left of the edges.
 -- Assumes nothing.
-use Rattle.text.proofs.Adding.{added-same, _then_}
-use Rattle.text.specs.Texts.{bytes}
-use Rattle.drawing.specs.Drawn.{opening}
-use Rattle.drawing.proofs.Diagrams.{diagram-is}
-use Rattle.laws.proofs.All.{needs}
+use Rattle.laws.proofs.All.{_≡_, sym, ap, _∙_, ⊎-elim, _*_, _-_, _≤_, mod-lt, arith, needs}
+use Rattle.text.specs.Texts.{Added}
+use Rattle.text.proofs.Adding.{added-same, _then_, begun}
+use Rattle.drawing.specs.Drawn.{arrowsTo, opening}
+use Rattle.views.proofs.Edges.{edges-few, EdgeAt, edge-good}
+use Rattle.drawing.proofs.Diagrams.{added-here, arrows-none, arrows-open, arrows-same, diagram-is}
 use Rattle.drawing.proofs.put_diagram.Statement.{statement}
 use Rattle.drawing.proofs.put_diagram.Tie as tie
 
-returns : tie.Need-returns
+abbrev Inv-loop : tie.InvT-loop
+Inv-loop out₀ first t n at₀ edges e₀ text out at e = (e ≤ edges) × Added (arrowsTo t e) at₀ out₀ out at
+
+abbrev μ-loop : tie.MeasureT-loop
+μ-loop out₀ first t n at₀ edges e₀ text out at e = edges - e
+
+-- where the edge of a turn stands
+edge : (c : tie.In-loop Inv-loop μ-loop)
+    → EdgeAt (c .before .before .before .before .before .before .before .before .before .args .t)
+    (c .before .before .before .before .before .before .before .before .before .args .n) (c .before .loop .e)
+edge c =
+    let b = c .before .before .before .before .before .before .before .before .before in
+    edge-good (b .args .t) (b .args .n) (c .before .loop .e) (b .pre .0) (b .pre .1) (c .loop-test .taken)
+
+mul-edges : tie.Need-mul-edges Inv-loop μ-loop
+mul-edges c =
+    let b = c .before .before .before .before .before .before .before in
+    omega (arith, edges-few (b .args .t) (b .pre .0) (b .args .n) (b .pre .1))
+
+loop-holds : tie.Need-loop-holds Inv-loop μ-loop
+loop-holds c =
+    let x = c .before .before .before in
+    let a = x .before .before .before .before .args in
+    (omega arith, added-same (arrows-none (a .t)) (begun (x .put .ensures)))
+
+div-is-opening : tie.Need-div-is-opening Inv-loop μ-loop
+div-is-opening c = omega (arith, edge c .some)
+
+rem-is-opening : tie.Need-rem-is-opening Inv-loop μ-loop
+rem-is-opening c = omega (arith, edge c .some)
+
+is-opening-requires : tie.Need-is-opening-requires Inv-loop μ-loop
+is-opening-requires c κs = let e = edge c in (e .state, e .datum)
+
+div-put-arrow : tie.Need-div-put-arrow Inv-loop μ-loop
+div-put-arrow c = omega (arith, edge (c .before .before .before) .some)
+
+rem-put-arrow : tie.Need-rem-put-arrow Inv-loop μ-loop
+rem-put-arrow c = omega (arith, edge (c .before .before .before) .some)
+
+put-arrow-requires : tie.Need-put-arrow-requires Inv-loop μ-loop
+put-arrow-requires c κs =
+    let turn = c .before .before .before in
+    let e = edge turn in
+    let good = turn .before .before .before .before .before .before .before .before .before .pre .0 in
+    (good .short, e .narrow, e .state, mod-lt _ (e .some))
+
+add-e : tie.Need-add-e Inv-loop μ-loop
+add-e c = let turn = c .before .before in omega (arith, edge turn .few, turn .loop-test .taken)
+
+loop-less : tie.Need-loop-less Inv-loop μ-loop
+loop-less c = omega (arith, c .before .before .loop-test .taken)
+
+loop-again : tie.Need-loop-again Inv-loop μ-loop
+loop-again c =
+    let first = c .before in
+    let turn = first .before in
+    let l = turn .before .loop in
+    let b = turn .before .before .before .before .before .before .before .before .before in (
+      omega (arith, turn .loop-test .taken),
+      ⊎-elim (λ w. added-same (arrows-open (b .args .t) (b .args .n) (l .e) (b .pre .1)
+          (sym (first .is-opening .ensures) ∙ w .0 .taken)) (added-here (w .5) (w .6) (l .inv .1 then w .2 .ensures)))
+          (λ w. added-same (arrows-same (b .args .t) (b .args .n) (l .e) (b .pre .1)
+          (sym (first .is-opening .ensures) ∙ w .0 .left)) (added-here (w .1) (w .2) (l .inv .1))) (c .if1 .came),
+    )
+
+returns : tie.Need-returns Inv-loop μ-loop
 unfolding opening
 returns c =
-    let x3 = c .before .before in
-    let x2 = x3 .before .before .before .before .before in
-    let x1 = x2 .before .before .before .before in
-    let b = x1 .before .before .before .before in
+    let end = c .before .before in
+    let out = end .before .before .before in
+    let l = out .before .loop in
+    let x = out .before .before .before .before .before in
+    let b = x .before .before .before .before in
+    let e : l .e ≡ b .args .t .states * b .args .n = omega (arith, l .inv .0, out .loop-test .left) in
     added-same (diagram-is (b .args .t) (b .args .n) (b .pre .1))
-    (x1 .put .ensures then x2 .put-arrows .ensures then x3 .put2 .ensures)
+    (x .put .ensures then added-same (ap (arrowsTo (b .args .t)) e) (l .inv .1) then end .put2 .ensures)
 
 pub put-diagram-spec : {M : Type 1} → statement M
 put-diagram-spec =
     tie.close
     (tie.spec
-    (λ c. search needs) (λ c κs. search needs) (λ c κs. search needs) (λ c. search needs) (λ c κs. search needs)
-    (λ c. search needs) returns)
+    Inv-loop μ-loop (λ c. search needs) (λ c κs. search needs) mul-edges loop-holds div-is-opening rem-is-opening
+    is-opening-requires div-put-arrow rem-put-arrow put-arrow-requires add-e loop-less loop-again
+    (λ c. search needs) (λ c κs. search needs) (λ c. search needs) returns)

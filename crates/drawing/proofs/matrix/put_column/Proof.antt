@@ -2,7 +2,6 @@
 -- Assumes nothing.
 use Rattle.laws.proofs.All.{ap, needs}
 use Rattle.text.proofs.Adding.{added-same, _then_}
-use Rattle.text.specs.Texts.{bytes}
 use Rattle.drawing.specs.Matrix.{place, columnText}
 use Rattle.drawing.proofs.matrix.put_column.Statement.{statement}
 use Rattle.drawing.proofs.matrix.put_column.Tie as tie
@@ -13,12 +12,12 @@ returns c =
     let x3 = c .before .before in
     let x2 = x3 .before .before .before .before .before in
     let x1 = x2 .before .before .before .before in
-    added-same (ap (λ x. place x 40) (x1 .before .column-x .ensures .0)) (x1 .put-place .ensures) then
+    added-same (ap (λ x. place x 40) (x1 .before .before .column-x .ensures .0)) (x1 .put-sentence .ensures) then
     x2 .put-word .ensures then x3 .put .ensures
 
 pub put-column-spec : {M : Type 1} → statement M
 put-column-spec =
     tie.close
     (tie.spec
-    (λ c κs. search needs) (λ c κs. search needs) (λ c κs. search needs) (λ c. search needs) (λ c κs. search needs)
-    (λ c. search needs) returns)
+    (λ c. search needs) (λ c κs. search needs) (λ c. search needs) (λ c κs. search needs) (λ c κs. search needs)
+    (λ c. search needs) (λ c κs. search needs) (λ c. search needs) returns)

@@ -1,6 +1,6 @@
 -- `words_of` meets its contract.
 -- Assumes nothing.
-use Rattle.laws.proofs.All.{arith, needs}
+use Rattle.laws.proofs.All.{arith}
 use Rattle.drawing.proofs.Cells.{words-few}
 use Rattle.drawing.proofs.matrix.words_of.Statement.{statement}
 use Rattle.drawing.proofs.matrix.words_of.Tie as tie
