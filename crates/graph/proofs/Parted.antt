@@ -17,8 +17,7 @@ module _ (v : List ℕ) (s w : ℕ) (hs : s < length v) where
   w-old = List·getD-append (set v s w) ((getD v s 0 - w) ∷ []) 0 s (rw (length-set v s w) hs) ∙ getD-set-same v s w 0 hs
 
   pub w-new : getD weights′ (length v) 0 ≡ getD v s 0 - w
-  w-new =
-      ap (λ k. getD weights′ k 0) (sym (length-set v s w)) ∙ getD-append-seam (set v s w) (getD v s 0 - w) [] 0
+  w-new = cc (length-set v s w, getD-append-seam (set v s w) (getD v s 0 - w) [] 0)
 
   pub w-other : (i : ℕ) → i < length v → (i ≡ s → ⊥) → getD weights′ i 0 ≡ getD v i 0
   w-other i h d =

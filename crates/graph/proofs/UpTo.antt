@@ -39,9 +39,7 @@ module _ (q : ℕ → Bool) where
           → indexOf t (filter q (from (suc i) n)) ≡ length (filter q (from (suc i) (t - suc i)))
           → indexOf t (if b then i ∷ filter q (from (suc i) n) else filter q (from (suc i) n))
           ≡ length (if b then i ∷ filter q (from (suc i) (t - suc i)) else filter q (from (suc i) (t - suc i)))
-      past true p r =
-          ap (λ b. if b then 0 else suc (indexOf t (filter q (from (suc i) n)))) (ne-eqb t i (λ z. p (sym z)))
-          ∙ ap suc r
+      past true p r = cc (ne-eqb t i (λ z. p (sym z)))
       past false p r = r
 
       go : Dec (i ≡ t)

@@ -94,8 +94,7 @@ appended-none g a b d = record {
 module _ (g h : Graph) (m : ℕ) (L : List Arc) (c : Appended g h m L) where
   pub appended-count : m ≡ g .edges + length L
   appended-count =
-      sym (length-map-range (arcAt h) m) ∙ ap length (c .arcs) ∙ length-append (arcsIn g) L
-      ∙ ap (λ x. x + length L) (length-map-range (arcAt g) (g .edges))
+      cc (length-map-range (arcAt h) m, c .arcs, length-append (arcsIn g) L, length-map-range (arcAt g) (g .edges))
 
   pub appended-more : m < 2048 → (s w t : ℕ) → Appended g (withArc h m s w t) (m + 1) (L ++ (arc s w t ∷ []))
   appended-more l s w t = record {
