@@ -9,14 +9,14 @@ use arguments::Status;
 use arguments::Way;
 use arguments::read_place;
 use arguments::under_place;
-use recording::decoding::decode;
-use recording::encoding::encode;
 use inputs::is_twice;
 use inputs::load;
 use inputs::load_whole;
 use inputs::recording;
 use marks::finish_code;
 use messages::usage::misused_word;
+use recording::decoding::decode;
+use recording::encoding::encode;
 
 // The words of blocks, or the blocks of words, under a record, in the output.
 fn code(w: Way, under: &[u8], bytes: &[u8], out: &mut [u8]) -> Answer
