@@ -25,15 +25,16 @@ use Rattle.graph.specs.declared.NextGraph.{NextGraph}
 use Rattle.component.specs.declared.component_graph.ComponentAnswer.{ComponentAnswer}
 use Rattle.graph.specs.Weights.{weights}
 use Rattle.component.specs.ComponentParts.{FoundIn}
-use Rattle.graph.specs.Arcs.{Work, out}
+use Rattle.graph.specs.Arcs.{Work}
 use Rattle.graph.specs.Splitting.{crowded, unfinished, splits, splitAll}
 use Rattle.graph.specs.Invariant.{Inv}
-use Rattle.graph.specs.Value.{arcsIn, workIn}
+use Rattle.graph.specs.Value.{weightsIn, workIn}
 use Rattle.weights.specs.PowerTable.{tabled, Powers}
 use Rattle.splitting.specs.SplitParts.{Splits, SplitAllInto}
 use Rattle.finish.specs.Finishing.{Finished}
+use Rattle.finish.proofs.Finishing.{split-finished}
 use Rattle.weights.proofs.TabledWords.{tabled-power}
-use Rattle.graph.proofs.Loop.{splits-off, splitted-end}
+use Rattle.graph.proofs.Loop.{splits-off}
 use Rattle.job.specs.declared.JobValue.{JobValue}
 use Rattle.job.specs.Jobs.{Job, Allowed}
 use Rattle.job.proofs.JobSteps.{unless-yes}
@@ -42,7 +43,6 @@ use Rattle.job.specs.JobValues.{jobIn, JobReady}
 use Rattle.compiler.specs.Stages.{Begun}
 use Rattle.compiler.proofs.Compiled.{live-some, first-inv}
 use Rattle.compiler.proofs.Compile.{ways-pos, compile-none}
-use Rattle.compiler.proofs.Promises.{split-ends}
 
 -- ---- the outcome at each return
 module _ (j : Job) where
@@ -197,29 +197,8 @@ module _ (j : Job) (a : Allowed j) (n : ℕ) (g : Graph) (start : ℕ) (b : Begu
       pub begun-work : workIn (r .graph) ≡ finishedOf j
       begun-work = s .work e ∙ same
 
-      states : length (finishedOf j .weights) ≡ r .graph .states
-      states = ap (λ x. length (x .weights)) (sym begun-work) ∙ length-map (range (r .graph .states)) _
-          ∙ length-from 0 (r .graph .states)
-
       pub begun-finished : Finished n (r .graph)
-      begun-finished = record {
-        fits = s .fits e;
-        some = rw (← states) (positive (finishedOf j .weights) (whole (finishedOf j)));
-        few = few;
-        full = λ t h. full t h;
-      }
-        where
-          whole : (x : Work) → 0 < sum (finishedOf j .weights)
-          whole x = let I = splitted-end (ways j) (sum (componentOf j .weights)) (ways-pos j) (componentOf j) inv .0 in
-              let w = I .whole in let h = b .some in omega arith
-
-          positive : (v : List ℕ) → 0 < sum v → 0 < length v
-          positive [] h = absurd (omega arith)
-          positive (x ∷ v) h = omega arith
-
-          full : (t : ℕ) → t < r .graph .states → n ≤ length (out (arcsIn (r .graph)) t)
-          full t h =
-              let l : t < length (finishedOf j .weights) = rw states h in
-              subst (λ x. n ≤ length (out (x .arcs) t)) (sym begun-work)
-              (subst (λ m. m ≤ length (out (finishedOf j .arcs) t)) (sym (b .count))
-              (split-ends j a (b .some) .1 begun-short t l))
+      begun-finished =
+          let p = begun-splits in
+          split-finished n (sum (weightsIn g)) (workIn g) (p .some) few (p .inv)
+          (subst (λ x. 0 < sum (x .weights)) (sym (b .work)) (b .some)) (r .graph) (s .fits e) (s .work e)

@@ -4,3 +4,4 @@ pub mod Closure
 pub mod Ranks
 pub mod RowPuts
 pub mod Tables
+pub mod Finishing
