@@ -1,4 +1,2 @@
-pub mod Pieces
-pub mod Chosen
-pub mod SplitTexts
+pub mod Begun
 pub mod StageTexts

@@ -1,3 +1,2 @@
-pub mod Lines
 pub mod Traced
-pub mod ChoiceParts
+pub mod Beginnings

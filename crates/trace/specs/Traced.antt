@@ -1,37 +1,22 @@
 -- The trace of a job: "Compiling" 1 to 5, one line a step, and the answer last.
--- In order: endText, splitText, splitting to the table; stages, all steps; traced; tracing, tracedJob,
--- tracedRunLength, from bytes.
+-- In order: stages, all steps; windowLine, ending, the last line; traced; tracing, tracedJob, tracedRunLength, from
+-- bytes.
 -- Assumes nothing.
 use mathlib.Core.Bool.{_||_}
-use mathlib.Core.List.{List, [], _++_}
+use mathlib.Core.List.{List, [], _∷_, _++_}
 use Prim.Native.Nat.{ℕ}
 use lib.Dec.{ltb, eqb}
-use lib.ListN.{length}
 use Rattle.laws.specs.Lists.{if_then_else_, sum}
 use Rattle.answer.specs.Outcomes.{Outcome, done, refused}
-use Rattle.graph.specs.Arcs.{Work}
+use Rattle.table.specs.Rows.{Code}
 use Rattle.graph.specs.Component.{componentStates}
-use Rattle.graph.specs.Splitting.{crowded, splitAll}
-use Rattle.finish.specs.TableOf.{tableOf}
+use Rattle.graph.specs.Splitting.{crowded}
 use Rattle.job.specs.Jobs.{Job, readJob, readRunLength}
 use Rattle.compiler.specs.Compile.{ways, graphOf, weightsOf, componentOf, compile}
+use Rattle.sentences.specs.Sentences.{said}
 use Rattle.refusals.specs.Phrases.{refusalLine}
-use Rattle.trace.specs.Lines.{
-  weightsLine,
-  componentLine,
-  graphLine,
-  splitLines,
-  tableLine,
-  ending,
-}
-
--- the graph that splitting ends with, and its table, unless it has too many edges
-abbrev pub endText : ℕ → Work → List ℕ
-endText n x = if crowded x then [] else graphLine "finished with " x ++ tableLine (length (tableOf n x))
-
--- the graph, its splits, and what they end with
-unfoldable pub splitText : ℕ → ℕ → Work → List ℕ
-splitText q n x = graphLine "graph of " x ++ splitLines (sum (x .weights)) q n x ++ endText n (splitAll n x)
+use Rattle.splitlines.specs.SplitText.{splitText}
+use Rattle.stagelines.specs.StageText.{weightsLine, componentLine}
 
 -- weights, component, and, if it weighs from 1 to 128 and has at most 2,048 edges, all that comes of it
 unfoldable pub stages : Job → List ℕ
@@ -41,6 +26,15 @@ stages j =
     ++ (if eqb (sum (c .weights)) 0 then [] else
     componentLine (componentStates (weightsOf j) (graphOf j)) (sum (c .weights))
     ++ (if ltb 128 (sum (c .weights)) || crowded c then [] else splitText (j .q) (ways j) c))
+
+-- "window of memory 1 and lookahead 1"
+abbrev pub windowLine : ℕ → ℕ → List ℕ
+windowLine m a = said "window of memory # and lookahead #\n" (m ∷ a ∷ [])
+
+-- the last line: the window, or the refusal
+abbrev pub ending : Outcome Code → List ℕ
+ending (done c) = windowLine (c .window .memory) (c .window .lookahead)
+ending (refused r) = refusalLine r
 
 -- the steps, and then what compiling the job comes to
 unfoldable pub traced : Job → List ℕ

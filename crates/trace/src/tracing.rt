@@ -1,49 +1,45 @@
 // The trace of a job: its weights, its component, each split, the table and the window, or the refusal where it comes.
+ghost use mathlib.Core.Path.{_≡_};
 ghost use Rattle.text.specs.Texts.{Added};
-ghost use Rattle.job.specs.JobValues.{jobIn, JobReady};
-ghost use Rattle.trace.specs.Traced.{traced, tracedJob, tracedRunLength};
+ghost use Rattle.answer.specs.declared.Verdict.the-variants.{Good};
+ghost use Rattle.job.specs.JobValues.{jobOutcome, JobReady};
+ghost use Rattle.trace.specs.Traced.{tracing, tracedJob, tracedRunLength};
 use crate::endings::put_ending;
 use crate::stages::put_stages;
 use answer::Verdict;
 use compiler::compiling::compile;
-use job::JobValue;
+use job::JobAnswer;
 use job::reading::read_job;
 use job::reading::read_run_length;
 use refusals::put_refusal_line;
 use table::chains::ways;
 
-// The steps, and then what compiling the job comes to.
-fn trace(j: JobValue, out: &mut [u8], at: usize) -> usize
-    requires { ⌜ JobReady j ⌝ }
-    ensures written { λ r. ⌜ Added (traced (jobIn j)) at (now (out .entry)) (now (out .exit)) r ⌝ }
+// The steps of a job that was read, and then what compiling it comes to.
+fn trace(r: JobAnswer, out: &mut [u8], at: usize) -> usize
+    requires { ⌜ (r .verdict ≡ Good → JobReady (r .job)) ⌝ }
+    ensures written { λ e. ⌜ Added (tracing (jobOutcome r)) at (now (out .entry)) (now (out .exit)) e ⌝ }
 {
-    let end = put_stages(j, out, at, ways(j.p));
-    let r = compile(j);
-    put_ending(r, out, end)
+    let v = r.verdict;
+    let j = r.job;
+    match v {
+        Verdict::Bad(x) => put_refusal_line(out, at, x),
+        Verdict::Good => {
+            let end = put_stages(j, out, at, ways(j.p));
+            put_ending(compile(j), out, end)
+        }
+    }
 }
 
 // The trace of the job that bytes hold behind the first `at` bytes; the answer is the place behind it.
 pub fn trace_job(job: &[u8], out: &mut [u8], at: usize) -> usize
     ensures written { λ r. ⌜ Added (tracedJob (now (job .entry))) at (now (out .entry)) (now (out .exit)) r ⌝ }
 {
-    let r = read_job(job);
-    let v = r.verdict;
-    let j = r.job;
-    match v {
-        Verdict::Bad(x) => put_refusal_line(out, at, x),
-        Verdict::Good => trace(j, out, at),
-    }
+    trace(read_job(job), out, at)
 }
 
 // The trace of the run-length job that bytes hold behind the first `at` bytes; the answer is the place behind it.
 pub fn trace_run_length(job: &[u8], out: &mut [u8], at: usize) -> usize
     ensures written { λ r. ⌜ Added (tracedRunLength (now (job .entry))) at (now (out .entry)) (now (out .exit)) r ⌝ }
 {
-    let r = read_run_length(job);
-    let v = r.verdict;
-    let j = r.job;
-    match v {
-        Verdict::Bad(x) => put_refusal_line(out, at, x),
-        Verdict::Good => trace(j, out, at),
-    }
+    trace(read_run_length(job), out, at)
 }

@@ -1,34 +1,46 @@
--- `trace` meets its contract: the steps, and then what compiling comes to.
+-- `trace` meets its contract: a refusal of the bytes is told, and a job that was read is traced.
 -- Assumes nothing.
-use Rattle.laws.proofs.All.{ap, _∙_, needs}
+use Rattle.laws.proofs.All.{sym, ap, needs}
+use Rattle.answer.specs.Outcomes.{verdictOn}
+use Rattle.job.specs.JobValues.{jobIn, JobReady}
 use Rattle.text.proofs.Adding.{added-same, _then_}
-use Rattle.trace.specs.Lines.{ending}
-use Rattle.trace.specs.Traced.{traced}
+use Rattle.trace.specs.Traced.{ending, traced, tracing}
 use Rattle.trace.proofs.tracing.trace.Statement.{statement}
 use Rattle.trace.proofs.tracing.trace.Tie as tie
 
+ready : (c : tie.After-enum-told) → JobReady (c .before .before .before .before .args .r .job)
+ready c = c .before .before .before .before .pre (c .enum-told .given .1)
+
 ways-requires : tie.Need-ways-requires
-ways-requires c κs = c .before .before .pre .allowed .p₂
+ways-requires c κs = ready (c .before) .allowed .p₂
 
 put-stages-requires : tie.Need-put-stages-requires
-put-stages-requires c κs = (c .before .before .before .pre, c .ways .ensures .0)
+put-stages-requires c κs = (ready (c .before .before), c .ways .ensures .0)
 
 compile-requires : tie.Need-compile-requires
-compile-requires c κs = c .before .before .before .before .before .before .pre
-
-same-length : tie.Need-same-length
-same-length c = c .before .before .put-ending .ensures .kept ∙
-    c .before .before .before .before .before .before .before .put-stages .ensures .kept
+compile-requires c κs = ready (c .before .before .before .before .before)
 
 returns : tie.Need-returns
-unfolding traced
 returns c =
-    c .before .before .before .before .before .before .before .put-stages .ensures
-    then added-same (ap ending (c .before .before .before .before .compile .ensures .0))
-    (c .before .before .put-ending .ensures)
+    let p = c .before .before in
+    let v = p .before .before .before in
+    added-same (sym (ap (λ x. tracing (verdictOn x (jobIn (v .before .before .before .before .args .r .job))))
+    (v .v .given .1))) (p .put-refusal-line .ensures)
+
+returns-2 : tie.Need-returns-2
+unfolding traced
+returns-2 c =
+    let e = c .before .before in
+    let k = e .before .before in
+    let s = k .before .before .before in
+    let v = s .before .before .before in
+    added-same (sym (ap (λ x. tracing (verdictOn x (jobIn (v .before .before .before .before .args .r .job))))
+    (v .enum-told .given .1)))
+    (s .put-stages .ensures then added-same (ap ending (k .compile .ensures .0)) (e .put-ending .ensures))
 
 pub trace-spec : {M : Type 1} → statement M
 trace-spec =
     tie.close
     (tie.spec
-    ways-requires put-stages-requires compile-requires (λ c κs. search needs) same-length returns)
+    (λ c. search needs) (λ c κs. search needs) (λ c. search needs) ways-requires put-stages-requires compile-requires
+    (λ c κs. search needs) (λ c. search needs) returns (λ c. search needs) returns-2)

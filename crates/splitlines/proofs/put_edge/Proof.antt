@@ -1,0 +1,19 @@
+-- `put_edge` meets its contract: the word, and behind it the target.
+-- Assumes nothing.
+use Rattle.laws.proofs.All.{needs}
+use Rattle.text.proofs.Adding.{_then_}
+use Rattle.splitlines.specs.SplitText.{edgeText}
+use Rattle.splitlines.proofs.put_edge.Statement.{statement}
+use Rattle.splitlines.proofs.put_edge.Tie as tie
+
+returns : tie.Need-returns
+unfolding edgeText
+returns c =
+    let s = c .before .before in
+    s .before .before .before .before .before .before .put-word .ensures then s .put-sentence .ensures
+
+pub put-edge-spec : {M : Type 1} → statement M
+put-edge-spec =
+    tie.close
+    (tie.spec
+    (λ c κs. search needs) (λ c. search needs) (λ c. search needs) (λ c κs. search needs) (λ c. search needs) returns)

@@ -1,0 +1,63 @@
+-- `put_kept` meets its contract. The loop's invariant: the text put since the loop began has the edges passed. The
+-- measure is what is left of them.
+-- Assumes nothing.
+use Rattle.laws.proofs.All.{_≡_, sym, ap, _∙_, _-_, _≤_, arith, length, concat-more, needs}
+use Rattle.text.specs.Texts.{Added}
+use Rattle.text.proofs.Adding.{added-same, _then_, begun}
+use Rattle.splitlines.specs.SplitText.{keptText}
+use Rattle.splitlines.proofs.Kept.{keysText, kept-text}
+use Rattle.splitlines.proofs.put_kept.Statement.{statement}
+use Rattle.splitlines.proofs.put_kept.Tie as tie
+
+abbrev Inv-loop : tie.InvT-loop
+Inv-loop out₀ at q keys from count end₀ i₀ out end i =
+    (i ≤ count) × (length keys ≡ 16) × Added (keysText q keys from i) end₀ out₀ out end
+
+abbrev μ-loop : tie.MeasureT-loop
+μ-loop out₀ at q keys from count end₀ i₀ out end i = count - i
+
+abbrev start : tie.At-loop Inv-loop μ-loop → tie.Start Inv-loop μ-loop
+start l = l .before .before .before .before .before .before .before .before .before .before
+
+loop-holds : tie.Need-loop-holds Inv-loop μ-loop
+loop-holds c = (omega arith, search needs, begun (c .before .before .put-sentence .ensures))
+
+add-put-edge : tie.Need-add-put-edge Inv-loop μ-loop
+add-put-edge c = let p = start (c .before .before) .pre in omega (arith, p .1, p .2)
+
+mul-put-edge : tie.Need-mul-put-edge Inv-loop μ-loop
+mul-put-edge c = let p = start (c .before .before) .pre in omega (arith, p .1, p .2)
+
+array-read-put-edge : tie.Need-array-read-put-edge Inv-loop μ-loop
+array-read-put-edge c = let p = start (c .before .before) .pre in omega (arith, p .1, p .2)
+
+put-edge-requires : tie.Need-put-edge-requires Inv-loop μ-loop
+put-edge-requires c κs = start (c .before .before) .pre .0
+
+loop-again : tie.Need-loop-again Inv-loop μ-loop
+loop-again c =
+    let e = c .before .before in
+    let l = e .before .before .before .loop in
+    (omega arith, l .inv .1, added-same (sym (concat-more _ (l .i))) (l .inv .2 then e .put-edge .ensures))
+
+same-length : tie.Need-same-length Inv-loop μ-loop
+same-length c = c .before .loop .inv .2 .kept ∙ c .before .before .before .before .put-sentence .ensures .kept
+
+returns : tie.Need-returns Inv-loop μ-loop
+unfolding keptText
+returns c =
+    let l = c .before .loop in
+    let b = start (c .before) in
+    let a = b .args .c in
+    let e : l .i ≡ a .run .count = omega (arith, l .inv .0, c .loop-test .left) in
+    c .before .before .before .before .put-sentence .ensures then added-same
+    (ap (keysText (b .args .q) (a .list .key) (a .run .from)) e
+    ∙ kept-text (a .list) (a .run) (omega (arith, l .inv .1, b .pre .1)) (b .pre .2) (b .args .q) (a .state))
+    (l .inv .2)
+
+pub put-kept-spec : {M : Type 1} → statement M
+put-kept-spec =
+    tie.close
+    (tie.spec
+    Inv-loop μ-loop (λ c. search needs) (λ c. search needs) (λ c κs. search needs) loop-holds add-put-edge mul-put-edge
+    array-read-put-edge put-edge-requires (λ c. search needs) (λ c. search needs) loop-again same-length returns)

@@ -1,0 +1,2 @@
+pub mod SplitText
+pub mod ChoiceParts

@@ -1,0 +1,61 @@
+-- `begin` meets its contract: the power table holds the words that the constraint allows, so weights and component are
+-- the job's.
+-- Assumes nothing.
+use Rattle.laws.proofs.All.{arith, needs}
+use Rattle.weights.specs.PowerTable.{Powers}
+use Rattle.job.specs.JobValues.{jobIn}
+use Rattle.compiler.proofs.Compile.{ways-pos}
+use Rattle.compiler.proofs.CompileSteps.{has-states, held-powers, held-component}
+use Rattle.trace.proofs.Begun.{held-weights, held-states}
+use Rattle.trace.proofs.beginnings.begin.Statement.{statement}
+use Rattle.trace.proofs.beginnings.begin.Tie as tie
+
+powers : (c : tie.After-power) → Powers (c .before .power-codes .result) (c .power .result)
+    (c .before .before .args .j .constraint .states)
+powers c =
+    let b = c .before .before in
+    held-powers (b .args .j) (b .pre .0) _ _ (c .before .power-codes .ensures) (c .power .ensures)
+
+state-weights-requires : tie.Need-state-weights-requires
+state-weights-requires c κs =
+    let b = c .before .before .before in
+    (powers (c .before), omega (arith, ways-pos (jobIn (b .args .j)), b .pre .1), b .pre .0 .allowed .cap₂)
+
+component-states-requires : tie.Need-component-states-requires
+component-states-requires c κs =
+    let p = c .before .before .before in
+    let b = p .before .before in
+    (powers p, has-states (b .args .j) (b .pre .0))
+
+find-component-requires : tie.Need-find-component-requires
+find-component-requires c κs =
+    let w = c .before .before .before in
+    let p = w .before .before in
+    let b = p .before .before in (
+      powers p,
+      has-states (b .args .j) (b .pre .0),
+      λ s h. omega (arith, w .state-weights .ensures .1 s h, b .pre .0 .allowed .cap₂),
+    )
+
+returns : tie.Need-returns
+returns c =
+    let s = c .before .before .before in
+    let w = s .before .before in
+    let p = w .before .before in
+    let b = p .before .before in
+    let e = p .before .power-codes .ensures in
+    let f = p .power .ensures in
+    let v = w .state-weights .ensures .0 in
+    record {
+      weights = held-weights (b .args .j) (b .pre .0) _ _ e f _ (b .pre .1) _ v;
+      few = s .component-states .ensures .0;
+      states = held-states (b .args .j) (b .pre .0) _ _ e f _ (b .pre .1) _ v _ (s .component-states .ensures .1);
+      found = held-component (b .args .j) (b .pre .0) _ _ e f _ _ _ (b .pre .1) v (c .before .find-component .ensures);
+    }
+
+pub begin-spec : {M : Type 1} → statement M
+begin-spec =
+    tie.close
+    (tie.spec
+    (λ c κs. search needs) (λ c κs. search needs) state-weights-requires component-states-requires
+    find-component-requires returns)

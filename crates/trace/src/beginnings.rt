@@ -1,0 +1,61 @@
+// What is found of a job before anything is split.
+ghost use mathlib.Core.Path.{_≡_};
+ghost use Prim.Native.Nat.{_≤_, _<_};
+ghost use lib.ListN.{take};
+ghost use Rattle.graph.specs.Component.{componentStates};
+ghost use Rattle.weights.specs.PowerTable.{tabled, Powers};
+ghost use Rattle.compiler.specs.Compile.{ways};
+ghost use Rattle.job.specs.JobValues.{jobIn, JobReady};
+ghost use Rattle.trace.specs.Beginnings.{FoundOf};
+use component::component_graph::ComponentAnswer;
+use component::component_graph::find_component;
+use constraint::power::power_codes;
+use job::JobValue;
+use reach::reaching::Members;
+use reach::reaching::first_returning;
+use reach::reaching::list_members;
+use reach::reaching::live_edges;
+use reach::reaching::reach_all;
+use weights::state_weights::state_weights;
+use weights::state_weights::word_counts;
+
+// The weights, the states of the component in the constraint's numbers and how many there are, and the component.
+pub struct Beginning {
+    pub weight: [usize; 16],
+    pub states: [usize; 16],
+    pub count: usize,
+    pub found: ComponentAnswer,
+}
+
+// The states of the component in the constraint's numbers.
+fn component_states(power: &[u8; 4096], words: usize, k: usize, v: [usize; 16]) -> Members
+    requires { ⌜ Powers (now power) words k × (0 < k) ⌝ }
+    ensures answer { λ r. ⌜ (r .count ≤ 16)
+        × (take (r .count) (r .state) ≡ componentStates (take k v) (tabled (now (power .entry)) words k)) ⌝ }
+{
+    let count = word_counts(power, words, k);
+    let edge = live_edges(&count, v, k);
+    let m = reach_all(&edge, k);
+    let s = first_returning(&m, v, k);
+    list_members(&m, v, k, s)
+}
+
+// The beginning of a job, with n ways out of each state to come.
+pub fn begin(j: JobValue, n: usize) -> Beginning
+    requires { ⌜ JobReady j × (n ≡ ways (jobIn j)) ⌝ }
+    ensures answer { λ r. ⌜ FoundOf (jobIn j) (j .constraint .states) r ⌝ }
+{
+    let power = power_codes(j.constraint, j.q);
+    let words = bits::power(j.q);
+    let k = j.constraint.states;
+    let v = state_weights(&power, words, k, n, j.cap);
+    let list = component_states(&power, words, k, v);
+    let found = find_component(&power, words, k, v);
+    let states = list.state;
+    Beginning {
+        weight: v,
+        states: states,
+        count: list.count,
+        found: found,
+    }
+}
