@@ -18,7 +18,7 @@ use Rattle.text.specs.Words.{binary}
 use Rattle.sentences.specs.Sentences.{said}
 use Rattle.drawing.specs.Drawn.{joined, opens, other, others, arrowHead, arrowText, arrow}
 use Rattle.drawing.specs.Drawn.{arrowOf, tableArrow, arrowsTo, opening, diagram, drawn, drawText}
-use Rattle.drawing.specs.Matrix.{matrix}
+use Rattle.matrix.specs.Matrix.{matrix}
 use Rattle.views.proofs.Edges.{edges-are}
 
 -- a text, where the bytes behind it and the place have other names

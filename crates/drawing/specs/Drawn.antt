@@ -17,7 +17,7 @@ use Rattle.text.specs.Texts.{bytes}
 use Rattle.text.specs.Words.{binary}
 use Rattle.sentences.specs.Sentences.{said}
 use Rattle.views.specs.Edges.{allEdges}
-use Rattle.drawing.specs.Matrix.{matrix}
+use Rattle.matrix.specs.Matrix.{matrix}
 
 -- the data d and j of a state lead to one state
 abbrev pub joined : (ℕ → ℕ) → ℕ → ℕ → Bool

@@ -7,12 +7,9 @@ ghost use Rattle.text.specs.Words.{binary};
 ghost use Rattle.sentences.specs.Sentences.{sentence};
 ghost use Rattle.table.specs.Value.{wordAt, nextAt, codeIn, Ready};
 ghost use Rattle.drawing.specs.Drawn.{joined, opens, arrowText, diagram, drawText};
-
-mod matrix;
-
-use crate::matrix::next_at;
-use crate::matrix::put_matrix;
-use crate::matrix::word_at;
+use matrix::edges::next_at;
+use matrix::edges::word_at;
+use matrix::put_matrix;
 use sentences::put_sentence;
 use table::Table;
 use table::chains::ways;

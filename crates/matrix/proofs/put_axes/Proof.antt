@@ -3,10 +3,10 @@
 use Rattle.laws.proofs.All.{_≡_, ap, _∙_, _-_, _≤_, arith, needs}
 use Rattle.text.specs.Texts.{Added}
 use Rattle.text.proofs.Adding.{added-same, _then_, begun}
-use Rattle.drawing.specs.Matrix.{stateAt, rowText, inRow, axes}
-use Rattle.drawing.proofs.Cells.{row-none, row-more}
-use Rattle.drawing.proofs.matrix.put_axes.Statement.{statement}
-use Rattle.drawing.proofs.matrix.put_axes.Tie as tie
+use Rattle.matrix.specs.Matrix.{stateAt, rowText, inRow, axes}
+use Rattle.matrix.proofs.Cells.{row-none, row-more}
+use Rattle.matrix.proofs.put_axes.Statement.{statement}
+use Rattle.matrix.proofs.put_axes.Tie as tie
 
 abbrev Inv-loop : tie.InvT-loop
 Inv-loop out₀ first q n states at₀ s₀ text out at s =

@@ -9,7 +9,7 @@ use Rattle.table.specs.Value.{codeIn}
 use Rattle.table.proofs.RowsOf.{length-rows}
 use Rattle.text.specs.Texts.{bytes}
 use Rattle.views.specs.Edges.{linesTo}
-use Rattle.drawing.specs.Matrix.{columnX, rowY, columnText, cell, inRow, sizes, heading, axes, matrix}
+use Rattle.matrix.specs.Matrix.{columnX, rowY, columnText, cell, inRow, sizes, heading, axes, matrix}
 use Rattle.views.proofs.Edges.{lines-are}
 
 -- ---- places

@@ -2,9 +2,9 @@
 -- Assumes nothing.
 use Rattle.laws.proofs.All.{ap, needs}
 use Rattle.text.proofs.Adding.{added-same, _then_}
-use Rattle.drawing.specs.Matrix.{place, columnText}
-use Rattle.drawing.proofs.matrix.put_column.Statement.{statement}
-use Rattle.drawing.proofs.matrix.put_column.Tie as tie
+use Rattle.matrix.specs.Matrix.{place, columnText}
+use Rattle.matrix.proofs.put_column.Statement.{statement}
+use Rattle.matrix.proofs.put_column.Tie as tie
 
 returns : tie.Need-returns
 unfolding columnText

@@ -5,12 +5,12 @@ use Rattle.laws.proofs.All.{_≡_, sym, ap, subst, _*_, _-_, _≤_, arith, need
 use Rattle.table.proofs.RowsOf.{ways-small}
 use Rattle.text.specs.Texts.{Added}
 use Rattle.text.proofs.Adding.{added-same, _then_, begun}
-use Rattle.drawing.specs.Matrix.{cell}
+use Rattle.matrix.specs.Matrix.{cell}
 use Rattle.views.specs.Edges.{linesTo}
 use Rattle.views.proofs.Edges.{edges-few, EdgeAt, edge-good, lines-none, lines-more, lineOf}
-use Rattle.drawing.proofs.Cells.{matrix-is}
-use Rattle.drawing.proofs.matrix.put_matrix.Statement.{statement}
-use Rattle.drawing.proofs.matrix.put_matrix.Tie as tie
+use Rattle.matrix.proofs.Cells.{matrix-is}
+use Rattle.matrix.proofs.put_matrix.Statement.{statement}
+use Rattle.matrix.proofs.put_matrix.Tie as tie
 
 abbrev Inv-loop : tie.InvT-loop
 Inv-loop out₀ first t n at₀ edges e₀ text out at e = (e ≤ edges) × Added (linesTo (cell n) t e) at₀ out₀ out at

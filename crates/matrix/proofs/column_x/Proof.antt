@@ -1,9 +1,9 @@
 -- `column_x` meets its contract.
 -- Assumes nothing.
-use Rattle.drawing.proofs.Cells.{column-is}
+use Rattle.matrix.proofs.Cells.{column-is}
 use Rattle.laws.proofs.All.{needs}
-use Rattle.drawing.proofs.matrix.column_x.Statement.{statement}
-use Rattle.drawing.proofs.matrix.column_x.Tie as tie
+use Rattle.matrix.proofs.column_x.Statement.{statement}
+use Rattle.matrix.proofs.column_x.Tie as tie
 
 returns : tie.Need-returns
 returns c = column-is (c .args .w) (c .pre)

@@ -1,9 +1,9 @@
 -- `row_y` meets its contract.
 -- Assumes nothing.
 use Rattle.laws.proofs.All.{arith, needs}
-use Rattle.drawing.proofs.Cells.{row-small, row-is}
-use Rattle.drawing.proofs.matrix.row_y.Statement.{statement}
-use Rattle.drawing.proofs.matrix.row_y.Tie as tie
+use Rattle.matrix.proofs.Cells.{row-small, row-is}
+use Rattle.matrix.proofs.row_y.Statement.{statement}
+use Rattle.matrix.proofs.row_y.Tie as tie
 
 mul-result-2 : tie.Need-mul-result-2
 mul-result-2 c = omega (arith, row-small (c .args .n) (c .args .s) (c .pre .0) (c .pre .1))

@@ -1,9 +1,9 @@
 -- `words_of` meets its contract.
 -- Assumes nothing.
 use Rattle.laws.proofs.All.{arith}
-use Rattle.drawing.proofs.Cells.{words-few}
-use Rattle.drawing.proofs.matrix.words_of.Statement.{statement}
-use Rattle.drawing.proofs.matrix.words_of.Tie as tie
+use Rattle.matrix.proofs.Cells.{words-few}
+use Rattle.matrix.proofs.words_of.Statement.{statement}
+use Rattle.matrix.proofs.words_of.Tie as tie
 
 power-requires : tie.Need-power-requires
 power-requires c κs = omega (arith, c .pre)

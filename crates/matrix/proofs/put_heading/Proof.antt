@@ -3,10 +3,10 @@
 use Rattle.laws.proofs.All.{_≡_, ap, _∙_, _-_, _≤_, arith, needs}
 use Rattle.text.specs.Texts.{Added}
 use Rattle.text.proofs.Adding.{added-same, _then_, begun}
-use Rattle.drawing.specs.Matrix.{columnText, inRow, sizes}
-use Rattle.drawing.proofs.Cells.{row-none, row-more, heading-is}
-use Rattle.drawing.proofs.matrix.put_heading.Statement.{statement}
-use Rattle.drawing.proofs.matrix.put_heading.Tie as tie
+use Rattle.matrix.specs.Matrix.{columnText, inRow, sizes}
+use Rattle.matrix.proofs.Cells.{row-none, row-more, heading-is}
+use Rattle.matrix.proofs.put_heading.Statement.{statement}
+use Rattle.matrix.proofs.put_heading.Tie as tie
 
 abbrev Inv-loop : tie.InvT-loop
 Inv-loop out₀ first q n states words x y at₀ w₀ out at w =

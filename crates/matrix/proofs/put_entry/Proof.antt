@@ -2,9 +2,9 @@
 -- Assumes nothing.
 use Rattle.laws.proofs.All.{ap, ap₂, _∙_, _+_, _*_, _/_, _%_, needs}
 use Rattle.text.proofs.Adding.{added-same}
-use Rattle.drawing.specs.Matrix.{columnX, entry}
-use Rattle.drawing.proofs.matrix.put_entry.Statement.{statement}
-use Rattle.drawing.proofs.matrix.put_entry.Tie as tie
+use Rattle.matrix.specs.Matrix.{columnX, entry}
+use Rattle.matrix.proofs.put_entry.Statement.{statement}
+use Rattle.matrix.proofs.put_entry.Tie as tie
 
 returns : tie.Need-returns
 returns c =

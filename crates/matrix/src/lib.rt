@@ -3,30 +3,16 @@ ghost use mathlib.Core.Path.{_≡_};
 ghost use Prim.Native.Nat.{_*_, _^_, _≤_, _<_};
 ghost use Rattle.table.specs.Value.{wordAt, nextAt, codeIn, Ready};
 ghost use Rattle.text.specs.Texts.{Added};
-ghost use Rattle.drawing.specs.Matrix.{columnX, rowY, columnText, cell, heading, axes, matrix};
+ghost use Rattle.matrix.specs.Matrix.{columnX, rowY, columnText, cell, heading, axes, matrix};
+
+pub mod edges;
+
+use crate::edges::next_at;
+use crate::edges::word_at;
 use sentences::put_sentence;
 use table::Table;
-use table::chains::wide;
 use text::put;
 use text::put_word;
-
-// The word of the edge of state s that carries d.
-pub fn word_at(code: Table, s: usize, d: usize) -> usize
-    requires { ⌜ (s < 128) × (d < 16) ⌝ }
-    ensures answer { λ r. ⌜ (r ≡ wordAt code s d) × (r < 256) ⌝ }
-{
-    let words = code.word;
-    wide(words[s * 16 + d])
-}
-
-// The next state of the edge of state s that carries d.
-pub fn next_at(code: Table, s: usize, d: usize) -> usize
-    requires { ⌜ (s < 128) × (d < 16) ⌝ }
-    ensures answer { λ r. ⌜ r ≡ nextAt code s d ⌝ }
-{
-    let states = code.next;
-    wide(states[s * 16 + d])
-}
 
 // How many words of q bits there are.
 fn words_of(q: usize) -> usize
