@@ -1,4 +1,3 @@
-pub mod Behind
 pub mod Edges
 pub mod Filled
 pub mod Listings

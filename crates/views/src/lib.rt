@@ -1,4 +1,3 @@
-// What a person reads of a code, as text in lent bytes: its listing, and pieces of text for other views.
+// The listing of a code as text in lent bytes, and a text as the result of a call.
 pub mod filling;
 pub mod listing;
-pub mod phrases;
