@@ -1,5 +1,5 @@
 -- The component that compiling takes and every split that it makes go by the rule.
--- In order: component; component-inv; each-split, last-split, splits-by-rule.
+-- In order: component; each-split, last-split, splits-by-rule.
 -- Assumes nothing.
 use Rattle.laws.proofs.All.{_≡_, false, ℕ, suc, _<_, T, length, getD, sum, T→true, bool-eq}
 use Rattle.graph.specs.Arcs.{out}
@@ -14,8 +14,8 @@ use Rattle.graph.proofs.Passed.{each-passed, splits-last}
 use Rattle.graph.proofs.Reachable.{component-is}
 use Rattle.job.specs.Jobs.{Job, Allowed}
 use Rattle.compiler.specs.Compile.{ways, graphOf, weightsOf, componentOf, startOf, finishedOf}
-use Rattle.compiler.proofs.Compiled.{live-some, first-inv}
-use Rattle.compiler.proofs.Compile.{ways-pos}
+use Rattle.compiler.proofs.Compiled.{live-some}
+use Rattle.compiler.proofs.Compile.{ways-pos, job-inv}
 
 module _ (j : Job) (a : Allowed j) (h : 0 < sum (componentOf j .weights)) where
   -- of the states of weight above 0 those of the component, from the start on
@@ -27,11 +27,6 @@ module _ (j : Job) (a : Allowed j) (h : 0 < sum (componentOf j .weights)) where
       (rw (weights-length (ways j) (graphOf j) (j .cap) (length (j .constraint)))
       (power-inside (j .constraint) (a .well) (j .q))) z ez
 
-  component-inv : Inv (ways j) (sum (componentOf j .weights)) (componentOf j)
-  component-inv =
-      let (z, ez) = live-some (j .constraint) (a .well) (ways j) (j .q) (j .cap) (ways-pos j) h in
-      first-inv (j .constraint) (a .well) (ways j) (j .q) (j .cap) (ways-pos j) z ez
-
   -- the graph after k splits, while splitting goes on: the next is its split, by the rule's state, list and run
   pub each-split : (k : ℕ) → let n = ways j in let x = splits k n (componentOf j) in
       let s = chosen (x .weights) (x .arcs) in T (goesOn n x)
@@ -39,15 +34,15 @@ module _ (j : Job) (a : Allowed j) (h : 0 < sum (componentOf j .weights)) where
       × Rule n x s (candidates n (x .weights) (getD (x .weights) s 0) (sort (out (x .arcs) s)))
       (kept n (x .weights) (x .arcs) s)
   each-split k t =
-      each-passed (ways j) (sum (componentOf j .weights)) (ways-pos j) (componentOf j) component-inv k
+      each-passed (ways j) (sum (componentOf j .weights)) (ways-pos j) (componentOf j) (job-inv j a h) k
       (T→true (goesOn (ways j) (splits k (ways j) (componentOf j))) t)
 
   -- the graph in which it ends is the finished one
   pub last-split : (k : ℕ) → (T (goesOn (ways j) (splits k (ways j) (componentOf j))) → ⊥)
       → finishedOf j ≡ splits k (ways j) (componentOf j)
-  last-split k h =
-      splits-last (ways j) (sum (componentOf j .weights)) (ways-pos j) (componentOf j) component-inv k
-      (bool-eq (goesOn (ways j) (splits k (ways j) (componentOf j))) false h (λ e. absurd e))
+  last-split k n =
+      splits-last (ways j) (sum (componentOf j .weights)) (ways-pos j) (componentOf j) (job-inv j a h) k
+      (bool-eq (goesOn (ways j) (splits k (ways j) (componentOf j))) false n (λ e. absurd e))
 
   pub splits-by-rule : (k : ℕ) → let n = ways j in let x = splits k n (componentOf j) in
       let s = chosen (x .weights) (x .arcs) in (T (goesOn n x) → (splits (suc k) n (componentOf j) ≡ split n x)

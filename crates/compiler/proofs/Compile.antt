@@ -16,7 +16,8 @@ use Rattle.graph.proofs.Weights.{weights-length, weights-enough, weights-greate
 use Rattle.job.specs.Jobs.{Job, Allowed}
 use Rattle.compiler.specs.Compile.{ways, graphOf, weightsOf, componentOf, finishedOf, tableFor, code, compile}
 use Rattle.compiler.specs.Compile.{Vector}
-use Rattle.compiler.proofs.Compiled.{none-weighs}
+use Rattle.compiler.proofs.Compiled.{live-some, first-inv, none-weighs}
+use Rattle.graph.specs.Invariant.{Inv}
 
 -- why compiling comes to an outcome
 pub data Reason (j : Job) : Outcome Code → Type 0 where
@@ -56,6 +57,12 @@ reason j =
 
 pub ways-pos : (j : Job) → 0 < ways j
 ways-pos j = pow-pos (j .p)
+
+-- the component of a job that weighs something has what splitting needs
+pub job-inv : (j : Job) → Allowed j → 0 < sum (componentOf j .weights)
+    → Inv (ways j) (sum (componentOf j .weights)) (componentOf j)
+job-inv j a h = let (z, ez) = live-some (j .constraint) (a .well) (ways j) (j .q) (j .cap) (ways-pos j) h in
+    first-inv (j .constraint) (a .well) (ways j) (j .q) (j .cap) (ways-pos j) z ez
 
 -- ---- no code
 -- the weights are such a vector, and the greatest

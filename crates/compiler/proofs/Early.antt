@@ -24,28 +24,19 @@ unless-early r false o h f r′ e = subst Early (refused-inj r r′ e) h
 done-early : {A : Type 0} (a : A) (r : Refusal) → done a ≡ refused r → Early r
 done-early a r e = absurd (refused-not r a (sym e))
 
-early-1 : Early Parameters
-early-1 = inl (omega arith)
-
-early-2 : Early States
-early-2 = inl (omega arith)
-
-early-8 : Early Length
-early-8 = inr refl
-
 pub read-early : (xs : List ℕ) (r : Refusal) → readJob xs ≡ refused r → Early r
 unfolding readJob
 read-early xs =
     let K = getD xs 3 0 in
-    unless-early Length (leb 4 (length xs)) _ early-8
-    (unless-early Parameters (goodParameters (getD xs 0 0) (getD xs 1 0) (getD xs 2 0)) _ early-1
-    (unless-early States (leb 1 K && leb K 16) _ early-2
-    (unless-early Length (eqb (length xs) (4 + 2 * K)) _ early-8
-    (unless-early States (all (goodNext K) (statesOf K (drop 4 xs))) _ early-2 (done-early _)))))
+    unless-early Length (leb 4 (length xs)) _ (inr refl)
+    (unless-early Parameters (goodParameters (getD xs 0 0) (getD xs 1 0) (getD xs 2 0)) _ (inl (omega arith))
+    (unless-early States (leb 1 K && leb K 16) _ (inl (omega arith))
+    (unless-early Length (eqb (length xs) (4 + 2 * K)) _ (inr refl)
+    (unless-early States (all (goodNext K) (statesOf K (drop 4 xs))) _ (inl (omega arith)) (done-early _)))))
 
 pub run-length-early : (xs : List ℕ) (r : Refusal) → readRunLength xs ≡ refused r → Early r
 unfolding readRunLength
 run-length-early xs =
-    unless-early Length (eqb (length xs) 5) _ early-8
-    (unless-early Parameters (goodParameters (getD xs 2 0) (getD xs 3 0) (getD xs 4 0)) _ early-1
-    (unless-early States (leb (getD xs 0 0) (getD xs 1 0) && leb (getD xs 1 0) 15) _ early-2 (done-early _)))
+    unless-early Length (eqb (length xs) 5) _ (inr refl)
+    (unless-early Parameters (goodParameters (getD xs 2 0) (getD xs 3 0) (getD xs 4 0)) _ (inl (omega arith))
+    (unless-early States (leb (getD xs 0 0) (getD xs 1 0) && leb (getD xs 1 0) 15) _ (inl (omega arith)) (done-early _)))

@@ -2,7 +2,7 @@
 -- In order: weighs-some; window-small, compile-done; not-none; heavy-exact, crowded-exact, window-exact; not-short;
 -- refusals.
 -- Assumes nothing.
-use Rattle.laws.proofs.All.{_≡_, sym, ap, subst, _∙_, inl, inr, _↔_, List, ℕ, _≤_, _<_, arith, decLt, leb, le→leb}
+use Rattle.laws.proofs.All.{_≡_, sym, ap, subst, _∙_, inl, inr, _↔_, List, ℕ, _≤_, _<_, arith, decLt, le-leb}
 use Rattle.laws.proofs.All.{le-ltb, lt-ltb, length, getD, sum}
 use Rattle.answer.specs.declared.Refusal.{Refusal}
 use Rattle.answer.specs.declared.Refusal.the-variants.{NoCode, TooHeavy, TooManyEdges, NoWindow, ShortOutput}
@@ -48,8 +48,7 @@ module _ (j : Job) where
       → compile j ≡ done (code j (tableFor j))
   compile-done h l few y hm ha w =
       compile-table j h l (le-ltb 2048 (length (finishedOf j .arcs)) few)
-      ∙ unless-true NoWindow (leb (window (tableFor j) .memory) 15) (done (code j (tableFor j)))
-      (le→leb (window (tableFor j) .memory) 15 (window-small y hm ha w))
+      ∙ rw (le-leb (window (tableFor j) .memory) 15 (window-small y hm ha w))
 
   -- a refusal other than 3 comes only where the component weighs something
   not-none : (r : Refusal) → (numberOf r ≡ 3 → ⊥) → compile j ≡ refused r → 0 < sum (componentOf j .weights)
@@ -72,13 +71,10 @@ module _ (j : Job) where
       ↔ ((0 < sum (componentOf j .weights)) × (sum (componentOf j .weights) ≤ 128)
       × (2048 < length (finishedOf j .arcs)))
   crowded-exact = (
-    (λ e. let (l, k) = there (subst (Reason j) e (reason j)) in (not-none TooManyEdges other e, l, k)),
+    (λ e. let (l, k) = there (subst (Reason j) e (reason j)) in (not-none TooManyEdges (λ n. omega arith) e, l, k)),
     (λ (h, l, k). compile-crowded j h l (lt-ltb 2048 (length (finishedOf j .arcs)) k)),
   )
     where
-      other : numberOf TooManyEdges ≡ 3 → ⊥
-      other e = omega arith
-
       there : Reason j (refused TooManyEdges)
           → (sum (componentOf j .weights) ≤ 128) × (2048 < length (finishedOf j .arcs))
       there (crowding l k) = (l, k)
@@ -90,15 +86,12 @@ module _ (j : Job) where
       × ((y : Size) → y .memory ≤ 15 → y .lookahead ≤ 15 → Window (tableFor j) y → ⊥))
   window-exact a = (
     (λ e.
-        let h = not-none NoWindow other e in
+        let h = not-none NoWindow (λ n. omega arith) e in
         let (l, few) = there (subst (Reason j) e (reason j)) in
         (h, l, few, no-window-exact j a h l few .0 e)),
     (λ (h, l, few, f). no-window-exact j a h l few .1 f),
   )
     where
-      other : numberOf NoWindow ≡ 3 → ⊥
-      other e = omega arith
-
       there : Reason j (refused NoWindow)
           → (sum (componentOf j .weights) ≤ 128) × (length (finishedOf j .arcs) ≤ 2048)
       there (windowless l few _) = (l, few)

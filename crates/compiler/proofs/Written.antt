@@ -30,13 +30,10 @@ use Rattle.compiler.proofs.Exact.{weighs-some, compile-done, not-short}
 
 -- o is the reading of a job
 module _ (o : Outcome Job) (early : (r : Refusal) → o ≡ refused r → Early r) (room : ℕ) where
-  into : (j : Job) → o ≡ done j → onward o (compileInto room) ≡ onward (compile j) (λ c. packInto c room)
-  into j e = ap (λ p. onward p (compileInto room)) e
-
   into-code : (j : Job) (c : Code) → o ≡ done j → compile j ≡ done c
       → onward o (compileInto room) ≡ fitting room (pack c)
   unfolding packInto
-  into-code j c e k = into j e ∙ ap (λ p. onward p (λ c. packInto c room)) k
+  into-code j c e k = rw (e, k)
 
   written-from : (j : Job) → o ≡ done j → 0 < sum (componentOf j .weights) → sum (componentOf j .weights) ≤ 128
       → length (finishedOf j .arcs) ≤ 2048
@@ -47,60 +44,42 @@ module _ (o : Outcome Job) (early : (r : Refusal) → o ≡ refused r → Early 
       into-code j (code j (tableFor j)) e (compile-done j h l few y hm ha w)
       ∙ fitting-true room (pack (code j (tableFor j))) k
 
+  -- a refusal that reading does not give comes from compiling or from the room
+  from-refused : (r : Refusal) → (Early r → ⊥) → onward o (compileInto room) ≡ refused r
+      → (j : Job) × (o ≡ done j)
+      × ((compile j ≡ refused r) ⊎ ((c : Code) × (compile j ≡ done c) × (packInto c room ≡ refused r)))
+  from-refused r n e = elim (onward-refused o (compileInto room) r e) [
+    | inl q ↦ absurd (n (early r q))
+    | inr (j, p, q) ↦ (j, p, onward-refused (compile j) (λ c. packInto c room) r q)
+  ]
+
   -- 3 to 6 come from compiling
   refused-from : (r : Refusal) → 3 ≤ numberOf r → numberOf r ≤ 6
       → (onward o (compileInto room) ≡ refused r) ↔ ((j : Job) × (o ≡ done j) × (compile j ≡ refused r))
   unfolding packInto
-  refused-from r l h = (
-    (λ e. first (onward-refused o (compileInto room) r e)),
-    (λ (j, p, q). into j p ∙ ap (λ x. onward x (λ c. packInto c room)) q),
-  )
+  refused-from r l h = (there, (λ (j, p, q). rw (p, q)))
     where
-      number : (r′ : Refusal) → r ≡ r′ → numberOf r ≡ numberOf r′
-      number r′ e = ap numberOf e
-
-      not-early : (numberOf r < 3) ⊎ (numberOf r ≡ 8) → ⊥
-      not-early (inl k) = omega arith
-      not-early (inr k) = omega arith
-
-      second : (j : Job) → o ≡ done j
-          → (compile j ≡ refused r) ⊎ ((c : Code) × (compile j ≡ done c) × (packInto c room ≡ refused r))
-          → (j : Job) × (o ≡ done j) × (compile j ≡ refused r)
-      second j p (inl q) = (j, p, q)
-      second j p (inr (c, _, q)) =
-          let n : numberOf r ≡ 13 = number ShortOutput (fitting-refused room (pack c) r q .0) in
-          absurd (omega arith)
-
-      first : (o ≡ refused r) ⊎ ((j : Job) × (o ≡ done j) × (compileInto room j ≡ refused r))
-          → (j : Job) × (o ≡ done j) × (compile j ≡ refused r)
-      first (inl q) = absurd (not-early (early r q))
-      first (inr (j, p, q)) = second j p (onward-refused (compile j) (λ c. packInto c room) r q)
+      there : onward o (compileInto room) ≡ refused r → (j : Job) × (o ≡ done j) × (compile j ≡ refused r)
+      there e =
+          let (j, p, s) = from-refused r (λ k. elim k [ inl u ↦ omega arith | inr u ↦ omega arith ]) e in elim s [
+            | inl q ↦ (j, p, q)
+            | inr (c, _, q) ↦ absurd (let n = ap numberOf (fitting-refused room (pack c) r q .0) in omega arith)
+          ]
 
   -- 13 comes from the room
   short-from : (onward o (compileInto room) ≡ refused ShortOutput)
       ↔ ((j : Job) × (c : Code) × (o ≡ done j) × (compile j ≡ done c) × (room < length (pack c)))
   unfolding packInto
-  short-from = (
-    (λ e. first (onward-refused o (compileInto room) ShortOutput e)),
-    (λ (j, c, p, q, h). into-code j c p q
-        ∙ unless-false ShortOutput (leb (length (pack c)) room) (done (pack c)) (lt-leb (length (pack c)) room h)),
-  )
+  short-from = (there, (λ (j, c, p, q, h). rw (p, q, lt-leb (length (pack c)) room h)))
     where
-      not-early : (numberOf ShortOutput < 3) ⊎ (numberOf ShortOutput ≡ 8) → ⊥
-      not-early (inl k) = omega arith
-      not-early (inr k) = omega arith
-
-      second : (j : Job) → o ≡ done j
-          → (compile j ≡ refused ShortOutput)
-          ⊎ ((c : Code) × (compile j ≡ done c) × (packInto c room ≡ refused ShortOutput))
+      there : onward o (compileInto room) ≡ refused ShortOutput
           → (j : Job) × (c : Code) × (o ≡ done j) × (compile j ≡ done c) × (room < length (pack c))
-      second j p (inl q) = absurd (not-short j q)
-      second j p (inr (c, q, k)) = (j, c, p, q, fitting-refused room (pack c) ShortOutput k .1)
-
-      first : (o ≡ refused ShortOutput) ⊎ ((j : Job) × (o ≡ done j) × (compileInto room j ≡ refused ShortOutput))
-          → (j : Job) × (c : Code) × (o ≡ done j) × (compile j ≡ done c) × (room < length (pack c))
-      first (inl q) = absurd (not-early (early ShortOutput q))
-      first (inr (j, p, q)) = second j p (onward-refused (compile j) (λ c. packInto c room) ShortOutput q)
+      there e =
+          let (j, p, s) = from-refused ShortOutput (λ k. elim k [ inl u ↦ omega arith | inr u ↦ omega arith ]) e in
+          elim s [
+            | inl q ↦ absurd (not-short j q)
+            | inr (c, q, k) ↦ (j, c, p, q, fitting-refused room (pack c) ShortOutput k .1)
+          ]
 
   module _ (allowed : (j : Job) → o ≡ done j → Allowed j) where
     none-from : (onward o (compileInto room) ≡ refused NoCode)

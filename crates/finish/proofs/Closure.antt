@@ -7,7 +7,7 @@ use Rattle.laws.proofs.All.{[], _∷_, map, ℕ, _-_, _%_, _<_, arith, ℕ-disc
 use Rattle.laws.proofs.All.{eqb-refl, length, getD, take, set, length-set, getD-set-other, range, filter, any}
 use Rattle.laws.proofs.All.{concat, member, Each, or→, →orL, →orR, bool-eq, range-at, length-from, each-map}
 use Rattle.laws.proofs.All.{each-both, each-filter, each-take, each-any, any-each, any-map, each-union, each-range}
-use Rattle.laws.proofs.All.{each-at, union-each, length-map-range, filter-same, map-take}
+use Rattle.laws.proofs.All.{each-for, length-map-range, filter-same, map-take}
 use Rattle.graph.specs.declared.Graph.{Graph}
 use Rattle.graph.specs.Arcs.{Arc, leaves, enters, out}
 use Rattle.graph.specs.Splitting.{sort}
@@ -17,8 +17,8 @@ use Rattle.graph.specs.Invariant.{Inside, Stays}
 use Rattle.graph.specs.Value.{arcsIn, weightAt, weightsIn, workIn}
 use Rattle.order.specs.EdgeKeys.{arcOf, keysFrom, admitted, firstKeys}
 use Rattle.finish.specs.Finishing.{Finished, enteredBy}
-use Rattle.graph.proofs.Reach.{Reaching, reaches-is, reach-trans, reach-edge}
-use Rattle.graph.proofs.Candidates.{each-sort}
+use Rattle.graph.proofs.Reach.{Reaching, reaches-is}
+use Rattle.finish.proofs.Rows.{row-each, reach-row}
 use Rattle.order.proofs.EdgeOrder.{sort-keys, keys-small, weights-small}
 use Rattle.graph.proofs.Values.{fits-arcs, Bounded}
 
@@ -47,42 +47,20 @@ module _ (n : ℕ) (g : Graph) (F : Finished n g) where
   abbrev K : ℕ
   K = g .states
 
-  abbrev es : List Arc
-  es = firstEdges n (workIn g)
+  i : Each (Inside K) (arcsIn g)
+  i = each-map (Bounded K) (Inside K) (λ e b. (b .0, b .1)) (arcsIn g) (fits-arcs g (F .fits))
 
   abbrev reach : ℕ → ℕ → Bool
-  reach = reaches (reachings K es)
+  reach = reaches (reachings K (concat (map (row n (arcsIn g)) (range K))))
 
-  states-are : length (weightsIn g) ≡ K
-  states-are = length-map-range (weightAt g) (g .states)
+  reach-is : (s t : ℕ) → reaches (reachings K (firstEdges n (workIn g))) s t ≡ reach s t
+  reach-is s t = rw (length-map-range (weightAt g) (g .states))
 
   pub row-inside : (s : ℕ) → Each (λ e. Inside K e × (e .source ≡ s)) (row n (arcsIn g) s)
-  row-inside s =
-      each-take _ n (sort (out (arcsIn g) s))
-      (each-sort (λ e. Inside K e × (e .source ≡ s)) (out (arcsIn g) s)
-      (each-filter (λ e. Inside K e × (e .source ≡ s)) (leaves s) (arcsIn g)
-      (each-map (Bounded K) _ (λ e b t. ((b .0, b .1), eqb→eq (e .source) s t)) (arcsIn g) (fits-arcs g (F .fits)))))
+  row-inside = row-each n (arcsIn g) (Inside K) i
 
-  es-rows : es ≡ concat (map (row n (arcsIn g)) (range K))
-  es-rows = ap (λ m. concat (map (row n (arcsIn g)) (range m))) states-are
-
-  inside : Each (Inside K) es
-  inside =
-      subst (Each (Inside K)) (sym es-rows) (each-union (Inside K) (row n (arcsIn g)) (range K)
-      (each-map (λ s. s < K) _ (λ s h. each-map _ (Inside K) (λ e b. b .0) (row n (arcsIn g) s) (row-inside s))
-      (range K)
-      (each-range K)))
-
-  R : Reaching K es reach
-  R = reaches-is K es
-
-  row-reach : (s : ℕ) → s < K → Each (λ e. T (reach (e .source) (e .target))) (row n (arcsIn g) s)
-  row-reach s h =
-      subst (λ x. Each (λ e. T (reach (e .source) (e .target))) (row n (arcsIn g) x)) (range-at K s h)
-      (each-at (λ s. Each (λ e. T (reach (e .source) (e .target))) (row n (arcsIn g) s)) 0 (range K)
-      (union-each (λ e. T (reach (e .source) (e .target))) (row n (arcsIn g)) (range K)
-      (subst (Each (λ e. T (reach (e .source) (e .target)))) es-rows (reach-edge K es reach R inside)))
-      s (rw (length-from 0 K) h))
+  R : Reaching K (concat (map (row n (arcsIn g)) (range K))) reach
+  R = reaches-is K (concat (map (row n (arcsIn g)) (range K)))
 
   pub record Forward (S D : List Bool) : Type 0 where
     pub longS : length S ≡ 128
@@ -112,23 +90,11 @@ module _ (n : ℕ) (g : Graph) (F : Finished n g) where
     grows : (x : ℕ) → T (member S x) → T (member S′ x)
     grows x t = rw (marks-row x) (→orL (member S x) (any (enters x) (row n (arcsIn g) s)) t)
 
-    each-entered : (r : List Arc) → ((e : Arc)
-        → Each (λ f. T (enters (e .target) f) → T (any (enters (e .target)) r)) r)
-        → Each (λ e. T (any (enters (e .target)) r)) r
-    each-entered r f = go r (λ e. f e)
-      where
-        go : (l : List Arc) → ((e : Arc) → Each (λ f. T (enters (e .target) f) → T (any (enters (e .target)) r)) l)
-            → Each (λ e. T (any (enters (e .target)) r)) l
-        go [] h = tt
-        go (x ∷ l) h = (h x .0 (eqb-refl (x .target)), go l (λ e. h e .1))
-
     own : Each (λ e. T (member S′ (e .target))) (row n (arcsIn g) s)
-    own =
-        each-map (λ e. T (any (enters (e .target)) (row n (arcsIn g) s))) (λ e. T (member S′ (e .target)))
-        (λ e t. rw (marks-row (e .target))
-        (→orR (member S (e .target)) (any (enters (e .target)) (row n (arcsIn g) s)) t))
-        (row n (arcsIn g) s)
-        (each-entered (row n (arcsIn g) s) (λ e. each-any (enters (e .target)) (row n (arcsIn g) s)))
+    own = let r = row n (arcsIn g) s in
+        each-map _ (λ e. T (member S′ (e .target))) (λ e f. rw (marks-row (e .target))
+        (→orR (member S (e .target)) (any (enters (e .target)) r) (f (e .target) (eqb-refl (e .target))))) r
+        (each-for (λ y e. T (enters y e) → T (any (enters y) r)) r (λ y. each-any (enters y) r))
 
     pub forward-step : Forward S′ (set D s true)
     forward-step = record {
@@ -149,19 +115,16 @@ module _ (n : ℕ) (g : Graph) (F : Finished n g) where
         found : (t : ℕ) → t < K → T (member S t) ⊎ T (any (enters t) (row n (arcsIn g) s)) → T (reach 0 t)
         found t h (inl u) = c .sound t h u
         found t h (inr u) =
-            let (e, q, (a, b)) = any-each (enters t)
-            (λ e. T (reach (e .source) (e .target)) × (Inside K e × (e .source ≡ s)))
-            (row n (arcsIn g) s) u
-            (each-both (λ e. T (reach (e .source) (e .target))) (λ e. Inside K e × (e .source ≡ s)) (row n (arcsIn g) s)
-            (row-reach s hs) (row-inside s)) in
-            let p : e .target ≡ t = eqb→eq (e .target) t q in
-            reach-trans K es reach R inside 0 s t hs h (c .sound s hs in-S)
-            (subst (λ y. T (reach y t)) (b .1) (subst (λ y. T (reach (e .source) y)) p a))
+            let (e, q, (_, r)) = any-each (enters t) (λ e. Inside K e × T (reach 0 (e .target))) (row n (arcsIn g) s) u
+            (reach-row n K (arcsIn g) i s hs (c .sound s hs in-S)) in
+            rw (eqb→eq (e .target) t q) at r
 
   pub forward-end : (S D : List Bool) → Forward S D
-      → ((s : ℕ) → s < K → (member S s && not (member D s)) ≡ false) → (t : ℕ) → t < K → member S t ≡ reach 0 t
+      → ((s : ℕ) → s < K → (member S s && not (member D s)) ≡ false) → (t : ℕ) → t < K
+      → member S t ≡ reaches (reachings K (firstEdges n (workIn g))) 0 t
   forward-end S D c f t h =
       bool-eq (member S t) (reach 0 t) (c .sound t h) (λ u. R .sound t h (member S) stays 0 u (c .zeroth))
+      ∙ sym (reach-is 0 t)
     where
       done : (s : ℕ) → s < K → T (member S s) → T (member D s)
       done s h t = go (member S s) (member D s) t (f s h)
@@ -171,18 +134,14 @@ module _ (n : ℕ) (g : Graph) (F : Finished n g) where
           go true false u e = absurd (subst T e tt)
           go false b u e = absurd u
 
-      one : (s : ℕ) → s < K → (b : Bool) → member S s ≡ b → Each (Stays (member S)) (row n (arcsIn g) s)
-      one s h true e =
-          each-map (λ a. T (member S (a .target))) (Stays (member S)) (λ a u v. u) (row n (arcsIn g) s)
-          (c .closed s h (done s h (rw e tt)))
-      one s h false e =
-          each-map (λ a. Inside K a × (a .source ≡ s)) (Stays (member S))
-          (λ a b v. absurd (subst T (ap (member S) (b .1) ∙ e) v)) (row n (arcsIn g) s) (row-inside s)
+      one : (s : ℕ) → s < K → Each (Stays (member S)) (row n (arcsIn g) s)
+      one s h = let r = row n (arcsIn g) s in
+          each-map _ (Stays (member S)) (λ e p t. p .1 (rw (p .0 .1) at t)) r (each-both _ _ r (row-inside s)
+          (each-for (λ (t : T (member S s)) e. T (member S (e .target))) r (λ t. c .closed s h (done s h t))))
 
-      stays : Each (Stays (member S)) es
-      stays =
-          subst (Each (Stays (member S))) (sym es-rows) (each-union (Stays (member S)) (row n (arcsIn g)) (range K)
-          (each-map (λ s. s < K) _ (λ s h. one s h (member S s) refl) (range K) (each-range K)))
+      stays : Each (Stays (member S)) (concat (map (row n (arcsIn g)) (range K)))
+      stays = each-union (Stays (member S)) (row n (arcsIn g)) (range K)
+          (each-map (λ s. s < K) _ (λ s h. one s h) (range K) (each-range K))
 
 -- the first edges of a state that is reached lead to states that are
 module _ (n : ℕ) (g : Graph) (F : Finished n g) (S : List Bool)
@@ -190,14 +149,6 @@ module _ (n : ℕ) (g : Graph) (F : Finished n g) (S : List Bool)
   pub row-stays : (s : ℕ) → s < g .states → T (member S s)
       → Each (λ e. T (member S (e .target)) × (e .target < g .states)) (row n (arcsIn g) s)
   row-stays s h u =
-      each-map _ (λ e. T (member S (e .target)) × (e .target < g .states))
-      (λ e b. (
-        rw (is (e .target) (b .1 .0 .1))
-            (reach-trans (g .states) (es n g F) (reach n g F) (R n g F) (inside n g F) 0 s (e .target) h (b .1 .0 .1)
-            (rw (is s h) at u) (subst (λ y. T (reach n g F y (e .target))) (b .1 .1) (b .0))),
-        b .1 .0 .1,
-      ))
-      (row n (arcsIn g) s)
-      (each-both (λ e. T (reach n g F (e .source) (e .target))) (λ e. Inside (g .states) e × (e .source ≡ s))
-      (row n (arcsIn g) s)
-      (row-reach n g F s h) (row-inside n g F s))
+      each-map (λ e. Inside (g .states) e × T (reach n g F 0 (e .target))) _
+      (λ e b. (rw (is (e .target) (b .0 .1) ∙ reach-is n g F 0 (e .target)) (b .1), b .0 .1)) (row n (arcsIn g) s)
+      (reach-row n (g .states) (arcsIn g) (i n g F) s h (rw (is s h ∙ reach-is n g F 0 s) at u))

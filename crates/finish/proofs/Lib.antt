@@ -1,3 +1,4 @@
+pub mod Rows
 pub mod TableOf
 pub mod Marks
 pub mod Closure

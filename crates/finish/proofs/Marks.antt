@@ -11,16 +11,14 @@ use Rattle.finish.specs.Finishing.{enteredBy}
 pub any-take-more : (p : ℕ → Bool) (L : List ℕ) (i : ℕ) → i < length L
     → any p (take (i + 1) L) ≡ (any p (take i L) || p (getD L i 0))
 any-take-more p L i h =
-    ap (any p) (ap (λ n. take n L) (add-one i) ∙ take-suc L i 0 h) ∙ any-append p (take i L) (getD L i 0 ∷ [])
-    ∙ ap (λ b. any p (take i L) || b) (or-false (p (getD L i 0)))
+    rw (add-one, take-suc L i 0, any-append p) (ap (λ b. any p (take i L) || b) (or-false (p (getD L i 0))))
 
 pub mark-more : (S R : List Bool) (K : List ℕ) (i : ℕ) → length R ≡ 128 → i < length K → getD K i 0 % 128 < 128
     → ((x : ℕ) → member R x ≡ (member S x || any (enteredBy x) (take i K)))
     → (x : ℕ) → member (set R (getD K i 0 % 128) true) x ≡ (member S x || any (enteredBy x) (take (i + 1) K))
 mark-more S R K i l h b f x =
-    put-member R (getD K i 0 % 128) x (rw l b) ∙ ap (λ c. c || eqb (getD K i 0 % 128) x) (f x)
-    ∙ or-assoc (member S x) (any (enteredBy x) (take i K)) (enteredBy x (getD K i 0))
-    ∙ ap (λ c. member S x || c) (sym (any-take-more (enteredBy x) K i h))
+    put-member R (getD K i 0 % 128) x (rw l b)
+    ∙ rw (f x, any-take-more (enteredBy x) K i h) (or-assoc (member S x) (any (enteredBy x) (take i K)) _)
 
 -- ---- one more state is done
 pub missing-put : (D : List Bool) (s : ℕ) → s < length D → member D s ≡ false → missing (set D s true) < missing D

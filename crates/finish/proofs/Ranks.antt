@@ -4,6 +4,7 @@
 use Rattle.laws.proofs.All.{_≡_, refl, ap, subst, _∙_, Bool, true, false, List, [], _∷_, ℕ, zero, suc, _+_, _-_}
 use Rattle.laws.proofs.All.{_≤_, arith, length, length-append, member}
 use Rattle.finish.specs.Finishing.{rank}
+use Rattle.graph.proofs.Values.{climbs}
 use Rattle.graph.proofs.UpTo.{upTo, upTo-yes, upTo-no}
 
 module _ (S : List Bool) where
@@ -23,16 +24,8 @@ module _ (S : List Bool) where
   rank-step t true e = omega (arith, rank-yes t e)
   rank-step t false e = omega (arith, rank-no t e)
 
-  rank-add : (t d : ℕ) → rank S t ≤ rank S (t + d)
-  rank-add t zero = let e : t + 0 ≡ t = omega arith in rw e (omega arith)
-  rank-add t (suc d) =
-      let e : t + suc d ≡ t + d + 1 = omega arith in
-      rw e (omega (arith, rank-add t d, rank-step (t + d) (member S (t + d)) refl))
-
   pub rank-le : (t k : ℕ) → t ≤ k → rank S t ≤ rank S k
-  rank-le t k h =
-      let e : t + (k - t) ≡ k = omega arith in
-      subst (λ n. rank S t ≤ rank S n) e (rank-add t (k - t))
+  rank-le = climbs (rank S) (λ t. rank-step t (member S t) refl)
 
 pub rank-small : (S : List Bool) (t : ℕ) → rank S t ≤ t
 rank-small S zero = omega (arith, rank-none S)

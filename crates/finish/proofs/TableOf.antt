@@ -2,7 +2,7 @@
 -- In order: Tabled, table-length, tabled, reached-first.
 -- Assumes nothing.
 use Rattle.laws.proofs.All.{_≡_, refl, ap, _∙_, Bool, true, false, List, [], _∷_, map, ℕ, zero, suc, _≤_, _<_}
-use Rattle.laws.proofs.All.{zero-le, suc-le-suc, not-suc-le-zero, T, eqb→eq, length, getD, length-map}
+use Rattle.laws.proofs.All.{zero-le, suc-le-suc, not-suc-le-zero, T, eqb→eq, length, getD, length-map, T→true}
 use Rattle.laws.proofs.All.{length-take-le, if_then_else_, from, range, filter, concat, elem, indexOf, getD-map-lt}
 use Rattle.laws.proofs.All.{Each, each-map, each-always, each-both, each-filter, each-take, each-union, each-range}
 use Rattle.laws.proofs.All.{union-each, each-elem, elem-each, elem-filter, →elem-filter, each-at, elem-range}
@@ -13,9 +13,9 @@ use Rattle.graph.specs.Arcs.{Arc, arc, Work, leaves, out}
 use Rattle.graph.specs.Splitting.{sort}
 use Rattle.graph.specs.Component.{reachings, reaches}
 use Rattle.table.specs.Rows.{Edge, edge, Rows, edges, at}
-use Rattle.finish.specs.TableOf.{row, tableStates, named, tableOf}
-use Rattle.graph.proofs.Candidates.{each-sort}
-use Rattle.graph.proofs.Reach.{reaches-is, reach-trans, reach-edge}
+use Rattle.finish.specs.TableOf.{row, firstEdges, tableStates, named, tableOf}
+use Rattle.graph.proofs.Reach.{reaches-is}
+use Rattle.finish.proofs.Rows as rows
 
 -- a table of rows of n edges, whose edges lie over P under the roots; the root of state 0 is 0
 pub record Tabled (P : ℕ → ℕ → ℕ → Type 0) (n : ℕ) (t : Rows) (root : ℕ → ℕ) : Type 0 where
@@ -28,27 +28,11 @@ module _ (n : ℕ) (x : Work) (i : Each (Inside (length (x .weights))) (x .arcs)
   abbrev K : ℕ
   K = length (x .weights)
 
-  abbrev firsts : List Arc
-  firsts = concat (map (row n (x .arcs)) (range K))
-
   abbrev reach : ℕ → ℕ → Bool
-  reach = reaches (reachings K firsts)
+  reach = rows.reach n (length (x .weights)) (x .arcs) i
 
   abbrev S : List ℕ
   S = tableStates n x
-
-  -- what holds of each edge holds of each in a row, and those start at the row's state
-  row-each : (P : Arc → Type 0) → Each P (x .arcs) → (s : ℕ) → Each (λ e. P e × (e .source ≡ s)) (row n (x .arcs) s)
-  row-each P h s =
-      each-take _ n (sort (out (x .arcs) s))
-      (each-sort _ (out (x .arcs) s)
-      (each-filter (λ e. P e × (e .source ≡ s)) (leaves s) (x .arcs)
-      (each-map P _ (λ e p t. (p, eqb→eq (e .source) s t)) (x .arcs) h)))
-
-  inside-firsts : Each (Inside K) firsts
-  inside-firsts = each-union (Inside K) (row n (x .arcs)) (range K)
-      (each-always _ (λ s. each-map _ (Inside K) (λ e h. h .0) (row n (x .arcs) s) (row-each (Inside K) i s))
-      (range K))
 
   S-lt : (s : ℕ) → T (elem s S) → s < K
   unfolding tableStates tableOf
@@ -56,38 +40,30 @@ module _ (n : ℕ) (x : Work) (i : Each (Inside (length (x .weights))) (x .arcs)
 
   zero-in : T (elem 0 S)
   unfolding tableStates tableOf
-  zero-in = →elem-filter (reach 0) 0 (range K) (elem-range K 0 pos) (reaches-is K firsts .self 0 pos)
+  zero-in = →elem-filter (reach 0) 0 (range K) (elem-range K 0 pos) (reaches-is K (rows.firsts n K (x .arcs) i) .self 0 pos)
 
   -- the first edges of a state reached lead to states reached
   row-stays : (s : ℕ) → T (elem s S) → Each (λ e. T (elem (e .target) S)) (row n (x .arcs) s)
   unfolding tableStates tableOf
   row-stays s t =
-      each-map _ (λ e. T (elem (e .target) S)) go (row n (x .arcs) s)
-      (each-both _ _ (row n (x .arcs) s) (row-each (Inside K) i s)
-      (elem-each (λ s. Each (λ e. T (reach (e .source) (e .target))) (row n (x .arcs) s)) s (range K)
-      (elem-range K s (S-lt s t))
-      (union-each (λ e. T (reach (e .source) (e .target))) (row n (x .arcs)) (range K)
-      (reach-edge K firsts reach (reaches-is K firsts) inside-firsts))))
-    where
-      go : (e : Arc) → (Inside K e × (e .source ≡ s)) × T (reach (e .source) (e .target)) → T (elem (e .target) S)
-      go e ((k, p), r) =
-          →elem-filter (reach 0) (e .target) (range K) (elem-range K (e .target) (k .1))
-          (reach-trans K firsts reach (reaches-is K firsts) inside-firsts 0 (e .source) (e .target) (k .0) (k .1)
-          (rw p (elem-filter (reach 0) s (range K) t .0)) r)
+      each-map _ (λ e. T (elem (e .target) S))
+      (λ e h. →elem-filter (reach 0) (e .target) (range K) (elem-range K (e .target) (h .0 .1)) (h .1))
+      (row n (x .arcs) s)
+      (rows.reach-row n K (x .arcs) i s (S-lt s t) (elem-filter (reach 0) s (range K) t .0))
 
-  abbrev rows : ℕ → List Edge
-  rows s = map (named S) (row n (x .arcs) s)
+  abbrev edgesAt : ℕ → List Edge
+  edgesAt s = map (named S) (row n (x .arcs) s)
 
   pub table-length : length (tableOf n x) ≡ length S
   unfolding tableStates tableOf
-  table-length = length-map S rows
+  table-length = length-map S edgesAt
 
   S-at : (j : ℕ) → j < length S → T (elem (getD S j 0) S)
   S-at j h = each-at (λ s. T (elem s S)) 0 S (each-elem S) j h
 
-  edges-are : (j : ℕ) → j < length S → edges (tableOf n x) j ≡ rows (getD S j 0)
+  edges-are : (j : ℕ) → j < length S → edges (tableOf n x) j ≡ edgesAt (getD S j 0)
   unfolding tableStates tableOf
-  edges-are j h = getD-map-lt rows S j 0 [] h
+  edges-are j h = getD-map-lt edgesAt S j 0 [] h
 
   positive-length : (l : List ℕ) (y : ℕ) → T (elem y l) → 0 < length l
   positive-length [] y t = absurd t
@@ -100,9 +76,8 @@ module _ (n : ℕ) (x : Work) (i : Each (Inside (length (x .weights))) (x .arcs)
     at-is : (j d : ℕ) → j < length S → d < n
         → at (tableOf n x) j d ≡ named S (getD (row n (x .arcs) (getD S j 0)) d (arc 0 0 0))
     at-is j d h k =
-        ap (λ l. getD l d (edge 0 0)) (edges-are j h)
-        ∙ getD-map-lt (named S) (row n (x .arcs) (getD S j 0)) d (arc 0 0 0) (edge 0 0)
-        (rw (row-length (getD S j 0) (S-lt (getD S j 0) (S-at j h))) k)
+        rw (edges-are j h) (getD-map-lt (named S) (row n (x .arcs) (getD S j 0)) d (arc 0 0 0) (edge 0 0)
+        (rw (row-length (getD S j 0) (S-lt (getD S j 0) (S-at j h))) k))
 
     -- an edge of the table, from what holds of the row
     from-row : (P : Arc → Type 0) (j d : ℕ) → j < length S → d < n → Each P (row n (x .arcs) (getD S j 0))
@@ -128,7 +103,7 @@ module _ (n : ℕ) (x : Work) (i : Each (Inside (length (x .weights))) (x .arcs)
               (from-row (λ e. T (elem (e .target) S)
               × (P (r (e .source)) (e .word) (r (e .target)) × (e .source ≡ getD S j 0))) j d k l
               (each-both _ _ (row n (x .arcs) (getD S j 0)) (row-stays (getD S j 0) (S-at j k))
-              (row-each (λ e. P (r (e .source)) (e .word) (r (e .target))) o (getD S j 0)))));
+              (rows.row-each n (x .arcs) (λ e. P (r (e .source)) (e .word) (r (e .target))) o (getD S j 0)))));
         }
       where
         over-row : (j : ℕ) → j < length S → (e : Arc)
@@ -140,20 +115,11 @@ module _ (n : ℕ) (x : Work) (i : Each (Inside (length (x .weights))) (x .arcs)
 pub reached-first : (n : ℕ) (x : Work) → 0 < length (x .weights) → getD (tableStates n x) 0 0 ≡ 0
 unfolding tableStates tableOf
 reached-first n x pos =
-    go (length (x .weights)) pos
-    (reaches-is (length (x .weights)) (concat (map (row n (x .arcs)) (range (length (x .weights))))) .self 0 pos)
+    go (length (x .weights)) pos (reaches-is (length (x .weights)) (firstEdges n x) .self 0 pos)
   where
-    head : (p : ℕ → Bool) (k : ℕ) → T (p 0) → (b : Bool) → p 0 ≡ b
-        → getD (if b then 0 ∷ filter p (from 1 k) else filter p (from 1 k)) 0 0 ≡ 0
-    head p k t true q = refl
-    head p k t false q = absurd (rw q at t)
+    R : List (List Bool)
+    R = reachings (length (x .weights)) (firstEdges n x)
 
-    go : (k : ℕ) → 0 < k → T
-        (reaches (reachings (length (x .weights)) (concat (map (row n (x .arcs)) (range (length (x .weights)))))) 0 0)
-        → getD (filter (reaches
-        (reachings (length (x .weights)) (concat (map (row n (x .arcs)) (range (length (x .weights)))))) 0)
-        (range k)) 0 0 ≡ 0
+    go : (k : ℕ) → 0 < k → T (reaches R 0 0) → getD (filter (reaches R 0) (range k)) 0 0 ≡ 0
     go zero h t = absurd (not-suc-le-zero h)
-    go (suc k) h t = head
-        (reaches (reachings (length (x .weights)) (concat (map (row n (x .arcs)) (range (length (x .weights)))))) 0) k
-        t _ refl
+    go (suc k) h t = rw (T→true (reaches R 0 0) t)
