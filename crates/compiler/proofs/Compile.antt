@@ -80,11 +80,10 @@ greatest-vector j u v =
 
 -- all weights are 0 where the component's are
 weighs-nothing : (j : Job) → Allowed j → sum (componentOf j .weights) ≡ 0 → (s : ℕ) → getD (weightsOf j) s 0 ≡ 0
-weighs-nothing j a z s = go (decLt s (length (weightsOf j)))
-  where
-    go : Dec (s < length (weightsOf j)) → getD (weightsOf j) s 0 ≡ 0
-    go (yes h) = none-weighs (j .constraint) (a .well) (ways j) (j .q) (j .cap) (ways-pos j) z s h
-    go (no h) = List·getD-eq-default (weightsOf j) 0 {n = s} (omega arith)
+weighs-nothing j a z s = elim (decLt s (length (weightsOf j))) [
+  | yes h ↦ none-weighs (j .constraint) (a .well) (ways j) (j .q) (j .cap) (ways-pos j) z s h
+  | no h ↦ List·getD-eq-default (weightsOf j) 0 {n = s} (omega arith)
+]
 
 -- and the component's where all are
 nothing-weighs : (j : Job) → ((s : ℕ) → getD (weightsOf j) s 0 ≡ 0) → sum (componentOf j .weights) ≡ 0

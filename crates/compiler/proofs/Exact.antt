@@ -26,20 +26,18 @@ module _ (j : Job) where
   -- a vector that is not all 0 gives the component weight
   pub weighs-some : Allowed j → (u : List ℕ) → Vector j u → (s : ℕ) → 0 < getD u s 0
       → 0 < sum (componentOf j .weights)
-  weighs-some a u v s h = go (decLt 0 (sum (componentOf j .weights)))
-    where
-      go : Dec (0 < sum (componentOf j .weights)) → 0 < sum (componentOf j .weights)
-      go (yes k) = k
-      go (no k) = let z = no-code-exact j a .0 (compile-none j (omega arith)) u v s in absurd (omega arith)
+  weighs-some a u v s h = elim (decLt 0 (sum (componentOf j .weights))) [
+    | yes k ↦ k
+    | no k ↦ let z = no-code-exact j a .0 (compile-none j (omega arith)) u v s in absurd (omega arith)
+  ]
 
   -- where some window works, one is found
   window-small : (y : Size) → y .memory ≤ 15 → y .lookahead ≤ 15 → Window (tableFor j) y
       → window (tableFor j) .memory ≤ 15
-  window-small y hm ha w = go (window-least (tableFor j))
-    where
-      go : Chosen (tableFor j) (window (tableFor j)) → window (tableFor j) .memory ≤ 15
-      go (inl (s, _, _, _)) = omega arith
-      go (inr (_, f)) = absurd (f y (omega arith) (omega arith) (works-complete (tableFor j) y w))
+  window-small y hm ha w = elim (window-least (tableFor j)) [
+    | inl (s, _, _, _) ↦ omega arith
+    | inr (_, f) ↦ absurd (f y (omega arith) (omega arith) (works-complete (tableFor j) y w))
+  ]
 
   -- the job's code, where none of 3 to 6 is due
   pub compile-done : 0 < sum (componentOf j .weights) → sum (componentOf j .weights) ≤ 128
@@ -52,12 +50,10 @@ module _ (j : Job) where
 
   -- a refusal other than 3 comes only where the component weighs something
   not-none : (r : Refusal) → (numberOf r ≡ 3 → ⊥) → compile j ≡ refused r → 0 < sum (componentOf j .weights)
-  not-none r n e = go (decLt 0 (sum (componentOf j .weights)))
-    where
-      go : Dec (0 < sum (componentOf j .weights)) → 0 < sum (componentOf j .weights)
-      go (yes k) = k
-      go (no k) =
-          absurd (n (ap numberOf (sym (refused-inj NoCode r (sym (compile-none j (omega arith)) ∙ e)))))
+  not-none r n e = elim (decLt 0 (sum (componentOf j .weights))) [
+    | yes k ↦ k
+    | no k ↦ absurd (n (ap numberOf (sym (refused-inj NoCode r (sym (compile-none j (omega arith)) ∙ e)))))
+  ]
 
   -- refusal 4 comes exactly when the component's weights sum to over 128
   pub heavy-exact : (compile j ≡ refused TooHeavy) ↔ (128 < sum (componentOf j .weights))
