@@ -5,7 +5,6 @@ use Rattle.laws.proofs.All.{_≡_, false, ℕ, suc, _<_, T, length, getD, sum, 
 use Rattle.graph.specs.Arcs.{out}
 use Rattle.graph.specs.Component.{within, live, componentStates}
 use Rattle.graph.specs.Splitting.{sort, chosen, candidates, kept, split, goesOn, splits}
-use Rattle.graph.specs.Invariant.{Inv}
 use Rattle.graph.specs.Rule.{Rule}
 use Rattle.graph.specs.Reachable.{IsComponent}
 use Rattle.graph.proofs.Weights.{weights-length}

@@ -8,12 +8,11 @@ use Rattle.answer.specs.declared.Refusal.{Refusal}
 use Rattle.answer.specs.declared.Refusal.the-variants.{NoCode, TooHeavy, TooManyEdges, NoWindow, ShortOutput}
 use Rattle.answer.specs.Refusals.{numberOf}
 use Rattle.answer.specs.Outcomes.{Outcome, done, refused}
-use Rattle.answer.proofs.Outcomes.{unless-true}
 use Rattle.table.specs.Rows.{Size, Code}
 use Rattle.windows.specs.Window.{Window}
 use Rattle.windows.specs.Search.{window}
 use Rattle.windows.proofs.Window.{works-complete}
-use Rattle.windows.proofs.WindowLeast.{Chosen, window-least}
+use Rattle.windows.proofs.WindowLeast.{window-least}
 use Rattle.job.specs.Jobs.{Job, Allowed}
 use Rattle.compiler.specs.Compile.{Vector, componentOf, finishedOf, tableFor, code, compile}
 use Rattle.answer.proofs.RefusedOutcomes.{refused-inj}

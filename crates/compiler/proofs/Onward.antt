@@ -1,11 +1,11 @@
 -- A reading that goes on: what the next stage comes to after a verdict.
 -- In order: read-bad, read-done; ends-bad, goes-on, goes-packed.
 -- Assumes nothing.
-use Rattle.laws.proofs.All.{_≡_, sym, ap, _∙_, List, ℕ, T, length}
+use Rattle.laws.proofs.All.{_≡_, List, ℕ, T, length}
 use Rattle.answer.specs.declared.Refusal.{Refusal}
 use Rattle.answer.specs.declared.Answer.{Answer}
 use Rattle.answer.specs.declared.Answer.the-variants.{Refused}
-use Rattle.answer.specs.Outcomes.{Outcome, done, refused, onward, answerOf, outputOf, verdictOn}
+use Rattle.answer.specs.Outcomes.{Outcome, done, refused, onward, answerOf, outputOf}
 use Rattle.table.specs.Rows.{Code}
 use Rattle.table.specs.declared.Table.{Table}
 use Rattle.table.specs.Value.{codeIn, ready}

@@ -2,13 +2,13 @@
 -- In order: written-from, refused-from, short-from, none-from; as-onward, as-early, as-allowed; written, calls, none,
 -- short, never-short; passes.
 -- Assumes nothing.
-use Rattle.laws.proofs.All.{_≡_, refl, sym, ap, _∙_, _⊎_, inl, inr, _↔_, List, ℕ, _≤_, _<_, arith, leb, lt-leb}
-use Rattle.laws.proofs.All.{length, getD, sum}
+use Rattle.laws.proofs.All.{_≡_, refl, sym, ap, _∙_, _⊎_, inl, inr, _↔_, List, ℕ, _≤_, _<_, arith, lt-leb, length}
+use Rattle.laws.proofs.All.{getD, sum}
 use Rattle.answer.specs.declared.Refusal.{Refusal}
 use Rattle.answer.specs.declared.Refusal.the-variants.{NoCode, ShortOutput}
 use Rattle.answer.specs.Refusals.{numberOf}
 use Rattle.answer.specs.Outcomes.{Outcome, done, refused, onward, fitting}
-use Rattle.answer.proofs.Outcomes.{unless-false, fitting-true}
+use Rattle.answer.proofs.Outcomes.{fitting-true}
 use Rattle.table.specs.Rows.{Size, Code}
 use Rattle.table.proofs.Formed.{formed→}
 use Rattle.windows.specs.Window.{Window}

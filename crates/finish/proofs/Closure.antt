@@ -5,12 +5,10 @@
 use Rattle.laws.proofs.All.{_≡_, refl, sym, ap, subst, _∙_, _⊎_, inl, inr, Bool, true, false, not, _&&_, _||_, List}
 use Rattle.laws.proofs.All.{[], _∷_, map, ℕ, _-_, _%_, _<_, arith, ℕ-discrete, lt-ltb, ne-eqb, T, eqb, eqb→eq}
 use Rattle.laws.proofs.All.{eqb-refl, length, getD, take, set, length-set, getD-set-other, range, filter, any}
-use Rattle.laws.proofs.All.{concat, member, Each, or→, →orL, →orR, bool-eq, range-at, length-from, each-map}
-use Rattle.laws.proofs.All.{each-both, each-filter, each-take, each-any, any-each, any-map, each-union, each-range}
-use Rattle.laws.proofs.All.{each-for, length-map-range, filter-same, map-take}
+use Rattle.laws.proofs.All.{concat, member, Each, or→, →orL, →orR, bool-eq, each-map, each-both, each-any, any-each}
+use Rattle.laws.proofs.All.{any-map, each-union, each-range, each-for, length-map-range, filter-same, map-take}
 use Rattle.graph.specs.declared.Graph.{Graph}
-use Rattle.graph.specs.Arcs.{Arc, leaves, enters, out}
-use Rattle.graph.specs.Splitting.{sort}
+use Rattle.graph.specs.Arcs.{enters}
 use Rattle.graph.specs.Component.{reachings, reaches}
 use Rattle.finish.specs.TableOf.{row, firstEdges}
 use Rattle.graph.specs.Invariant.{Inside, Stays}

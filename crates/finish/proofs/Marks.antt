@@ -2,9 +2,9 @@
 -- In order: any-take-more, mark-more; missing-put; open-set, open-done.
 -- Assumes nothing.
 use Rattle.laws.proofs.All.{_≡_, refl, sym, ap, subst, _∙_, inl, inr, Bool, true, false, not, _&&_, _||_, or-false}
-use Rattle.laws.proofs.All.{or-assoc, List, [], _∷_, ℕ, _+_, _%_, _<_, add-one, arith, T, eqb, length, getD, take}
-use Rattle.laws.proofs.All.{set, length-set, take-suc, getD-set-same, any, member, →orL, any-append, missing}
-use Rattle.laws.proofs.All.{grow-sub, put-member}
+use Rattle.laws.proofs.All.{or-assoc, List, ℕ, _+_, _%_, _<_, add-one, arith, T, eqb, length, getD, take, set}
+use Rattle.laws.proofs.All.{length-set, take-suc, getD-set-same, any, member, →orL, any-append, missing, grow-sub}
+use Rattle.laws.proofs.All.{put-member}
 use Rattle.finish.specs.Finishing.{enteredBy}
 
 -- ---- marking

@@ -1,8 +1,8 @@
 -- How many states of a set are below a state.
 -- In order: rank-none, rank-yes, rank-no, rank-le.
 -- Assumes nothing.
-use Rattle.laws.proofs.All.{_≡_, refl, ap, subst, _∙_, Bool, true, false, List, [], _∷_, ℕ, zero, suc, _+_, _-_}
-use Rattle.laws.proofs.All.{_≤_, arith, length, length-append, member}
+use Rattle.laws.proofs.All.{_≡_, refl, ap, _∙_, Bool, true, false, List, [], _∷_, ℕ, zero, suc, _+_, _-_, _≤_}
+use Rattle.laws.proofs.All.{arith, length, length-append, member}
 use Rattle.finish.specs.Finishing.{rank}
 use Rattle.graph.proofs.Values.{climbs}
 use Rattle.graph.proofs.UpTo.{upTo, upTo-yes, upTo-no}

@@ -1,15 +1,13 @@
 -- The table: each state has n edges, to states of the table, and each is an edge between the roots.
 -- In order: Tabled, table-length, tabled, reached-first.
 -- Assumes nothing.
-use Rattle.laws.proofs.All.{_≡_, refl, ap, _∙_, Bool, true, false, List, [], _∷_, map, ℕ, zero, suc, _≤_, _<_}
-use Rattle.laws.proofs.All.{zero-le, suc-le-suc, not-suc-le-zero, T, eqb→eq, length, getD, length-map, T→true}
-use Rattle.laws.proofs.All.{length-take-le, if_then_else_, from, range, filter, concat, elem, indexOf, getD-map-lt}
-use Rattle.laws.proofs.All.{Each, each-map, each-always, each-both, each-filter, each-take, each-union, each-range}
-use Rattle.laws.proofs.All.{union-each, each-elem, elem-each, elem-filter, →elem-filter, each-at, elem-range}
-use Rattle.laws.proofs.All.{index-lt, at-index}
+use Rattle.laws.proofs.All.{_≡_, _∙_, Bool, true, List, [], _∷_, map, ℕ, zero, suc, _≤_, _<_, zero-le, suc-le-suc}
+use Rattle.laws.proofs.All.{not-suc-le-zero, T, length, getD, length-map, T→true, length-take-le, range, filter}
+use Rattle.laws.proofs.All.{elem, indexOf, getD-map-lt, Each, each-map, each-both, each-range, each-elem, elem-each}
+use Rattle.laws.proofs.All.{elem-filter, →elem-filter, each-at, elem-range, index-lt, at-index}
 use Rattle.graph.proofs.Arcs.{length-sort}
 use Rattle.graph.specs.Invariant.{Inside}
-use Rattle.graph.specs.Arcs.{Arc, arc, Work, leaves, out}
+use Rattle.graph.specs.Arcs.{Arc, arc, Work, out}
 use Rattle.graph.specs.Splitting.{sort}
 use Rattle.graph.specs.Component.{reachings, reaches}
 use Rattle.table.specs.Rows.{Edge, edge, Rows, edges, at}

@@ -1,8 +1,8 @@
 -- Parting a state: the weights of the two parts.
 -- In order: weights′, length′, w-old, w-new, w-other, sum′.
 -- Assumes nothing.
-use Rattle.laws.proofs.All.{_≡_, sym, ap, _∙_, List, [], _∷_, _++_, ℕ, suc, _+_, _-_, _≤_, _<_, arith, length, getD}
-use Rattle.laws.proofs.All.{set, length-append, length-set, List·getD-append, getD-append-seam, getD-set-same}
+use Rattle.laws.proofs.All.{_≡_, _∙_, List, [], _∷_, _++_, ℕ, suc, _+_, _-_, _≤_, _<_, arith, length, getD, set}
+use Rattle.laws.proofs.All.{length-append, length-set, List·getD-append, getD-append-seam, getD-set-same}
 use Rattle.laws.proofs.All.{getD-set-other, sum, sum-append, sum-set}
 
 -- ---- the new weights
