@@ -6,8 +6,8 @@ ghost use lib.ListN.{length, drop};
 ghost use Rattle.laws.specs.Lists.{range};
 ghost use Rattle.table.specs.Edges.{borrowed, rowsOf};
 ghost use Rattle.runs.specs.EdgeRuns.{Laid};
-ghost use Rattle.reading.specs.Reading.{block};
-ghost use Rattle.reading.specs.BlockParts.{under};
+ghost use Rattle.stepping.specs.Reading.{block};
+ghost use Rattle.stepping.specs.BlockParts.{under};
 use reading::blocks::read_block;
 
 // The first `count` blocks of the words in the output.

@@ -16,7 +16,7 @@ use Rattle.checker.specs.Accepted.{Sound}
 use Rattle.table.proofs.Paths.{length-recording, blocks→path, path-words}
 use Rattle.table.proofs.Shape.{words}
 use Rattle.checker.proofs.Acceptance.{sound}
-use Rattle.reading.specs.Reading.{decode}
+use Rattle.stepping.specs.Reading.{decode}
 use Rattle.codec.specs.Answers.{encoded, decoded}
 use Rattle.codec.specs.Damage.{Recording}
 use Rattle.codec.proofs.Damage.{closed-blocks}

@@ -7,7 +7,7 @@ use Rattle.laws.proofs.All.{take-all}
 use Rattle.table.specs.Rows.{Code}
 use Rattle.table.specs.Paths.{Blocks, recording, closing}
 use Rattle.table.proofs.Paths.{length-spells, length-recording, blocks→path}
-use Rattle.reading.specs.Reading.{decode, block}
+use Rattle.stepping.specs.Reading.{decode, block}
 use Rattle.codec.specs.Damage.{StandsClear}
 use Rattle.codec.proofs.Local.{block-local, block-local-start}
 use Rattle.codec.proofs.OneDatum.{one-path}

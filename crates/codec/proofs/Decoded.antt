@@ -6,8 +6,8 @@ use Rattle.table.specs.declared.Table.{Table}
 use Rattle.table.specs.Rows.{Code}
 use Rattle.table.specs.Value.{codeIn}
 use Rattle.table.specs.Edges.{arrays, rowsOf}
-use Rattle.reading.specs.Reading.{block, decode}
-use Rattle.reading.specs.BlockParts.{under}
+use Rattle.stepping.specs.Reading.{block, decode}
+use Rattle.stepping.specs.BlockParts.{under}
 
 pub length-decode : (c : Code) (ws : List ℕ) → length ws - c .window .lookahead ≡ length (decode c ws)
 length-decode c ws = sym (length-map-range (block c ws) (length ws - c .window .lookahead))

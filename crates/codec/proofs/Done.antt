@@ -16,7 +16,7 @@ use Rattle.obeying.specs.Obeys.{obeys}
 use Rattle.record.specs.Checks.{fieldsChecked}
 use Rattle.checker.specs.Parse.{judged, parse, checkedOnly}
 use Rattle.checker.proofs.Parse.{parse-formed}
-use Rattle.reading.specs.Reading.{decode}
+use Rattle.stepping.specs.Reading.{decode}
 use Rattle.codec.specs.Answers.{encoded, decoded, encodeUnder, decodeUnder, encodeChecked, decodeChecked}
 use Rattle.codec.specs.With.{encodedWith, decodedWith}
 use Rattle.codec.proofs.Answers.{→encoded, →decoded}

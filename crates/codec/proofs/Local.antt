@@ -5,7 +5,7 @@ use Rattle.laws.proofs.All.{_≡_, sym, ap, _∙_, Bool, List, ℕ, suc, _+_, _
 use Rattle.laws.proofs.All.{lt-ltb, le-ltb, take-take, getD-take, getD-drop, drop-take, drop-drop}
 use Rattle.table.specs.Rows.{Rows, Code}
 use Rattle.stepping.specs.StateSets.{everyState, oneState, alongAll}
-use Rattle.reading.specs.Reading.{reading, past, block}
+use Rattle.stepping.specs.Reading.{reading, past, block}
 
 -- the datum behind k words of the window W, from the states of S
 abbrev pub readWindow : Rows → List Bool → ℕ → List ℕ → ℕ

@@ -12,7 +12,7 @@ use Rattle.table.proofs.Formed.{formed→}
 use Rattle.checker.proofs.Acceptance.{sound}
 use Rattle.checker.specs.Parse.{parse}
 use Rattle.checker.proofs.Accepted.{parse-exact}
-use Rattle.reading.specs.Reading.{mark, decode}
+use Rattle.stepping.specs.Reading.{mark, decode}
 use Rattle.codec.specs.Answers.{encoded, decoded, encodeUnder, decodeUnder}
 use Rattle.codec.specs.Damage.{StandsClear, Recording}
 use Rattle.codec.proofs.Damage.{recovered}

@@ -10,7 +10,7 @@ use Rattle.laws.proofs.All.{elem-range}
 use Rattle.table.specs.Rows.{edge, Rows, edges, at}
 use Rattle.table.specs.Paths.{ends, Closed}
 use Rattle.stepping.specs.StateSets.{leads, along, alongAll, oneState, able, enters}
-use Rattle.reading.specs.Reading.{readings, readingsOf, reading}
+use Rattle.stepping.specs.Reading.{readings, readingsOf, reading}
 use Rattle.windows.proofs.Same.{Same, AgreeSame}
 
 -- ---- a path by its data and its words

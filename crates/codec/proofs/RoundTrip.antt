@@ -7,7 +7,7 @@ use Rattle.table.specs.Rows.{Code}
 use Rattle.table.specs.Paths.{Blocks, recording}
 use Rattle.checker.specs.Accepted.{Sound}
 use Rattle.table.proofs.Paths.{length-recording}
-use Rattle.reading.specs.Reading.{block, decode}
+use Rattle.stepping.specs.Reading.{block, decode}
 use Rattle.codec.specs.Damage.{StandsClear, Recording}
 use Rattle.codec.proofs.Damage.{recovered}
 

@@ -13,7 +13,7 @@ use Rattle.answer.proofs.FirstBad.{bad-le, below-bad, below-done}
 use Rattle.table.specs.declared.Table.{Table}
 use Rattle.table.specs.Paths.{recording}
 use Rattle.table.specs.Value.{codeIn, ready}
-use Rattle.reading.specs.Reading.{decode}
+use Rattle.stepping.specs.Reading.{decode}
 use Rattle.codec.specs.Answers.{encoded, decoded}
 use Rattle.codec.specs.With.{encodedWith, decodedWith}
 

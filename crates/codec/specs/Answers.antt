@@ -14,7 +14,7 @@ use Rattle.table.specs.Rows.{Code}
 use Rattle.table.specs.Paths.{recording}
 use Rattle.record.specs.Checks.{fieldsChecked}
 use Rattle.checker.specs.Parse.{parse}
-use Rattle.reading.specs.Reading.{decode}
+use Rattle.stepping.specs.Reading.{decode}
 
 -- the recording of blocks: "13, 11"
 unfoldable pub encoded : Code → ℕ → List ℕ → Outcome (List ℕ)

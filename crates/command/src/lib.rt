@@ -1,7 +1,11 @@
 // The command `sbc`: one action for each call of the library, on files.
 ghost use mathlib.Core.Path.{_≡_};
 ghost use Prim.Native.Nat.{_≤_};
-ghost use Rattle.command.specs.Ways.{decoding, wayBy};
+ghost use Rattle.command.specs.Ending.{decoding, wayBy};
+
+mod compiling;
+mod records;
+
 use arguments::Action;
 use arguments::Status;
 use arguments::Way;
@@ -11,7 +15,21 @@ use arguments::shape_of;
 use arguments::status_number;
 use messages::usage::misused;
 use messages::usage::misused_word;
+use messages::usage::print_use;
 use messages::usage::print_version;
+
+// help [ACTION]
+fn help() -> Status {
+    if os::arg_count() < 3 {
+        return print_use(Action::Help);
+    }
+    let mut word = io::buffer();
+    let n = os::arg(2, &mut word);
+    match action_of(&word[..n]) {
+        Action::Unknown => misused_word(Action::Help, &word[..n], b": no such action"),
+        a => print_use(a),
+    }
+}
 
 // Whether a way is decoding, for a call that takes no enum.
 fn is_decoding(w: Way) -> bool
@@ -46,7 +64,7 @@ pub extern "C" fn sbc_action_code(back: bool) -> u32
 pub extern "C" fn sbc_action_set() -> u32
     ensures past { λ r. ⌜ r ≤ 2 ⌝ }
 {
-    status_number(printing::set_file())
+    status_number(records::set_file())
 }
 
 // Does an action; the answer is the exit status.
@@ -58,9 +76,9 @@ fn act(a: Action) -> u32
         Action::CompileJob => status_number(compiling::compile_file()),
         Action::Trace => status_number(compiling::trace_numbers()),
         Action::Collection => sbc_action_set(),
-        Action::Help => status_number(printing::help()),
+        Action::Help => status_number(help()),
         Action::Version => status_number(print_version()),
-        Action::Viewing(v) => status_number(printing::view_file(v)),
+        Action::Viewing(v) => status_number(records::view_file(v)),
         Action::Coding(w) => sbc_action_code(is_decoding(w)),
         Action::Unknown => status_number(misused(Action::Unknown)),
     }

@@ -10,9 +10,9 @@ use Rattle.table.specs.Edges.{Arrays, rowsOf, places, wordOf, nextOf, Fits, bea
 use Rattle.table.proofs.Edges.{bears-edge}
 use Rattle.table.proofs.RowsOf.{length-rows, row-long, edge-at, place, place-state, place-lt, place-edge, place-next}
 use Rattle.stepping.specs.StateSets.{enters}
-use Rattle.reading.specs.Reading.{readingsOf, readings, mark}
+use Rattle.stepping.specs.Reading.{readingsOf, readings, mark}
 use Rattle.stepping.specs.StateSets.{statesIn}
-use Rattle.reading.specs.BlockParts.{joinsAt}
+use Rattle.stepping.specs.BlockParts.{joinsAt}
 use Rattle.stepping.proofs.StateSteps.{member-states}
 
 -- the edge e has the word w and leads from P into A

@@ -5,8 +5,8 @@ use Rattle.laws.proofs.All.{_≡_, sym, ap, ap₂, _∙_, Bool, List, ℕ, _+_,
 use Rattle.laws.proofs.All.{take, drop, slice, if_then_else_, drop-take}
 use Rattle.table.specs.Rows.{Rows}
 use Rattle.stepping.specs.StateSets.{everyState, oneState, alongAll, able}
-use Rattle.reading.specs.Reading.{readings, mark, past, block}
-use Rattle.reading.specs.BlockParts.{under}
+use Rattle.stepping.specs.Reading.{readings, mark, past, block}
+use Rattle.stepping.specs.BlockParts.{under}
 
 module _ (t : Rows) (m a : ℕ) (ws : List ℕ) (i : ℕ) where
   pub past-start : i < m → alongAll t (oneState t 0) (slice (i - m) i ws) ≡ past (under t m a) ws i

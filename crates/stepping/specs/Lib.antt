@@ -1,1 +1,3 @@
 pub mod StateSets
+pub mod Reading
+pub mod BlockParts

@@ -25,7 +25,7 @@ use Rattle.windows.specs.Window.{Window, NoLater}
 use Rattle.obeying.specs.Obeys.{Obeys, Breaks}
 use Rattle.record.specs.Layout.{pack}
 use Rattle.checker.specs.Parse.{parse, judged, checkedOnly}
-use Rattle.reading.specs.Reading.{mark, block, decode}
+use Rattle.stepping.specs.Reading.{mark, block, decode}
 use Rattle.codec.specs.Answers.{encodeUnder, decodeUnder, encodeChecked, decodeChecked}
 use Rattle.codec.specs.With.{encodedWith, decodedWith}
 use Rattle.codec.specs.Found.{found}

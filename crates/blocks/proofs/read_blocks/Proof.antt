@@ -2,8 +2,8 @@
 use Rattle.laws.proofs.All.{_≡_, refl, ap, _∙_, _++_, map, ℕ, _+_, _-_, _≤_, arith, now, length, drop, length-set}
 use Rattle.laws.proofs.All.{range, map-more, needs}
 use Rattle.table.specs.Edges.{arrays, rowsOf}
-use Rattle.reading.specs.Reading.{block}
-use Rattle.reading.specs.BlockParts.{under}
+use Rattle.stepping.specs.Reading.{block}
+use Rattle.stepping.specs.BlockParts.{under}
 use Rattle.blocks.proofs.read_blocks.Statement.{statement}
 use Rattle.blocks.proofs.read_blocks.Tie as tie
 

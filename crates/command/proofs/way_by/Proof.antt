@@ -1,7 +1,7 @@
 -- `way_by` meets its contract, by the flag.
 -- Assumes nothing.
 use Rattle.laws.proofs.All.{sym, ap}
-use Rattle.command.specs.Ways.{wayBy}
+use Rattle.command.specs.Ending.{wayBy}
 use Rattle.command.proofs.way_by.Statement.{statement}
 use Rattle.command.proofs.way_by.Tie as tie
 

@@ -6,7 +6,7 @@ use Rattle.table.specs.Value.{Ready, ready, codeIn}
 use Rattle.table.specs.Edges.{arrays, Fits}
 use Rattle.table.proofs.ReadyTables.{ready→}
 use Rattle.table.proofs.RowsOf.{fits-lent}
-use Rattle.reading.specs.Reading.{decode}
+use Rattle.stepping.specs.Reading.{decode}
 use Rattle.codec.specs.With.{decodedWith}
 use Rattle.codec.proofs.Tabled.{declined, finished, decode-7, decode-12, decode-13, decode-11, decode-done}
 use Rattle.codec.proofs.Decoded.{length-decode, decoded-in}

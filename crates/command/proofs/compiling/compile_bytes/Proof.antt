@@ -3,8 +3,8 @@
 use Rattle.laws.proofs.All.{now, length, needs}
 use Rattle.compiler.specs.Compile.{compileJob}
 use Rattle.outputs.proofs.Results.{result-within}
-use Rattle.compiling.proofs.compile_bytes.Statement.{statement}
-use Rattle.compiling.proofs.compile_bytes.Tie as tie
+use Rattle.command.proofs.compiling.compile_bytes.Statement.{statement}
+use Rattle.command.proofs.compiling.compile_bytes.Tie as tie
 
 finish-requires : tie.Need-finish-requires
 finish-requires c κs =

@@ -2,7 +2,7 @@
 ghost use mathlib.Core.Path.{_≡_};
 ghost use lib.ListN.{length};
 ghost use Rattle.compiler.specs.Compile.{compileRunLength};
-ghost use Rattle.compiling.specs.Ending.{endOf};
+ghost use Rattle.command.specs.Ending.{endOf};
 use answer::Answer;
 use arguments::Action;
 use arguments::Status;

@@ -2,9 +2,9 @@
 -- Assumes nothing.
 use Rattle.laws.proofs.All.{sym, _∙_, now, length, needs}
 use Rattle.compiler.specs.Compile.{compileRunLength}
-use Rattle.compiling.proofs.Ending.{end-refused, end-done}
-use Rattle.compiling.proofs.traced.Statement.{statement}
-use Rattle.compiling.proofs.traced.Tie as tie
+use Rattle.command.proofs.Ending.{end-refused, end-done}
+use Rattle.command.proofs.compiling.traced.Statement.{statement}
+use Rattle.command.proofs.compiling.traced.Tie as tie
 
 returns : tie.Need-returns
 returns c =

@@ -1,9 +1,8 @@
-// The actions that print: a view of a record, a set of records, and how actions are called.
+// The actions on one record and on a set of records.
 use answer::Verdict;
 use arguments::Action;
 use arguments::Status;
 use arguments::View;
-use arguments::action_of;
 use arguments::read_place;
 use arguments::under_place;
 use inputs::load;
@@ -12,8 +11,6 @@ use inputs::page;
 use messages::refuse;
 use messages::refuse_set;
 use messages::system::print;
-use messages::usage::misused_word;
-use messages::usage::print_use;
 use setlines::put_set;
 use sets::SetAnswer;
 use sets::check_set;
@@ -65,17 +62,4 @@ pub fn set_file() -> Status {
     }
     let n = l.size;
     tell_set(&bytes[..n])
-}
-
-// help [ACTION]
-pub fn help() -> Status {
-    if os::arg_count() < 3 {
-        return print_use(Action::Help);
-    }
-    let mut word = io::buffer();
-    let n = os::arg(2, &mut word);
-    match action_of(&word[..n]) {
-        Action::Unknown => misused_word(Action::Help, &word[..n], b": no such action"),
-        a => print_use(a),
-    }
 }

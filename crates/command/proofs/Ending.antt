@@ -7,7 +7,7 @@ use Rattle.answer.specs.declared.Answer.{Answer}
 use Rattle.answer.specs.declared.Answer.the-variants.{Done, Refused}
 use Rattle.answer.specs.Outcomes.{Outcome, done, refused, answerOf}
 use Rattle.arguments.specs.declared.Status.the-variants.{Failed, Done as Ended}
-use Rattle.compiling.specs.Ending.{endOf}
+use Rattle.command.specs.Ending.{endOf}
 
 pub end-refused : (o : Outcome (List ℕ)) (r : Refusal) → answerOf o ≡ Refused r → Failed ≡ endOf o
 end-refused (refused x) r e = refl
