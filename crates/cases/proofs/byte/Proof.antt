@@ -1,6 +1,7 @@
 -- `byte` meets its contract: a byte is below 256.
 -- Assumes nothing.
-use Rattle.laws.proofs.All.{arith, needs}
+use native.Mathlib.Omega.{arith}
+use borrow.Author.Needs.{needs}
 use Rattle.cases.proofs.byte.Statement.{statement}
 use Rattle.cases.proofs.byte.Tie as tie
 

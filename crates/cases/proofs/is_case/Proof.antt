@@ -1,6 +1,10 @@
 -- `is_case` meets its contract: the kind and the end are compared.
 -- Assumes nothing.
-use Rattle.laws.proofs.All.{sym, subst, arith, needs, leb-true, T}
+use mathlib.Core.Path.{sym, subst}
+use native.Mathlib.Omega.{arith}
+use lib.Dec.{T}
+use borrow.Author.Needs.{needs}
+use borrow.Author.Tests.{leb-true}
 use Rattle.cases.specs.Placing.{Whole}
 use Rattle.cases.proofs.is_case.Statement.{statement}
 use Rattle.cases.proofs.is_case.Tie as tie
