@@ -24,7 +24,8 @@ module _ (c : Constraint) where
   states-none = refl
 
   pub states-more : (s : ℕ) → s < c .states
-      → statesTo (constraintOf c) s ++ stateLine s (getD (c .zero) s 0) (getD (c .one) s 0) ≡ statesTo (constraintOf c) (s + 1)
+      → statesTo (constraintOf c) s ++ stateLine s (getD (c .zero) s 0) (getD (c .one) s 0)
+      ≡ statesTo (constraintOf c) (s + 1)
   unfolding statesTo
   states-more s h =
       ap (λ r. statesTo (constraintOf c) s ++ stateLine s (r .zero) (r .one)) (sym (at-state s h))
