@@ -1,7 +1,7 @@
 -- The choice that the code finds is the rule's.
 -- In order: chosen-in; chosen-line.
 -- Assumes nothing.
-use Rattle.laws.proofs.All.{_≡_, sym, ap, ap₂, _∙_, List, map, ℕ, _/_, arith, getD, take, length-map-range}
+use Rattle.laws.proofs.All.{_≡_, sym, ap, ap₂, _∙_, List, map, ℕ, _+_, _/_, _≤_, arith, getD, take, length-map-range}
 use Rattle.graph.specs.declared.Graph.{Graph}
 use Rattle.order.specs.declared.keys.Keys.{Keys}
 use Rattle.choice.specs.declared.find_run.Run.{Run}
@@ -11,39 +11,42 @@ use Rattle.graph.specs.Splitting.{chosen, kept}
 use Rattle.graph.specs.Value.{weightAt, weightsIn, arcsIn, workIn}
 use Rattle.order.specs.EdgeKeys.{keysIn, keyWeight}
 use Rattle.choice.specs.ChoiceParts.{FirstRun}
-use Rattle.splitting.specs.SplitParts.{keptArcs}
 use Rattle.splitting.proofs.SplitState.{Keyed, inside-run, kept-is, kept-total, share-le}
 use Rattle.splitlines.specs.declared.choices.Choice.{Choice}
 use Rattle.splitlines.specs.SplitText.{partLine, splitLine}
-use Rattle.splitlines.specs.ChoiceParts.{ChosenIn}
+use Rattle.splitlines.specs.ChoiceParts.{runArcs, ChosenIn}
+use Rattle.splitlines.proofs.Kept.{kept-run}
 
 module _ {n : ℕ} {g : Graph} {s M : ℕ} {list : Keys} (k : Keyed n g s M list) (w : List ℕ)
     (w-is : take (list .count) w ≡ map (keyWeight g) (keysIn list)) (run : Run)
     (run-is : FirstRun n (take (list .count) w) run) where
+  within : run .from + run .count ≤ list .count
+  within = inside-run k w w-is run run-is
+
   -- THEOREM: state, weight, run and shares are those of the rule
   pub chosen-in : s ≡ chosen (weightsIn g) (arcsIn g) → ChosenIn n (workIn g) (record {
     state = s;
     weight = M;
     share = run .total / n;
     fresh = g .states;
-    list = list;
-    run = run;
+    from = run .from;
+    count = run .count;
+    keys = list .key;
   })
   chosen-in is = record {
     state = is;
     weight = k .weighs;
-    edges = kept-is k w w-is run run-is;
+    edges = kept-run s list run within ∙ kept-is k w w-is run run-is;
     share = ap (λ t. t / n) (sym (kept-total k w w-is run run-is));
     fresh = sym (length-map-range (weightAt g) (g .states));
-    few = omega (arith, k .few-keys, k .narrow);
-    inside = inside-run k w w-is run run-is;
+    inside = omega (arith, within, k .few-keys, k .narrow);
     less = share-le k w w-is run run-is;
   }
 
 -- THEOREM: so its line is that of the split
 pub chosen-line : (q n : ℕ) (x : Work) (c : Choice) → ChosenIn n x c
-    → partLine q (c .state) (c .weight) (keptArcs (c .state) (c .list) (c .run)) (c .share) (c .fresh) ≡ splitLine q
-    n x
+    → partLine q (c .state) (c .weight) (runArcs (c .state) (c .keys) (c .from) (c .count)) (c .share) (c .fresh)
+    ≡ splitLine q n x
 unfolding splitLine
 chosen-line q n x c i =
     let line : ℕ → ℕ → List ℕ = λ s f. partLine q s (getD (x .weights) s 0) (kept n (x .weights) (x .arcs) s)

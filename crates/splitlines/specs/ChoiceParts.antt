@@ -1,24 +1,28 @@
 -- What the code finds of a split before it takes it.
--- In order: keyText, an edge by its key; Ripe, what a split needs; ChosenIn, the choice of the rule.
+-- In order: keyText, runArcs, edges by their keys; Ripe, what a split needs; ChosenIn, the choice of the rule.
 -- Assumes nothing.
 use mathlib.Core.Path.{_≡_}
-use mathlib.Core.List.{List}
+use mathlib.Core.List.{List, map}
 use Prim.Native.Nat.{ℕ, _+_, _/_, _%_, _≤_, _<_}
 use lib.Dec.{T}
-use lib.ListN.{length, getD}
+use lib.ListN.{length, getD, take, drop}
 use Rattle.laws.specs.Lists.{any, range}
 use Rattle.graph.specs.declared.Graph.{Graph}
-use Rattle.graph.specs.Arcs.{Work}
+use Rattle.graph.specs.Arcs.{Arc, Work}
 use Rattle.graph.specs.Weights.{total}
 use Rattle.graph.specs.Splitting.{splittable, chosen, kept}
 use Rattle.graph.specs.Value.{weightsIn, arcsIn, Fits}
-use Rattle.splitting.specs.SplitParts.{keptArcs}
+use Rattle.order.specs.EdgeKeys.{arcOf}
 use Rattle.splitlines.specs.declared.choices.Choice.{Choice}
 use Rattle.splitlines.specs.SplitText.{edgeText}
 
 -- the edge with this key
 abbrev pub keyText : ℕ → ℕ → List ℕ
 keyText q k = edgeText q (k / 128) (k % 128)
+
+-- the edges of s with c keys from place o on
+abbrev pub runArcs : ℕ → List ℕ → ℕ → ℕ → List Arc
+runArcs s keys o c = map (arcOf s) (take c (drop o keys))
 
 -- a graph with room for a state more, of which the rule names a state to split
 abbrev pub Ripe : ℕ → Graph → Type 0
@@ -27,13 +31,12 @@ Ripe n g =
     × T (any (splittable (weightsIn g) (arcsIn g)) (range (length (weightsIn g))))
 
 -- the state, its weight, the edges that it keeps, its share, and the number of the new state are those of the rule;
--- the run lies in the list, and the share is no more than the weight
+-- the run lies in the array, and the share is no more than the weight
 pub record ChosenIn (n : ℕ) (x : Work) (c : Choice) : Type 0 where
   pub state : c .state ≡ chosen (x .weights) (x .arcs)
   pub weight : c .weight ≡ getD (x .weights) (c .state) 0
-  pub edges : keptArcs (c .state) (c .list) (c .run) ≡ kept n (x .weights) (x .arcs) (c .state)
+  pub edges : runArcs (c .state) (c .keys) (c .from) (c .count) ≡ kept n (x .weights) (x .arcs) (c .state)
   pub share : c .share ≡ total (x .weights) (kept n (x .weights) (x .arcs) (c .state)) / n
   pub fresh : c .fresh ≡ length (x .weights)
-  pub few : c .list .count ≤ 16
-  pub inside : c .run .from + c .run .count ≤ c .list .count
+  pub inside : c .from + c .count ≤ 16
   pub less : c .share ≤ c .weight

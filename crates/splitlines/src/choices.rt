@@ -4,21 +4,20 @@ ghost use Rattle.splitlines.specs.ChoiceParts.{Ripe, ChosenIn};
 use choice::choose::candidate_keys;
 use choice::choose::choose;
 use choice::choose::greatest_weight;
-use choice::find_run::Run;
 use choice::find_run::first_run;
 use graph::Graph;
-use order::keys::Keys;
 use order::keys::key_weights;
 
-// The state to split and its weight, the list of its edges with the run that it keeps, the weight that it keeps, and
-// the number of the new state.
+// The state to split and its weight, the weight that it keeps, the number of the new state, and the run of keys of the
+// edges that it keeps.
 pub struct Choice {
     pub state: usize,
     pub weight: usize,
     pub share: usize,
     pub fresh: usize,
-    pub list: Keys,
-    pub run: Run,
+    pub from: usize,
+    pub count: usize,
+    pub keys: [usize; 16],
 }
 
 // The choice of the rule.
@@ -31,12 +30,14 @@ pub fn next_choice(g: Graph, n: usize) -> Choice
     let list = candidate_keys(g, s, m, n);
     let count = list.count;
     let run = first_run(key_weights(g, list), count, n);
+    let keys = list.key;
     Choice {
         state: s,
         weight: m as usize,
         share: run.total / n,
         fresh: g.states,
-        list: list,
-        run: run,
+        from: run.from,
+        count: run.count,
+        keys: keys,
     }
 }

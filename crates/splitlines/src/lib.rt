@@ -4,9 +4,9 @@ ghost use Prim.Native.Nat.{_+_, _≤_, _<_};
 ghost use Rattle.laws.specs.Lists.{sum};
 ghost use Rattle.text.specs.Texts.{Added};
 ghost use Rattle.graph.specs.Value.{weightsIn, workIn};
-ghost use Rattle.splitting.specs.SplitParts.{Splits, keptArcs};
+ghost use Rattle.splitting.specs.SplitParts.{Splits};
 ghost use Rattle.splitlines.specs.SplitText.{graphLine, keptText, splitLine, splitLines, splitText};
-ghost use Rattle.splitlines.specs.ChoiceParts.{keyText, Ripe};
+ghost use Rattle.splitlines.specs.ChoiceParts.{keyText, runArcs, Ripe};
 use crate::choices::Choice;
 use crate::choices::next_choice;
 use finish::finish_table::finish_table;
@@ -30,15 +30,14 @@ fn put_edge(out: &mut [u8], at: usize, q: usize, key: usize) -> usize
 
 // The state of a choice, its weight, and the edges that it keeps.
 fn put_kept(out: &mut [u8], at: usize, c: Choice, q: usize) -> usize
-    requires { ⌜ (q ≤ 8) × (c .list .count ≤ 16) × (c .run .from + c .run .count ≤ c .list .count) ⌝ }
+    requires { ⌜ (q ≤ 8) × (c .from + c .count ≤ 16) ⌝ }
     ensures written { λ r. ⌜
-        Added (keptText q (c .state) (c .weight) (keptArcs (c .state) (c .list) (c .run))) at (now (out .entry))
-        (now (out .exit)) r ⌝ }
+        Added (keptText q (c .state) (c .weight) (runArcs (c .state) (c .keys) (c .from) (c .count))) at
+        (now (out .entry)) (now (out .exit)) r ⌝ }
 {
-    let list = c.list;
-    let keys = list.key;
-    let from = c.run.from;
-    let count = c.run.count;
+    let keys = c.keys;
+    let from = c.from;
+    let count = c.count;
     let mut end = put_sentence(
         out,
         at,
@@ -105,17 +104,16 @@ pub fn put_splitting(out: &mut [u8], at: usize, g: Graph, n: usize, q: usize) ->
     if all.crowded {
         return end;
     }
-    let h = all.graph;
-    let rows = finish_table(h, n);
+    let rows = finish_table(all.graph, n);
     put_sentence(
         out,
         end,
         b"finished with # state~ and # edge~\ntable of # state~\n",
         &[
-            h.states,
-            h.states,
-            h.edges,
-            h.edges,
+            all.graph.states,
+            all.graph.states,
+            all.graph.edges,
+            all.graph.edges,
             rows.states,
             rows.states,
         ],

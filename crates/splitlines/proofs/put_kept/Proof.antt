@@ -17,19 +17,19 @@ abbrev μ-loop : tie.MeasureT-loop
 μ-loop out₀ at q keys from count end₀ i₀ out end i = count - i
 
 abbrev start : tie.At-loop Inv-loop μ-loop → tie.Start Inv-loop μ-loop
-start l = l .before .before .before .before .before .before .before .before .before .before
+start l = l .before .before .before .before .before .before .before .before .before
 
 loop-holds : tie.Need-loop-holds Inv-loop μ-loop
 loop-holds c = (omega arith, search needs, begun (c .before .before .put-sentence .ensures))
 
 add-put-edge : tie.Need-add-put-edge Inv-loop μ-loop
-add-put-edge c = let p = start (c .before .before) .pre in omega (arith, p .1, p .2)
+add-put-edge c = omega (arith, start (c .before .before) .pre .1)
 
 mul-put-edge : tie.Need-mul-put-edge Inv-loop μ-loop
-mul-put-edge c = let p = start (c .before .before) .pre in omega (arith, p .1, p .2)
+mul-put-edge c = omega (arith, start (c .before .before) .pre .1)
 
 array-read-put-edge : tie.Need-array-read-put-edge Inv-loop μ-loop
-array-read-put-edge c = let p = start (c .before .before) .pre in omega (arith, p .1, p .2)
+array-read-put-edge c = omega (arith, start (c .before .before) .pre .1)
 
 put-edge-requires : tie.Need-put-edge-requires Inv-loop μ-loop
 put-edge-requires c κs = start (c .before .before) .pre .0
@@ -49,10 +49,10 @@ returns c =
     let l = c .before .loop in
     let b = start (c .before) in
     let a = b .args .c in
-    let e : l .i ≡ a .run .count = omega (arith, l .inv .0, c .loop-test .left) in
+    let e : l .i ≡ a .count = omega (arith, l .inv .0, c .loop-test .left) in
     c .before .before .before .before .put-sentence .ensures then added-same
-    (ap (keysText (b .args .q) (a .list .key) (a .run .from)) e
-    ∙ kept-text (a .list) (a .run) (omega (arith, l .inv .1, b .pre .1)) (b .pre .2) (b .args .q) (a .state))
+    (ap (keysText (b .args .q) (a .keys) (a .from)) e
+    ∙ kept-text (b .args .q) (a .state) (a .keys) (a .from) (a .count) (omega (arith, l .inv .1, b .pre .1)))
     (l .inv .2)
 
 pub put-kept-spec : {M : Type 1} → statement M

@@ -9,7 +9,7 @@ use Rattle.splitlines.proofs.put_split.Tie as tie
 
 put-kept-requires : tie.Need-put-kept-requires
 put-kept-requires c κs =
-    let r = c .before .next-choice .ensures in (c .before .before .before .pre .0, r .few, r .inside)
+    let r = c .before .next-choice .ensures in (c .before .before .before .pre .0, r .inside)
 
 sub-t16 : tie.Need-sub-t16
 sub-t16 c = c .before .before .before .before .before .before .before .next-choice .ensures .less

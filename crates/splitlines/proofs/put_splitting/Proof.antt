@@ -18,8 +18,8 @@ returns c =
 
 finish-table-requires : tie.Need-finish-table-requires
 finish-table-requires c κs =
-    let s = c .before .before in
-    let e = c .before .if1 .left in
+    let s = c .before in
+    let e = c .if1 .left in
     let p = s .before .before .before .before .before .before .pre in
     split-finished _ _ _ (p .1 .some) (p .1 .few) (p .1 .inv) (p .2) _ (s .split-all .ensures .fits e)
     (s .split-all .ensures .work e)
@@ -29,10 +29,10 @@ unfolding endLines
 returns-2 c =
     let e = c .before .before in
     let f = e .before .before .before .before in
-    let s = f .before .before .before in
+    let s = f .before .before in
     let p = s .before .before .before in
     let a = p .before .before .before .args in
-    added-same (split-done (a .q) (a .n) (a .g) _ (s .split-all .ensures) (f .before .before .if1 .left) _
+    added-same (split-done (a .q) (a .n) (a .g) _ (s .split-all .ensures) (f .before .if1 .left) _
     (f .finish-table .ensures)) (p .put-splits .ensures then e .put-sentence .ensures)
 
 pub put-splitting-spec : {M : Type 1} → statement M

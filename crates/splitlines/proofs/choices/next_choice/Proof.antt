@@ -46,8 +46,9 @@ first-run-requires c κs =
 
 returns : tie.Need-returns
 returns c =
-    let w = c .before .before in
-    chosen-in (keyed (w .before)) _ (w .key-weights .ensures) _ (c .before .first-run .ensures)
+    let r = c .before .before in
+    let w = r .before in
+    chosen-in (keyed (w .before)) _ (w .key-weights .ensures) _ (r .first-run .ensures)
     (w .before .before .choose .ensures .0)
 
 pub next-choice-spec : {M : Type 1} → statement M
