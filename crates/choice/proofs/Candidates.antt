@@ -1,10 +1,10 @@
 -- The candidates of a split, as keys.
--- In order: first-filter, same-key; light-at; others-keys; candidates-keys.
+-- In order: first-filter; light-at; others-keys; candidates-keys.
 -- Assumes nothing.
-use Rattle.laws.proofs.All.{_≡_, refl, sym, ap, _∙_, Bool, true, false, not, _&&_, _||_, List, [], _∷_, map, ℕ}
-use Rattle.laws.proofs.All.{zero, suc, _-_, _%_, _≤_, _<_, arith, lt-ltb, ne-eqb, T, ltb, eqb, length, getD, take}
-use Rattle.laws.proofs.All.{getD-take, filter, any, first, each-map, each-always, T→true, any-map, first-yes}
-use Rattle.laws.proofs.All.{first-no, map-take, filter-same, filter-map}
+use Rattle.laws.proofs.All.{_≡_, refl, sym, ap, _∙_, Bool, true, false, not, _||_, List, [], _∷_, map, ℕ, _-_, _%_}
+use Rattle.laws.proofs.All.{_≤_, _<_, arith, lt-ltb, ne-eqb, T, length, getD, take, getD-take, filter, any, first}
+use Rattle.laws.proofs.All.{each-map, each-always, T→true, any-map, first-yes, first-no, and-true, length-take}
+use Rattle.laws.proofs.All.{map-take, filter-same, filter-map}
 use Rattle.graph.specs.declared.Graph.{Graph}
 use Rattle.order.specs.declared.keys.Keys.{Keys}
 use Rattle.graph.specs.Arcs.{arc, out}
@@ -28,9 +28,6 @@ first-filter p d f e (x ∷ l) h = go (p (f x)) refl h (first-filter p d f e l)
     go true q u r = (x, rw q, first-yes p d (f x) (map f l) q)
     go false q u r = let (y, a, b) = r u in (y, rw q a, first-no p d (f x) (map f l) q ∙ b)
 
-same-key : (s l k : ℕ) → other (arcOf s l) (arcOf s k) ≡ not (eqb k l)
-same-key s l k = ap not (same-arcs s k l)
-
 module _ (g : Graph) (s : ℕ) (fits : Fits g) (M : ℕ) (some : T (any (lighter (weightsIn g) M) (out (arcsIn g) s))) where
   abbrev v : List ℕ
   v = weightsIn g
@@ -41,11 +38,8 @@ module _ (g : Graph) (s : ℕ) (fits : Fits g) (M : ℕ) (some : T (any (lighter
   light-filter : filter (admitted v M 65535) ks ≡ filter (λ k. lighter v M (arcOf s k)) ks
   light-filter =
       filter-same (admitted v M 65535) (λ k. lighter v M (arcOf s k)) ks
-      (each-map (λ k. k < 32768) _ (λ k h. go k h (ltb (getD v (k % 128) 0) M)) ks (keys-small g s fits))
-    where
-      go : (k : ℕ) → k < 32768 → (b : Bool) → (b && not (eqb k 65535)) ≡ b
-      go k h true = rw (ne-eqb k 65535 (λ e. omega arith))
-      go k h false = refl
+      (each-map (λ k. k < 32768) _ (λ k h. rw (ne-eqb k 65535 (λ e. omega arith)) (and-true _)) ks
+      (keys-small g s fits))
 
   light-any : any (λ k. lighter v M (arcOf s k)) ks ≡ true
   light-any =
@@ -58,32 +52,23 @@ module _ (g : Graph) (s : ℕ) (fits : Fits g) (M : ℕ) (some : T (any (lighter
   light-at r e h =
       let (x, a, b) = first-filter (lighter v M) (arc 0 0 0) (arcOf s) 0 ks light-any in
       let q : keysIn r ≡ x ∷ [] = e ∙ ap (take 1) light-filter ∙ a in
-      ap (first (lighter v M) (arc 0 0 0)) (sort-keys g s fits) ∙ b ∙ ap (arcOf s) (sym (here (r .count) refl q))
-    where
-      here : (n : ℕ) → r .count ≡ n → {x : ℕ} → take (r .count) (r .key) ≡ x ∷ [] → getD (r .key) 0 0 ≡ x
-      here zero p q =
-          absurd (let z : length (take 0 (r .key)) ≡ 1 = ap (λ n. length (take n (r .key))) (sym p) ∙ ap length q in
-          omega arith)
-      here (suc n) p q =
-          sym (getD-take (r .count) (r .key) 0 0 (omega arith)) ∙ ap (λ l. getD l 0 0) q
+      let l : 0 < r .count = omega (arith, ap length q, length-take (r .count) (r .key)) in
+      rw (sort-keys g s fits) (cc (b, getD-take (r .count) (r .key) 0 0 l))
 
   passes : (l k : ℕ) → admitted v 256 l k ≡ other (arcOf s l) (arcOf s k)
-  passes l k = rw (lt-ltb (getD v (k % 128) 0) 256 (weights-small g s fits (k % 128))) (sym (same-key s l k))
+  passes l k = rw (lt-ltb (getD v (k % 128) 0) 256 (weights-small g s fits (k % 128))) (sym (ap not (same-arcs s k l)))
 
   others-keys : (l n : ℕ) → map (arcOf s) (firstKeys g s 256 l n)
       ≡ take n (filter (other (arcOf s l)) (sort (out (arcsIn g) s)))
   unfolding firstKeys
   others-keys l n =
-      map-take (arcOf s) n (filter (admitted v 256 l) ks)
-      ∙ ap (take n) (ap (map (arcOf s)) (filter-same (admitted v 256 l) (λ k. other (arcOf s l) (arcOf s k)) ks
-      (each-always _ (passes l) ks))
-      ∙ sym (filter-map (other (arcOf s l)) (arcOf s) ks) ∙ ap (filter (other (arcOf s l))) (sym (sort-keys g s fits)))
+      rw (sort-keys g s fits, map-take (arcOf s) n, filter-map (other (arcOf s l)) (arcOf s) ks)
+      (ap (λ x. take n (map (arcOf s) x)) (filter-same (admitted v 256 l) _ ks (each-always _ (passes l) ks)))
 
   pub candidates-keys : (n : ℕ) (light others r : Keys) → keysIn light ≡ firstKeys g s M 65535 1 → light .count ≤ 1
       → keysIn others ≡ firstKeys g s 256 (getD (light .key) 0 0) (n - 1)
       → keysIn r ≡ getD (light .key) 0 0 ∷ keysIn others
       → map (arcOf s) (keysIn r) ≡ candidates n v M (sort (out (arcsIn g) s))
   candidates-keys n light others r a h b e =
-      ap (map (arcOf s)) (e ∙ ap (λ x. getD (light .key) 0 0 ∷ x) b)
-      ∙ ap (λ x. arcOf s (getD (light .key) 0 0) ∷ x) (others-keys (getD (light .key) 0 0) (n - 1))
-      ∙ ap (λ l. l ∷ take (n - 1) (filter (other l) (sort (out (arcsIn g) s)))) (sym (light-at light a h))
+      rw (light-at light a h, e, b)
+      (ap (λ x. arcOf s (getD (light .key) 0 0) ∷ x) (others-keys (getD (light .key) 0 0) (n - 1)))

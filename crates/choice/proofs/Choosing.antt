@@ -3,7 +3,7 @@
 -- Assumes nothing.
 use Rattle.laws.proofs.All.{_≡_, refl, sym, ap, subst, _∙_, _⊎_, inl, inr, Bool, true, false, _&&_, List, [], _∷_}
 use Rattle.laws.proofs.All.{_++_, map, ℕ, _+_, _≤_, _<_, max, min, arith, ℕ-discrete, T, ltb, eqb, eqb→eq, eqb-refl}
-use Rattle.laws.proofs.All.{length, getD, if_then_else_, range, any, and→, →and, any→, →any, any-below→, T→true}
+use Rattle.laws.proofs.All.{length, getD, if_then_else_, range, any, and→, →and, any→, →any, any-below→, T→true, bool-eq}
 use Rattle.laws.proofs.All.{map-range-at, any-filter, length-map-range, map-range-more, first-least}
 use Rattle.graph.specs.declared.Graph.{Graph}
 use Rattle.graph.specs.Arcs.{arc, leaves, out}
@@ -32,11 +32,10 @@ module _ (hit : ℕ → Bool) (source : ℕ → ℕ) (i best : ℕ) (w : Lowest 
   keep (inr (k, h, t, e)) = inr (k, omega arith, t, e)
 
   low-more : (b : ℕ) → b ≤ best → (T (hit i) → b ≤ source i) → (k : ℕ) → k < i + 1 → T (hit k) → b ≤ source k
-  low-more b l f k h t = go (ℕ-discrete k i)
-    where
-      go : Dec (k ≡ i) → b ≤ source k
-      go (yes e) = subst (λ x. b ≤ source x) (sym e) (f (subst (λ x. T (hit x)) e t))
-      go (no e) = omega (arith, w .low k (omega arith) t)
+  low-more b l f k h t = elim (ℕ-discrete k i) [
+    | yes e ↦ rw e (f (rw e at t))
+    | no e ↦ omega (arith, w .low k (omega arith) t)
+  ]
 
   pub lowest-more : Lowest hit source (i + 1) (if hit i then min best (source i) else best)
   lowest-more = go (hit i) refl
@@ -115,10 +114,9 @@ module _ (g : Graph) (M : ℕ) where
         K : length v ≡ g .states
         K = length-map-range (weightAt g) (g .states)
 
-        none : (s : ℕ) → s < best → best < g .states → (b : Bool) → splittable v (arcsIn g) s ≡ b → b ≡ false
-        none s h l false q = refl
-        none s h l true q =
-            let (k, hk, u, r) = splits→ s (omega arith) (rw q tt) in absurd (omega (arith, w .low k hk u))
+        none : (s : ℕ) → s < best → best < g .states → splittable v (arcsIn g) s ≡ false
+        none s h l = bool-eq (splittable v (arcsIn g) s) false
+            (λ t. let (k, hk, u, r) = splits→ s (omega arith) t in omega (arith, w .low k hk u)) (λ e. absurd e)
 
         go : (i : ℕ) × (i < length v) × T (splittable v (arcsIn g) i)
             → (best ≡ 128) ⊎ ((k : ℕ) × (k < g .edges) × T (lightens k) × (sourceAt k ≡ best))
@@ -127,11 +125,9 @@ module _ (g : Graph) (M : ℕ) where
             let (k, hk, u, r) = splits→ i (rw K at h) u in
             absurd (omega (arith, w .low k hk u, f .few, f .source k hk))
         go (i, h, u) (inr (k, hk, y, q)) =
-            let l : best < g .states = subst (λ x. x < g .states) q (f .source k hk) in
-            let z : T (splittable v (arcsIn g) best) = subst (λ x. T (splittable v (arcsIn g) x)) q
-            (→splits k hk y) in (
+            let l : best < g .states = rw q at (f .source k hk) in
+            let z : T (splittable v (arcsIn g) best) = rw q at (→splits k hk y) in (
               sym (first-least (splittable v (arcsIn g)) 0 (length v) best
-                  (λ s b. none s b l (splittable v (arcsIn g) s) refl)
-                  (rw K l) (T→true (splittable v (arcsIn g) best) z)),
+                  (λ s b. none s b l) (rw K l) (T→true (splittable v (arcsIn g) best) z)),
               l,
             )

@@ -2,9 +2,9 @@
 -- In order: Summed, what holds after i places; summed-none, summed-more; run-found, run-none; first-found,
 -- first-nowhere.
 -- Assumes nothing.
-use Rattle.laws.proofs.All.{_≡_, refl, sym, ap, ap₂, _∙_, false, List, [], _∷_, map, ℕ, suc, _+_, _-_, _*_, _%_}
-use Rattle.laws.proofs.All.{_≤_, _<_, add-one, arith, below-more, eq-eqb, ne-eqb, length, getD, take, drop}
-use Rattle.laws.proofs.All.{length-map, drop-cons, getD-take, length-take-le, sum, any, map-range-at, any-false}
+use Rattle.laws.proofs.All.{_≡_, refl, sym, ap, _∙_, false, List, [], _∷_, map, ℕ, suc, _+_, _-_, _*_, _%_, _≤_}
+use Rattle.laws.proofs.All.{_<_, add-one, arith, below-more, eq-eqb, ne-eqb, length, getD, take, drop, length-map}
+use Rattle.laws.proofs.All.{drop-cons, getD-take, length-take-le, sum, any, map-range-at, any-false}
 use Rattle.laws.proofs.All.{length-map-range, first-at, first-part, first-none, map-take, map-drop}
 use Rattle.choice.specs.declared.find_run.Run.{Run}
 use Rattle.graph.specs.Arcs.{Arc}
@@ -25,6 +25,11 @@ pub record Summed (n : ℕ) (W : List ℕ) (j i s : ℕ) : Type 0 where
 pub summed-none : (n : ℕ) (W : List ℕ) (j : ℕ) → Summed n W j 0 0
 summed-none n W j = record { whole = refl; small = omega arith; fails = λ k h e. absurd (omega arith) }
 
+-- the weights of a stretch of edges
+total-is : (v W : List ℕ) (es : List Arc) → map (weight v) es ≡ W → (j k : ℕ) → total v (stretch es j k)
+    ≡ stretchSum W j k
+total-is v W es e j k = rw (map-take (weight v) (k + 1), map-drop (weight v) (j - k), e)
+
 module _ (n : ℕ) (A : List ℕ) (m j i s : ℕ) (la : length A ≡ 16) (hm : m ≤ 16) (hj : j < m) (hi : i ≤ j)
     (low : (k : ℕ) → k < m → getD A k 0 ≤ 128) (c : Summed n (take m A) j i s) where
   abbrev W : List ℕ
@@ -37,10 +42,8 @@ module _ (n : ℕ) (A : List ℕ) (m j i s : ℕ) (la : length A ≡ 16) (hm : m
   stretch-more =
       let a : suc (j - i) ≡ j + 1 - i = omega arith in
       let b : drop (j - i) W ≡ getD A (j - i) 0 ∷ drop (j + 1 - i) W =
-      drop-cons W (j - i) 0 (rw long (omega arith))
-      ∙ ap₂ (λ x k. x ∷ drop k W) (getD-take m A (j - i) 0 (omega arith)) a in
-      let d : stretchSum W j i ≡ getD A (j - i) 0 + sum (take i (drop (j + 1 - i) W)) =
-      ap (λ k. sum (take k (drop (j - i) W))) (add-one i) ∙ ap (λ l. sum (take (suc i) l)) b in
+      cc (drop-cons W (j - i) 0 (rw long (omega arith)), getD-take m A (j - i) 0 (omega arith)) in
+      let d : stretchSum W j i ≡ getD A (j - i) 0 + sum (take i (drop (j + 1 - i) W)) = rw (add-one i, b) in
       omega (arith, c .whole)
 
   pub stretch-small : s + getD A (j - i) 0 ≤ 128 * (i + 1)
@@ -56,24 +59,15 @@ module _ (n : ℕ) (A : List ℕ) (m j i s : ℕ) (la : length A ≡ 16) (hm : m
         (λ e. f (ap (λ x. x % n) stretch-more ∙ e));
   }
 
-  -- the weights of a stretch of edges
-  total-is : (v : List ℕ) (es : List Arc) → map (weight v) es ≡ W → (k : ℕ) → total v (stretch es j k)
-      ≡ stretchSum W j k
-  total-is v es e k =
-      ap sum (map-take (weight v) (k + 1) (drop (j - k) es)
-      ∙ ap (take (k + 1)) (map-drop (weight v) (j - k) es ∙ ap (drop (j - k)) e))
-
   pub run-found : (s + getD A (j - i) 0) % n ≡ 0
       → RunTo n W j (record { from = j - i; count = i + 1; total = s + getD A (j - i) 0 })
   run-found q = record {
     inside = rw long (omega arith);
     some = λ v es e h.
         let (a, b) = first-at (divisible n v) [] (stretch es j) (j + 1) i
-        (λ k l. ne-eqb (total v (stretch es j k) % n) 0
-        (λ z. c .fails k l (ap (λ x. x % n) (sym (total-is v es e k)) ∙ z)))
-        (omega arith)
-        (eq-eqb (total v (stretch es j i) % n) 0 (ap (λ x. x % n) (total-is v es e i ∙ sym stretch-more) ∙ q)) in
-        (b, a, total-is v es e i ∙ sym stretch-more);
+        (λ k l. ne-eqb (total v (stretch es j k) % n) 0 (λ z. c .fails k l (rw (total-is v W es e j k) at z)))
+        (omega arith) (eq-eqb (total v (stretch es j i) % n) 0 (rw (total-is v W es e j i, ← stretch-more) q)) in
+        (b, a, total-is v W es e j i ∙ sym stretch-more);
     none = λ v es e z. absurd (omega arith);
   }
 
@@ -87,8 +81,7 @@ run-none n W j i s h c = record {
       (λ k l. let b : k < j + 1 = rw (length-map-range (stretch es j) (j + 1)) at l in
       let at : getD (runsTo es j) k [] ≡ stretch es j k = map-range-at (stretch es j) (j + 1) k [] b in
       rw at (ne-eqb (total v (stretch es j k) % n) 0
-      (λ q. c .fails k (omega arith) (ap (λ x. sum x % n) (sym (map-take (weight v) (k + 1) (drop (j - k) es)
-      ∙ ap (take (k + 1)) (map-drop (weight v) (j - k) es ∙ ap (drop (j - k)) e))) ∙ q))));
+      (λ q. c .fails k (omega arith) (rw (total-is v W es e j k) at q))));
 }
 
 -- no run ends before place j

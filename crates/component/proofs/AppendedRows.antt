@@ -4,35 +4,26 @@
 -- Assumes nothing.
 use Rattle.laws.proofs.All.{_≡_, refl, sym, ap, subst, _∙_, true, false, List, [], _∷_, _++_, map, append-assoc}
 use Rattle.laws.proofs.All.{append-nil, ℕ, _+_, _≤_, _<_, arith, lt-ltb, le-ltb, ltb-true, ltb-false, length, getD}
-use Rattle.laws.proofs.All.{length-append, if_then_else_, range, filter, concat, range-more, length-map-range}
-use Rattle.laws.proofs.All.{concat-more, map-append, filter-append}
+use Rattle.laws.proofs.All.{length-append, range, filter, concat, range-more, concat-more, map-append}
+use Rattle.laws.proofs.All.{filter-append}
 use Rattle.graph.specs.declared.Graph.{Graph}
 use Rattle.graph.specs.declared.NextGraph.{NextGraph}
-use Rattle.graph.specs.Arcs.{Arc, arc}
-use Rattle.graph.specs.Value.{arcAt, arcsIn}
+use Rattle.graph.specs.Arcs.{Arc}
+use Rattle.graph.specs.Value.{arcsIn}
 use Rattle.weights.specs.PowerTable.{entryAt}
 use Rattle.component.specs.ComponentParts.{placeOf, rowKeeps, rowArc, rowArcs, Added}
-use Rattle.graph.proofs.Values.{withArc, Appended, appended-count, appended-more, climbs}
+use Rattle.graph.proofs.Values.{withArc, Appended, appended-count, appended-more, arcs-count, climbs}
 
 module _ (P I : List ℕ) (s : ℕ) where
   row-snoc : (w : ℕ) → rowArcs P I s (w + 1) ≡ rowArcs P I s w ++ map (rowArc P I s) (filter (rowKeeps P I s) (w ∷ []))
-  row-snoc w =
-      ap (map (rowArc P I s)) (ap (filter (rowKeeps P I s)) (range-more w)
-      ∙ filter-append (rowKeeps P I s) (range w) (w ∷ []))
-      ∙ map-append (rowArc P I s) (filter (rowKeeps P I s) (range w)) (filter (rowKeeps P I s) (w ∷ []))
+  row-snoc w = rw (range-more w, filter-append (rowKeeps P I s) (range w))
+      (map-append (rowArc P I s) (filter (rowKeeps P I s) (range w)) (filter (rowKeeps P I s) (w ∷ [])))
 
   row-yes : (w : ℕ) → placeOf I (entryAt P s w) < 16 → rowArcs P I s (w + 1) ≡ rowArcs P I s w ++ (rowArc P I s w ∷ [])
-  row-yes w h =
-      row-snoc w
-      ∙ ap (λ b. rowArcs P I s w ++ map (rowArc P I s) (if b then w ∷ [] else []))
-      (lt-ltb (placeOf I (entryAt P s w)) 16 h)
+  row-yes w h = row-snoc w ∙ rw (lt-ltb (placeOf I (entryAt P s w)) 16 h)
 
   row-no : (w : ℕ) → 16 ≤ placeOf I (entryAt P s w) → rowArcs P I s (w + 1) ≡ rowArcs P I s w
-  row-no w h =
-      row-snoc w
-      ∙ ap (λ b. rowArcs P I s w ++ map (rowArc P I s) (if b then w ∷ [] else []))
-      (le-ltb (placeOf I (entryAt P s w)) 16 h)
-      ∙ append-nil (rowArcs P I s w)
+  row-no w h = row-snoc w ∙ rw (le-ltb (placeOf I (entryAt P s w)) 16 h) (append-nil (rowArcs P I s w))
 
   row-all : (w words : ℕ) → w ≤ words → length (rowArcs P I s w) ≤ length (rowArcs P I s words)
   row-all = climbs (λ w. length (rowArcs P I s w)) (λ w. omega (
@@ -49,9 +40,7 @@ module _ (P I : List ℕ) (s : ℕ) where
     pub rowed-yes : (t : ℕ) → t ≡ placeOf I (entryAt P s w) → m < 2048 → t < 16
         → Rowed g (withArc h m (getD I s 0) w t) (m + 1) (w + 1)
     rowed-yes t e l q =
-        subst (Appended g (withArc h m (getD I s 0) w t) (m + 1))
-        (ap (λ x. rowArcs P I s w ++ (arc (getD I s 0) w x ∷ [])) e ∙ sym (row-yes w (subst (λ x. x < 16) e q)))
-        (appended-more g h m (rowArcs P I s w) c l (getD I s 0) w t)
+        rw (row-yes w (rw e at q), ← e) (appended-more g h m (rowArcs P I s w) c l (getD I s 0) w t)
 
     pub rowed-no : 16 ≤ placeOf I (entryAt P s w) → Rowed g h m (w + 1)
     rowed-no q = subst (Appended g h m) (sym (row-no w q)) c
@@ -111,22 +100,16 @@ module _ (row : ℕ → List Arc) where
 
   module _ (g h : Graph) (i : ℕ) (c : Done g h i) where
     done-count : h .edges ≡ g .edges + length (rows i)
-    done-count =
-        sym (length-map-range (arcAt h) (h .edges)) ∙ ap length (c .arcs) ∙ length-append (arcsIn g) (rows i)
-        ∙ ap (λ x. x + length (rows i)) (length-map-range (arcAt g) (g .edges))
+    done-count = arcs-count g h (h .edges) (rows i) (c .arcs)
 
     more-count : length (rows (i + 1)) ≡ length (rows i) + length (row i)
     more-count = ap length (concat-more row i) ∙ length-append (rows i) (row i)
 
     pub done-more : (r : NextGraph) → Added h (row i) r → r .crowded ≡ false → Done g (r .graph) (i + 1)
     done-more r a e = record {
-      arcs =
-          a .arcs e ∙ ap (λ x. x ++ row i) (c .arcs) ∙ append-assoc (arcsIn g) (rows i) (row i)
-          ∙ ap (λ x. arcsIn g ++ x) (sym (concat-more row i));
+      arcs = a .arcs e ∙ rw (c .arcs, concat-more row i) (append-assoc (arcsIn g) (rows i) (row i));
       room =
-          let l : r .graph .edges ≡ h .edges + length (row i) =
-          sym (length-map-range (arcAt (r .graph)) (r .graph .edges)) ∙ ap length (a .arcs e)
-          ∙ length-append (arcsIn h) (row i) ∙ ap (λ x. x + length (row i)) (length-map-range (arcAt h) (h .edges)) in
+          let l = arcs-count h (r .graph) (r .graph .edges) (row i) (a .arcs e) in
           omega (arith, ltb-false 2048 (h .edges + length (row i)) (sym (a .crowds) ∙ e));
       states = a .states e ∙ c .states;
       weight = a .weight e ∙ c .weight;

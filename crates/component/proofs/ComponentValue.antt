@@ -2,9 +2,9 @@
 -- In order: the module of one component: component-states, state-low, keep-is, place-is, row-is, arcs-are, bounded,
 -- graph-is, found-in.
 -- Assumes nothing.
-use Rattle.laws.proofs.All.{_≡_, refl, sym, ap, ap₂, subst, _∙_, inl, inr, Bool, true, false, _&&_, List, [], _++_}
-use Rattle.laws.proofs.All.{map, ℕ, _+_, _≤_, _<_, arith, lt-ltb, le-ltb, ltb-false, ne-eqb, T, ltb, length, getD}
-use Rattle.laws.proofs.All.{take, length-take, length-take-le, getD-take, if_then_else_, range, filter, first, elem}
+use Rattle.laws.proofs.All.{_≡_, refl, sym, ap, ap₂, subst, _∙_, inl, inr, Bool, true, false, _&&_, List, map, ℕ}
+use Rattle.laws.proofs.All.{_+_, _≤_, _<_, arith, lt-ltb, le-ltb, ltb-false, ne-eqb, T, ltb, length, getD, take}
+use Rattle.laws.proofs.All.{length-take, length-take-le, getD-take, if_then_else_, range, filter, first, elem}
 use Rattle.laws.proofs.All.{indexOf, sum, concat, Each, and→, T→true, each-map, each-always, each-filter}
 use Rattle.laws.proofs.All.{each-image, each-range, each-union, each-elem, elem-filter, index-lt, each-at}
 use Rattle.laws.proofs.All.{length-map-range, map-range-same, filter-same, filter-map, filter-both, filter-concat}
@@ -20,7 +20,7 @@ use Rattle.graph.specs.Component.{componentStates, componentGraph}
 use Rattle.graph.specs.Value.{arcAt, arcsIn, weightsIn, workIn}
 use Rattle.weights.specs.PowerTable.{entryAt, wordAt, wordsAt, tabled, Powers}
 use Rattle.reach.specs.ReachSets.{rowsOf, Listed}
-use Rattle.component.specs.ComponentParts.{placeOf, rowKeeps, rowArc, rowArcs, rowOfState, Added, FoundIn}
+use Rattle.component.specs.ComponentParts.{placeOf, rowKeeps, rowArc, rowOfState, Added, FoundIn}
 use Rattle.graph.proofs.Values.{fits-from, Bounded, Low}
 use Rattle.component.proofs.LiveArcs.{live-lt}
 
@@ -39,12 +39,7 @@ module _ (P : List ℕ) (words k : ℕ) (pw : Powers P words k) (v : List ℕ) (
 
   component-states : componentStates weight g ≡ C
   unfolding componentStates
-  component-states =
-      ap (λ n. let R = reachings n (within (live weight) g) in
-      filter (reaches R (first (returning R (live weight)) 0 (live weight))) (live weight))
-      (length-take-le k v (let h = pw .states in omega arith))
-      ∙ ap (λ R. filter (reaches R (first (returning R (live weight)) 0 (live weight))) (live weight)) (sym reach)
-      ∙ ap (λ x. filter (reaches (rowsOf M k) x) (live weight)) (sym lowest)
+  component-states = cc (length-take-le k v (let h = pw .states in omega arith))
 
   C-lt : (t : ℕ) → T (elem t C) → t < k
   C-lt t u = live-lt v k (pw .states) long t (elem-filter (reaches (rowsOf M k) s) t (live weight) u .1)
@@ -124,8 +119,7 @@ module _ (P : List ℕ) (words k : ℕ) (pw : Powers P words k) (v : List ℕ) (
             ∙ map-each (λ w. renamed C (wordAt P x w)) (rowArc P I x) (filter (rowKeeps P I x) (range words))
             (each-filter (λ w. renamed C (wordAt P x w) ≡ rowArc P I x w) (rowKeeps P I x) (range words)
             (each-map (λ w. w < words) _ (λ w l u. named w l u) (range words) (each-range words)))
-            ∙ sym (ap (λ b. if b then rowArcs P I x words else [])
-            (lt-ltb (getD I x 0) 16 (rw (at-yes x e h) (small-index x e))))
+            ∙ rw (lt-ltb (getD I x 0) 16 (rw (at-yes x e h) (small-index x e)))
           where
             named : (w : ℕ) → w < words → T (rowKeeps P I x w) → renamed C (wordAt P x w) ≡ rowArc P I x w
             named w l u =
@@ -135,8 +129,7 @@ module _ (P : List ℕ) (words k : ℕ) (pw : Powers P words k) (v : List ℕ) (
             ap (map (renamed C)) (filter-map (both C) (wordAt P x) (range words)
             ∙ ap (map (wordAt P x)) (filter-never (λ w. both C (wordAt P x w)) (range words)
             (each-always _ (λ w. ap (λ b. b && elem (entryAt P x w) C) e) (range words))))
-            ∙ sym (ap (λ b. if b then rowArcs P I x words else [])
-            (le-ltb (getD I x 0) 16 (rw (at-no x e h) (omega arith))))
+            ∙ rw (le-ltb (getD I x 0) 16 (rw (at-no x e h) (omega arith)))
 
     arcs-are : renumbered C g ≡ concat (map (rowOfState P words I) (range k))
     unfolding tabled
@@ -180,7 +173,7 @@ module _ (P : List ℕ) (words k : ℕ) (pw : Powers P words k) (v : List ℕ) (
 
     count-is : length (componentGraph weight g .arcs) ≡ length (concat (map (rowOfState P words I) (range k)))
     unfolding componentGraph
-    count-is = ap (λ X. length (renumbered X g)) component-states ∙ ap length arcs-are
+    count-is = rw (component-states, arcs-are)
 
     module _ (h : Graph) (hw : weightsIn h ≡ map (weightOf v) (take (list .count) (list .state)))
         (hs : h .states ≡ list .count) (he : h .edges ≡ 0) (r : NextGraph)
@@ -189,13 +182,10 @@ module _ (P : List ℕ) (words k : ℕ) (pw : Powers P words k) (v : List ℕ) (
       rows = concat (map (rowOfState P words I) (range k))
 
       arcs-r : r .crowded ≡ false → arcsIn (r .graph) ≡ renumbered C g
-      arcs-r e =
-          add .arcs e ∙ ap (λ n. map (arcAt h) (range n) ++ rows) he ∙ sym arcs-are
+      arcs-r e = add .arcs e ∙ rw (he, arcs-are)
 
       weights-r : r .crowded ≡ false → weightsIn (r .graph) ≡ map (weightOf v) C
-      weights-r e =
-          ap₂ (λ n l. map (λ i. getD l i 0) (range n)) (add .states e) (add .weight e) ∙ hw
-          ∙ ap (map (weightOf v)) (is .states)
+      weights-r e = rw (add .states e, add .weight e, ← is .states) hw
 
       states-r : r .crowded ≡ false → r .graph .states ≡ length C
       states-r e = add .states e ∙ hs ∙ sym C-count
@@ -213,10 +203,8 @@ module _ (P : List ℕ) (words k : ℕ) (pw : Powers P words k) (v : List ℕ) (
             sym (length-map-range (arcAt (r .graph)) (r .graph .edges)) ∙ ap length (arcs-r e ∙ arcs-are) in
             let m : h .edges + length rows ≤ 2048 = ltb-false 2048 (h .edges + length rows) (sym (add .crowds) ∙ e) in
             fits-from (r .graph) (let q = states-r e in omega (arith, C-few)) (omega arith)
-            (subst (Each Low) (sym (weights-r e)) (each-image Low (weightOf v) C
-            (each-map (λ t. t < k) _ (λ t h. low t h) C C-each)))
-            (subst (λ q. Each (Bounded q) (arcsIn (r .graph))) (sym (states-r e))
-            (subst (Each (Bounded (length C))) (sym (arcs-r e)) bounded));
+            (rw (weights-r e) (each-image Low (weightOf v) C (each-map (λ t. t < k) _ (λ t h. low t h) C C-each)))
+            (rw (states-r e, arcs-r e) bounded);
       }
         where
           zero-plus : (x : ℕ) → x ≡ 0 + x

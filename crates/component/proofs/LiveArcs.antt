@@ -1,28 +1,21 @@
 -- The edges among the states of weight above 0, by the counts of words.
 -- In order: live-elem, live-lt; any-tabled; linked-is.
 -- Assumes nothing.
-use Rattle.laws.proofs.All.{_≡_, sym, ap, ap₂, subst, _∙_, Bool, false, _&&_, List, map, ℕ, _+_, _*_, _/_, _%_, _≤_}
-use Rattle.laws.proofs.All.{_<_, arith, ne-eqb, T, ltb, eqb, eqb→eq, eqb-refl, ltb→lt, lt→ltb, length, getD, take}
-use Rattle.laws.proofs.All.{length-take-le, getD-take, range, filter, any, elem, concat, member, and→, →and}
-use Rattle.laws.proofs.All.{any-below→, →any-below, bool-eq, any-map, any-filter, any-concat, each-range}
-use Rattle.laws.proofs.All.{elem-filter, elem-each, filter-pos, filter-some, any-range-same, quotient-of}
-use Rattle.laws.proofs.All.{remainder-of}
+use Rattle.laws.proofs.All.{_≡_, sym, ap, subst, _∙_, Bool, false, _&&_, List, ℕ, _+_, _*_, _/_, _%_, _≤_, _<_}
+use Rattle.laws.proofs.All.{arith, ne-eqb, T, ltb, eqb, eqb→eq, eqb-refl, ltb→lt, lt→ltb, length, getD, take}
+use Rattle.laws.proofs.All.{length-take-le, getD-take, range, filter, any, elem, member, and→, →and, any-below→}
+use Rattle.laws.proofs.All.{→any-below, bool-eq, any-map, any-filter, any-concat, each-range, elem-filter}
+use Rattle.laws.proofs.All.{elem-each, filter-pos, filter-some, quotient-of, remainder-of}
 use Rattle.graph.specs.Arcs.{Arc, leadsOn}
 use Rattle.graph.specs.Component.{leadsInto, both, within, weighs, live}
-use Rattle.weights.specs.PowerTable.{entryAt, wordAt, wordsAt, tabled, Powers, wordLeads, wordCount}
+use Rattle.weights.specs.PowerTable.{entryAt, wordAt, tabled, Powers, wordLeads, wordCount}
 use Rattle.reach.specs.ReachSets.{linksInto, Linked, liveEdge}
 use Rattle.graph.proofs.UpTo.{elem-kept}
 
 pub any-tabled : (P : List ℕ) (words k : ℕ) (p : Arc → Bool) → any p (tabled P words k)
     ≡ any (λ s. any (λ w. leadsOn (wordAt P s w) && p (wordAt P s w)) (range words)) (range k)
 unfolding tabled
-any-tabled P words k p =
-    any-filter p leadsOn (concat (map (wordsAt P words) (range k)))
-    ∙ any-concat (λ e. leadsOn e && p e) (map (wordsAt P words) (range k))
-    ∙ any-map (any (λ e. leadsOn e && p e)) (wordsAt P words) (range k)
-    ∙ any-range-same (λ s. any (λ e. leadsOn e && p e) (wordsAt P words s))
-    (λ s. any (λ w. leadsOn (wordAt P s w) && p (wordAt P s w)) (range words)) k
-    (λ s h. any-map (λ e. leadsOn e && p e) (wordAt P s) (range words))
+any-tabled P words k p = simp (any-filter, any-concat, any-map)
 
 module _ (v : List ℕ) (k : ℕ) (few : k ≤ 16) (long : length v ≡ 16) where
   abbrev L : List ℕ
@@ -32,8 +25,7 @@ module _ (v : List ℕ) (k : ℕ) (few : k ≤ 16) (long : length v ≡ 16) wher
   live-range = ap (λ n. filter (weighs (take k v)) (range n)) (length-take-le k v (omega arith))
 
   pub live-elem : (t : ℕ) → t < k → elem t L ≡ ltb 0 (getD v t 0)
-  live-elem t h =
-      ap (elem t) live-range ∙ elem-kept (weighs (take k v)) k t h ∙ ap (ltb 0) (getD-take k v t 0 h)
+  live-elem t h = rw (live-range, elem-kept (weighs (take k v)) k t h, getD-take k v t 0 h)
 
   pub live-lt : (t : ℕ) → T (elem t L) → t < k
   live-lt t u =
@@ -51,9 +43,7 @@ module _ (v : List ℕ) (k : ℕ) (few : k ≤ 16) (long : length v ≡ 16) wher
         let b : x < k * 16 = omega arith in
         let p = quotient-of 16 s u (omega arith) in
         let q = remainder-of 16 s u (omega arith) in
-        edges x b
-        ∙ ap₂ (λ y z. ltb 0 (getD v y 0) && (ltb 0 (getD v z 0) && ltb 0 (getD A x 0))) p q
-        ∙ ap (λ c. ltb 0 (getD v s 0) && (ltb 0 (getD v u 0) && ltb 0 c)) (counts x b ∙ ap₂ (wordCount P words) p q)
+        edges x b ∙ rw (counts x b, p, q)
 
     module _ (S : List Bool) (s : ℕ) (hs : s < k) where
       abbrev found : ℕ → ℕ → Bool

@@ -91,10 +91,17 @@ appended-none g a b d = record {
   weight = refl;
 }
 
+pub arcs-count : (g h : Graph) (m : ℕ) (L : List Arc) → map (arcAt h) (range m) ≡ arcsIn g ++ L
+    → m ≡ g .edges + length L
+arcs-count g h m L e = cc (
+  length-map-range (arcAt h) m,
+  length-append (arcsIn g) L,
+  length-map-range (arcAt g) (g .edges),
+)
+
 module _ (g h : Graph) (m : ℕ) (L : List Arc) (c : Appended g h m L) where
   pub appended-count : m ≡ g .edges + length L
-  appended-count =
-      cc (length-map-range (arcAt h) m, c .arcs, length-append (arcsIn g) L, length-map-range (arcAt g) (g .edges))
+  appended-count = arcs-count g h m L (c .arcs)
 
   pub appended-more : m < 2048 → (s w t : ℕ) → Appended g (withArc h m s w t) (m + 1) (L ++ (arc s w t ∷ []))
   appended-more l s w t = record {
