@@ -123,8 +123,7 @@ module _ (P : List ℕ) (words k : ℕ) (pw : Powers P words k) (v : List ℕ) (
           where
             named : (w : ℕ) → w < words → T (rowKeeps P I x w) → renamed C (wordAt P x w) ≡ rowArc P I x w
             named w l u =
-                ap₂ (λ a b. arc a w b) (sym (at-yes x e h))
-                (place-is (entryAt P x w) (rw (keep-is (entryAt P x w) (pw .leads x w h l)) u))
+                cc (at-yes x e h, place-is (entryAt P x w) (rw (keep-is (entryAt P x w) (pw .leads x w h l)) u))
         go false e =
             ap (map (renamed C)) (filter-map (both C) (wordAt P x) (range words)
             ∙ ap (map (wordAt P x)) (filter-never (λ w. both C (wordAt P x w)) (range words)
