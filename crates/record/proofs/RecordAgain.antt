@@ -1,15 +1,13 @@
 -- Fields that are read and written again, and the code that they name.
 -- In order: nexts-again, nexts-good, rows-good, length-nextsOf, length-rowsOf, tail-again, head-again.
 -- Assumes nothing.
-use Rattle.laws.proofs.All.{_≡_, refl, sym, ap, ap₂, _∙_, Bool, true, false, _&&_, List, [], _∷_, _++_}
-use Rattle.laws.proofs.All.{append-assoc, ℕ, zero, suc, _+_, _*_, _^_, _<_, suc-mul, zero-mul, arith, T, ltb, eqb}
-use Rattle.laws.proofs.All.{eqb→eq, eqb-refl, lt→ltb, length, getD, drop, drop-drop, if_then_else_, all, repeat}
-use Rattle.laws.proofs.All.{and→, →and, →orR}
+use Rattle.laws.proofs.All.{eqb-is, so, nay, _≡_, refl, sym, ap, _∙_, _&&_, List, [], _∷_, _++_, append-assoc, ℕ}
+use Rattle.laws.proofs.All.{zero, suc, _+_, _*_, _^_, _<_, suc-mul, zero-mul, arith, T, ltb, eqb, eqb→eq, eqb-refl}
+use Rattle.laws.proofs.All.{lt→ltb, length, getD, drop, drop-drop, all, repeat, and→, →and, →orR}
 use Rattle.constraint.specs.Walking.{none}
 use Rattle.bits.specs.Fields.{Fits}
 use Rattle.table.specs.declared.Head.{Head}
 use Rattle.table.specs.Formed.{head, goodState, goodNext, goodEdge, goodRow}
-use Rattle.record.specs.Layout.{headerFields}
 use Rattle.record.specs.Layout.{fill, present, shown, nexts, pairs, rows, opened, nextsOf, edgesOf, rowsOf}
 use Rattle.record.specs.Layout.{codeOf}
 use Rattle.record.specs.Parse.{goodField, goodFields, goodTarget}
@@ -17,11 +15,7 @@ use Rattle.record.specs.Parse.{goodField, goodFields, goodTarget}
 -- ---- fields that are written again
 again : (k b s : ℕ) → b < 2 → s < 16 → T (goodField k b s) → (present (opened b s) ≡ b) × (shown (opened b s) ≡ s)
 again k zero s hb hs t = (refl, sym (eqb→eq s 0 t))
-again k (suc zero) s hb hs t = go (eqb s none) refl
-  where
-    go : (x : Bool) → eqb s none ≡ x → (_≡_ {A = ℕ} (if x then 0 else 1) 1) × ((if x then 0 else s) ≡ s)
-    go true e = let z : s ≡ 255 = eqb→eq s none (rw e tt) in absurd (omega arith)
-    go false e = (refl, refl)
+again k (suc zero) s hb hs t = elim (eqb-is s none) [ so p q ↦ absurd (omega arith) | nay p q ↦ rw q (refl, refl) ]
 again k (suc (suc b)) s hb hs t = absurd (omega arith)
 
 pub nexts-again : (n k : ℕ) (us vs : List ℕ) → Fits (repeat k (1 ∷ 4 ∷ 1 ∷ 4 ∷ []) ++ us) vs → T (goodFields n k vs)
@@ -63,11 +57,8 @@ rows-again (suc s) n q us vs f =
 
 -- ---- a code that is read has its fields in range
 state-good : (k b s : ℕ) → T (goodField k b s) → T (goodState k (opened b s))
-state-good k b s t = go (eqb b 0) t
-  where
-    go : (x : Bool) → T (if x then eqb s 0 else ltb s k) → T (goodState k (if x then none else s))
-    go true u = tt
-    go false u = →orR (eqb s none) (ltb s k) u
+state-good k b s t =
+    elim (eqb-is b 0) [ so p q ↦ rw q tt | nay p q ↦ rw q (→orR (eqb s none) (ltb s k) (rw q at t)) ]
 
 pub nexts-good : (n k : ℕ) (vs : List ℕ) → T (goodFields n k vs) → T (all (goodNext n) (nextsOf k vs))
 nexts-good n zero vs t = tt
@@ -136,18 +127,6 @@ tail-again h t f b z =
     ∙ e') ∙ e
 
 pub head-again : (h : Head) (vs : List ℕ) → head (codeOf h vs) ≡ h
-head-again h vs =
-    ap₂ (λ a b. record {
-      p = h .p;
-      q = h .q;
-      states = a;
-      memory = h .memory;
-      lookahead = h .lookahead;
-      count =
-          b;
-      start = h .start;
-    })
-    (length-rowsOf (h .states) (2 ^ h .p) (drop (h .count * 4) (drop headerFields vs)))
-    (length-nextsOf (h .count) (drop headerFields vs))
+head-again h vs = rw (length-rowsOf (h .states) (2 ^ h .p), length-nextsOf (h .count))
 
 -- ---- the bits of bytes

@@ -7,8 +7,7 @@ use Rattle.laws.proofs.All.{arith, ltb, eqb, getD, take, drop, drop-drop, all, 
 use Rattle.laws.proofs.All.{sum-repeat}
 use Rattle.bits.specs.Fields.{field, value, read}
 use Rattle.table.specs.declared.Head.{Head}
-use Rattle.record.specs.Layout.{headerBits, headerFields, stateSize}
-use Rattle.record.specs.Layout.{bitCount, fill, widths, edgesOf, rowsOf}
+use Rattle.record.specs.Layout.{headerBits, headerFields, stateSize, bitCount, fill, widths, edgesOf, rowsOf}
 use Rattle.record.specs.Parse.{goodField, goodFields, goodTarget, filler}
 use Rattle.record.specs.Checks.{codeAt, restGood}
 use Rattle.record.specs.Places.{goodAt, edgesPlace, goodTargetAt}
@@ -36,7 +35,7 @@ nextGood bs K o i = goodField K (field bs (o + i * 5) 1) (field bs (o + i * 5 + 
 
 -- bits dropped twice
 past : (bs : List ℕ) (k o m : ℕ) → o + k ≡ m → drop k (drop o bs) ≡ drop m bs
-past bs k o m e = drop-drop k o bs ∙ ap (λ n. drop n bs) e
+past bs k o m e = rw (drop-drop k o bs, e)
 
 module _ (bs us : List ℕ) (K : ℕ) where
   five : (o : ℕ) → drop 4 (drop 1 (drop o bs)) ≡ drop (o + 5) bs
@@ -45,8 +44,7 @@ module _ (bs us : List ℕ) (K : ℕ) where
   next-good : (o i m : ℕ) → o + i * 5 ≡ m
       → goodField K (value (take 1 (drop m bs))) (value (take 4 (drop 1 (drop m bs)))) ≡ nextGood bs K o i
   next-good o i m e =
-      ap₂ (λ x y. goodField K (value (take 1 (drop x bs))) (value (take 4 y))) (sym e)
-      (past bs 1 m (o + i * 5 + 1) (omega arith))
+      rw (past bs 1 m (o + i * 5 + 1) (omega arith), e)
 
   states-good : (n o : ℕ) → goodFields K n (read (repeat n (1 ∷ 4 ∷ 1 ∷ 4 ∷ []) ++ us) (drop o bs))
       ≡ all (nextGood bs K o) (range (2 * n))
@@ -66,15 +64,13 @@ module _ (bs us : List ℕ) (K : ℕ) where
       ∙ sym (ap (λ m. all (nextGood bs K o) (range m)) e ∙ all-split (nextGood bs K o) 0 2 (2 * n))
     where
       shifted : (o j : ℕ) → nextGood bs K o (2 + j) ≡ nextGood bs K (o + 10) j
-      shifted o j = let e : o + (2 + j) * 5 ≡ o + 10 + j * 5 = omega arith in
-          ap (λ m. goodField K (field bs m 1) (field bs (m + 1) 4)) e
+      shifted o j = let e : o + (2 + j) * 5 ≡ o + 10 + j * 5 = omega arith in rw e
 
 -- the check of the constraint's fields
 pub states-checked : (h : Head) (bs : List ℕ)
     → goodFields (h .count) (h .count) (drop headerFields (read (widths h) bs))
     ≡ all (goodAt bs (h .count)) (range (2 * h .count))
-states-checked h bs =
-    ap (goodFields (h .count) (h .count)) (behind-head h bs) ∙ states-good bs _ (h .count) (h .count) headerBits
+states-checked h bs = rw (behind-head h bs) (states-good bs _ (h .count) (h .count) headerBits)
 
 -- ---- the edges' fields
 module _ (bs : List ℕ) (q S : ℕ) where
@@ -83,8 +79,7 @@ module _ (bs : List ℕ) (q S : ℕ) where
 
   moved : (o k j : ℕ) → targetGood o (k + j) ≡ targetGood (o + k * (q + 7)) j
   moved o k j =
-      let e : o + q + (k + j) * (q + 7) ≡ o + k * (q + 7) + q + j * (q + 7) = omega arith in
-      ap (λ m. ltb (field bs m 7) S) e
+      let e : o + q + (k + j) * (q + 7) ≡ o + k * (q + 7) + q + j * (q + 7) = omega arith in rw e
 
   edges-good : (n o : ℕ) (us : List ℕ) → all (goodTarget S)
       (edgesOf n (read (repeat n (q ∷ 7 ∷ []) ++ us) (drop o bs)))
@@ -102,7 +97,7 @@ module _ (bs : List ℕ) (q S : ℕ) where
   rows-good : (s n o : ℕ) (us : List ℕ)
       → all (all (goodTarget S)) (rowsOf s n (read (repeat s (repeat n (q ∷ 7 ∷ [])) ++ us) (drop o bs)))
       ≡ all (targetGood o) (range (s * n))
-  rows-good zero n o us = ap (λ m. all (targetGood o) (range m)) (sym (zero-mul n))
+  rows-good zero n o us = rw (zero-mul n)
   rows-good (suc s) n o us =
       let A = repeat n (q ∷ 7 ∷ []) in
       let B = repeat s (repeat n (q ∷ 7 ∷ [])) in
@@ -122,16 +117,14 @@ behind-states : (h : Head) (bs : List ℕ) → drop (h .count * 4) (drop headerF
     ≡ read (repeat (h .states) (repeat (2 ^ h .p) (h .q ∷ 7 ∷ [])) ++ (fill h ∷ [])) (drop (edgesPlace h) bs)
 behind-states h bs =
     let us = repeat (h .states) (repeat (2 ^ h .p) (h .q ∷ 7 ∷ [])) ++ (fill h ∷ []) in
-    ap (drop (h .count * 4)) (behind-head h bs)
-    ∙ behind (h .count) (h .count * 4) (1 ∷ 4 ∷ 1 ∷ 4 ∷ []) us (drop headerBits bs) refl
-    ∙ ap (read us) (past bs (h .count * stateSize) headerBits (edgesPlace h) refl)
+    rw (behind-head h bs) (behind (h .count) (h .count * 4) (1 ∷ 4 ∷ 1 ∷ 4 ∷ []) us (drop headerBits bs) refl
+    ∙ ap (read us) (past bs (h .count * stateSize) headerBits (edgesPlace h) refl))
 
 -- the check of the edges' targets
 pub targets-checked : (h : Head) (bs : List ℕ)
     → all (all (goodTarget (h .states))) (codeAt h bs .table) ≡ all (goodTargetAt bs h) (range (h .states * 2 ^ h .p))
 targets-checked h bs =
-    ap (λ vs. all (all (goodTarget (h .states))) (rowsOf (h .states) (2 ^ h .p) vs)) (behind-states h bs)
-    ∙ rows-good bs (h .q) (h .states) (h .states) (2 ^ h .p) (edgesPlace h) (fill h ∷ [])
+    rw (behind-states h bs) (rows-good bs (h .q) (h .states) (h .states) (2 ^ h .p) (edgesPlace h) (fill h ∷ []))
 
 -- the fill
 pub fill-checked : (h : Head) (bs : List ℕ) → filler h (read (widths h) bs) ≡ field bs (bitCount h) (fill h)
@@ -149,4 +142,4 @@ pub rest-checked : (h : Head) (bs : List ℕ) → restGood h bs
     ≡ (all (goodAt bs (h .count)) (range (2 * h .count)) && (all (goodTargetAt bs h) (range (h .states * 2 ^ h .p))
     && eqb (field bs (bitCount h) (fill h)) 0))
 rest-checked h bs =
-    ap₂ _&&_ (states-checked h bs) (ap₂ _&&_ (targets-checked h bs) (ap (λ x. eqb x 0) (fill-checked h bs)))
+    rw (states-checked h bs, targets-checked h bs, fill-checked h bs)

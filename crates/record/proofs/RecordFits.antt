@@ -1,9 +1,9 @@
 -- The fields of a code fit their widths, and fill the bytes of its record.
 -- In order: sum-widths, fits-values.
 -- Assumes nothing.
-use Rattle.laws.proofs.All.{_≡_, subst, Bool, true, false, _||_, List, [], _∷_, _++_, ℕ, zero, _+_, _*_, _-_, _/_}
-use Rattle.laws.proofs.All.{_^_, _≤_, _<_, arith, T, ltb, eqb, eqb→eq, ltb→lt, length, replicate, pow-pos}
-use Rattle.laws.proofs.All.{if_then_else_, all, sum, repeat, and→, sum-repeat, sum-replicate, sum-append}
+use Rattle.laws.proofs.All.{eqb-is, so, nay, _≡_, List, [], _∷_, _++_, ℕ, zero, _+_, _*_, _-_, _/_, _^_, _≤_, _<_}
+use Rattle.laws.proofs.All.{arith, T, ltb, eqb, eqb→eq, ltb→lt, length, replicate, pow-pos, all, sum, repeat, and→}
+use Rattle.laws.proofs.All.{sum-repeat, sum-replicate, sum-append}
 use Rattle.constraint.specs.Walking.{NextStates, none}
 use Rattle.table.specs.Rows.{Edge, Rows, Code}
 use Rattle.bits.specs.Fields.{Fits}
@@ -26,18 +26,11 @@ sum-widths h = simp (sum-append, sum-repeat, sum-replicate)
 -- ---- a code's values fit their widths
 
 present-lt : (s : ℕ) → present s < 2
-present-lt s = go (eqb s none)
-  where
-    go : (b : Bool) → (if b then 0 else 1) < 2
-    go true = omega arith
-    go false = omega arith
+present-lt s = elim (eqb-is s none) [ so p q ↦ rw q (omega arith) | nay p q ↦ rw q (omega arith) ]
 
 shown-lt : (k s : ℕ) → k ≤ 16 → T (goodState k s) → shown s < 16
-shown-lt k s h t = go (eqb s none) t
-  where
-    go : (b : Bool) → T (b || ltb s k) → (if b then 0 else s) < 16
-    go true u = omega arith
-    go false u = omega (arith, ltb→lt s k u)
+shown-lt k s h t =
+    elim (eqb-is s none) [ so p q ↦ rw q (omega arith) | nay p q ↦ rw q (omega (arith, ltb→lt s k (rw q at t))) ]
 
 fits-nexts : (k : ℕ) (c : List NextStates) → k ≤ 16 → T (all (goodNext k) c)
     → Fits (repeat (length c) (1 ∷ 4 ∷ 1 ∷ 4 ∷ [])) (nexts c)
@@ -64,8 +57,7 @@ fits-rows p q n (es ∷ g) h t =
     let (a, b) = and→ (goodRow p q n es) (all (goodRow p q n) g) t in
     let (l, x) = and→ (eqb (length es) (2 ^ p)) (all (goodEdge q n) es) a in
     fits-append (repeat (2 ^ p) (q ∷ 7 ∷ [])) (pairs es) (repeat (length g) (repeat (2 ^ p) (q ∷ 7 ∷ []))) (rows g)
-    (subst (λ m. Fits (repeat m (q ∷ 7 ∷ [])) (pairs es)) (eqb→eq (length es) (2 ^ p) l) (fits-pairs q n es h x))
-    (fits-rows p q n g h b)
+    (rw (eqb→eq (length es) (2 ^ p) l) at (fits-pairs q n es h x)) (fits-rows p q n g h b)
 
 pub fits-values : (c : Code) → Formed c → Fits (widths (head c)) (values c)
 fits-values c f =

@@ -14,8 +14,7 @@ use Rattle.bits.proofs.Puts.{spliced-field}
 use Rattle.bits.proofs.Runs.{spliced-next}
 use Rattle.constraint.specs.Walking.{none}
 use Rattle.table.specs.declared.Head.{Head}
-use Rattle.record.specs.Layout.{headerBits}
-use Rattle.record.specs.Layout.{header, present, shown}
+use Rattle.record.specs.Layout.{headerBits, header, present, shown}
 use Rattle.record.specs.Parts.{frontBits, nextBits}
 
 -- a field of the lowest bits
@@ -102,5 +101,4 @@ pub front-spliced : (h : Head) (s k : ℕ) (B B′ : List ℕ) → headerBits �
     → B′ ≡ spliced 0 (frontBits h) B
 unfolding frontBits
 front-spliced h s k B B′ l es ek e =
-    put-all B 0 header (h .p ∷ h .q ∷ s ∷ h .memory ∷ h .lookahead ∷ k ∷ h .start ∷ []) B′ l e
-    ∙ ap₂ (λ s k. spliced 0 (write header (h .p ∷ h .q ∷ s ∷ h .memory ∷ h .lookahead ∷ k ∷ h .start ∷ [])) B) es ek
+    put-all B 0 header (h .p ∷ h .q ∷ s ∷ h .memory ∷ h .lookahead ∷ k ∷ h .start ∷ []) B′ l e ∙ rw (es, ek)

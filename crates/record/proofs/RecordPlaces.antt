@@ -12,7 +12,7 @@ use Rattle.record.specs.Layout.{headerBits, headerFields, stateSize}
 use Rattle.record.specs.Layout.{header, fill, widths, opened, nextsOf, edgesOf, rowsOf, codeOf}
 
 pub field-drop : (bs : List ℕ) (k o o' w : ℕ) → k + o ≡ o' → field (drop k bs) o w ≡ field bs o' w
-field-drop bs k o o' w e = ap (λ l. value (take w l)) (drop-drop o k bs ∙ ap (λ n. drop n bs) e)
+field-drop bs k o o' w e = rw (drop-drop o k bs, e)
 
 pub drop-read : (ws us bs : List ℕ) → drop (length ws) (read (ws ++ us) bs) ≡ read us (drop (sum ws) bs)
 drop-read [] us bs = refl
@@ -39,7 +39,7 @@ nextAt-drop bs k o o' e =
     let f₁ = field-drop bs k (o + 1) (o' + 1) 4 (omega arith) in
     let f₅ = field-drop bs k (o + 5) (o' + 5) 1 (omega arith) in
     let f₆ = field-drop bs k (o + 6) (o' + 6) 4 (omega arith) in
-    ap₂ (λ a b. record { zero = a; one = b }) (ap₂ opened f₀ f₁) (ap₂ opened f₅ f₆)
+    cc
 
 five : (bs : List ℕ) → drop 4 (drop 1 bs) ≡ drop 5 bs
 five bs = drop-drop 4 1 bs
@@ -54,11 +54,7 @@ next-at : (n k : ℕ) (us bs : List ℕ) (d : NextStates) → k < n
     → getD (nextsOf n (read (repeat n (1 ∷ 4 ∷ 1 ∷ 4 ∷ []) ++ us) bs)) k d ≡ nextAt bs (k * stateSize)
 next-at zero k us bs d h = absurd (not-suc-le-zero h)
 next-at (suc n) zero us bs d h =
-    ap₂ (λ u v. record {
-      zero = opened (field bs 0 1) (field bs 1 4);
-      one =
-          opened (value (take 1 u)) (value (take 4 v));
-    }) (five bs) (six bs)
+    rw (six bs, five bs)
 next-at (suc n) (suc k) us bs d h =
     next-at n k us (drop 4 (drop 1 (drop 4 (drop 1 bs)))) d (le-of-suc-le-suc h)
     ∙ ap (λ l. nextAt l (k * stateSize)) (ten bs) ∙ nextAt-drop bs 10 (k * stateSize) (suc k * stateSize) (omega arith)

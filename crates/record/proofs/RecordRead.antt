@@ -62,9 +62,8 @@ module _ (p q s m a k z : ℕ) (t : List ℕ)
       let (_, fr) = nexts-again (k + 1) (k + 1) _ t (f .1 .1 .1 .1 .1 .1 .1) b in
       →and (inRange (head (codeOf h vs))) _ (subst (λ x. T (inRange x)) (sym (head-again h vs)) (in-range w))
       (→and (all (goodNext (length (nextsOf (k + 1) t))) (nextsOf (k + 1) t)) (all (goodRow p q (length g)) g)
-      (subst (λ n. T (all (goodNext n) (nextsOf (k + 1) t))) (sym (length-nextsOf (k + 1) t))
-      (nexts-good (k + 1) (k + 1) t b))
-      (subst (λ n. T (all (goodRow p q n) g)) (sym (length-rowsOf (s + 1) (2 ^ p) (drop ((k + 1) * 4) t)))
+      (rw (length-nextsOf (k + 1) t) (nexts-good (k + 1) (k + 1) t b))
+      (rw (length-rowsOf (s + 1) (2 ^ p) (drop ((k + 1) * 4) t))
       (rows-good (s + 1) p q (s + 1) (fill h ∷ []) (drop ((k + 1) * 4) t) fr y)))
 
 module _ (xs : List ℕ) where
@@ -117,9 +116,8 @@ module _ (xs : List ℕ) where
         ∙ sym (sum-widths h) in
         ap (λ k. read (replicate (size k) 8) (write (widths k) (values (codeOf h vs)))) (head-again h vs)
         ∙ ap (λ ws. read (replicate (size h) 8) (write (widths h) ws)) (v ∙ e)
-        ∙ ap (read (replicate (size h) 8)) (write-read (widths h) bs (below-write (replicate (length xs) 8) xs) lb)
-        ∙ ap (λ n. read (replicate n 8) bs) (sym l)
-        ∙ read-back (replicate (length xs) 8) xs (fits-bytes xs bytes)
+        ∙ rw (write-read (widths h) bs (below-write (replicate (length xs) 8) xs) lb, ← l)
+        (read-back (replicate (length xs) 8) xs (fits-bytes xs bytes))
 
     -- fields that are in range are those of a code in range, and the bytes are its record
     pub fields-again : let h = headOf (read header (bitsOf xs)) in let vs = read (widths h) (bitsOf xs) in

@@ -2,14 +2,13 @@
 -- In order: below-bytes, head-range, ranges-in; good-not; checked-short, checked-front, checked-length, checked-rest,
 -- checked-good.
 -- Assumes nothing.
-use Rattle.laws.proofs.All.{_≡_, sym, ap, subst, _∙_, Bool, true, false, _&&_, List, ℕ, _^_, _≤_, _<_, arith, T}
-use Rattle.laws.proofs.All.{leb, ltb, eqb, le→leb, lt→ltb, lit<, length, getD, take, drop, replicate, sum, Below}
-use Rattle.laws.proofs.All.{below-drop, and→, →and, never}
+use Rattle.laws.proofs.All.{_≡_, sym, ap, subst, _∙_, true, false, _&&_, List, ℕ, _^_, _≤_, _<_, arith, T, leb, ltb}
+use Rattle.laws.proofs.All.{eqb, le→leb, lt→ltb, lit<, length, getD, take, drop, replicate, sum, Below, below-drop}
+use Rattle.laws.proofs.All.{and→, →and, never}
 use Rattle.answer.specs.declared.Refusal.{Refusal}
 use Rattle.answer.specs.declared.Refusal.the-variants.{Field, Length}
 use Rattle.answer.specs.declared.Verdict.the-variants.{Good, Bad}
-use Rattle.answer.specs.Outcomes.{Outcome, done, refused, unless}
-use Rattle.answer.proofs.Outcomes.{unless-false}
+use Rattle.answer.specs.Outcomes.{done, refused, unless}
 use Rattle.bits.specs.Fields.{read, bitsOf}
 use Rattle.bits.proofs.Fields.{read-at, below-write}
 use Rattle.table.specs.declared.Head.{Head}
@@ -54,10 +53,7 @@ ranges-of bs b g =
 -- the same of the header of bytes
 pub ranges-in : (xs : List ℕ) (h : Head) → h ≡ headOf (read header (bitsOf xs)) → goodHead h ≡ true → Ranges h
 ranges-in xs h e g =
-    subst Ranges (sym e) (ranges-of (bitsOf xs) (below-bytes xs) (subst T (sym (ap goodHead (sym e) ∙ g)) tt))
-
-unless-yes : {A : Type 0} (r : Refusal) (b : Bool) (x : Outcome A) → b ≡ true → unless r b x ≡ x
-unless-yes r b x e = ap (λ c. unless r c x) e
+    rw e (ranges-of (bitsOf xs) (below-bytes xs) (subst T (sym (ap goodHead (sym e) ∙ g)) tt))
 
 -- a good verdict is no refusal
 pub good-not : {A : Type 0} (x : Refusal) → Good ≡ Bad x → A
@@ -75,22 +71,22 @@ module _ (xs : List ℕ) where
     step = rw (e₀, front)
 
     pub checked-front : goodHead h ≡ false → fieldsChecked xs ≡ refused Field
-    checked-front e = step ∙ unless-false Field (goodHead h) _ e
+    checked-front e = step ∙ rw e
 
     module _ (e₁ : goodHead h ≡ true) where
       step₁ : fieldsChecked xs ≡ unless Length (eqb (length xs) (size h))
           (unless Field (restGood h (bitsOf xs)) (done (codeAt h (bitsOf xs))))
-      step₁ = step ∙ unless-yes Field (goodHead h) _ e₁
+      step₁ = step ∙ rw e₁
 
       pub checked-length : eqb (length xs) (size h) ≡ false → fieldsChecked xs ≡ refused Length
-      checked-length e = step₁ ∙ unless-false Length (eqb (length xs) (size h)) _ e
+      checked-length e = step₁ ∙ rw e
 
       module _ (e₂ : eqb (length xs) (size h) ≡ true) where
         step₂ : fieldsChecked xs ≡ unless Field (restGood h (bitsOf xs)) (done (codeAt h (bitsOf xs)))
-        step₂ = step₁ ∙ unless-yes Length (eqb (length xs) (size h)) _ e₂
+        step₂ = step₁ ∙ rw e₂
 
         pub checked-rest : restGood h (bitsOf xs) ≡ false → fieldsChecked xs ≡ refused Field
-        checked-rest e = step₂ ∙ unless-false Field (restGood h (bitsOf xs)) _ e
+        checked-rest e = step₂ ∙ rw e
 
         pub checked-good : restGood h (bitsOf xs) ≡ true → fieldsChecked xs ≡ done (codeAt h (bitsOf xs))
-        checked-good e = step₂ ∙ unless-yes Field (restGood h (bitsOf xs)) _ e
+        checked-good e = step₂ ∙ rw e

@@ -24,9 +24,7 @@ length-next s = refl
 
 length-state : (k : Constraint) (s : ℕ) → length (stateBits (nextStatesAt k s)) ≡ 10
 unfolding stateBits
-length-state k s =
-    length-append (nextBits (nextStatesAt k s .zero)) (nextBits (nextStatesAt k s .one))
-    ∙ ap₂ _+_ (length-next (nextStatesAt k s .zero)) (length-next (nextStatesAt k s .one))
+length-state k s = simp (length-append, length-next)
 
 pub states-begin : (k : Constraint) (B : List ℕ) (at : ℕ) → B
     ≡ spliced at (statesBits (map (nextStatesAt k) (range 0))) B
@@ -66,8 +64,7 @@ edgesBits t n k = concat (map (λ e. edgeBits (t .q) (edgeNo t n e)) (range k))
 
 length-edge : (q : ℕ) (e : Edge) → length (edgeBits q e) ≡ q + 7
 unfolding edgeBits
-length-edge q e =
-    length-append (bits q (e .word)) (bits 7 (e .next)) ∙ ap₂ _+_ (length-bits q (e .word)) (length-bits 7 (e .next))
+length-edge q e = simp (length-append, length-bits)
 
 pub edges-begin : (t : Table) (n : ℕ) (B : List ℕ) (at : ℕ) → B ≡ spliced at (edgesBits t n 0) B
 unfolding edgesBits

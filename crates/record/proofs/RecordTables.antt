@@ -1,15 +1,14 @@
 -- A table's arrays filled from a record's bits stand for the code that the bits hold.
 -- In order: states-are; rows-are; code-is.
 -- Assumes nothing.
-use Rattle.laws.proofs.All.{_≡_, sym, ap, ap₂, subst, _∙_, List, [], map, ℕ, zero, suc, _+_, _*_, _^_, _<_}
+use Rattle.laws.proofs.All.{_≡_, sym, ap, ap₂, _∙_, List, [], map, ℕ, zero, suc, _+_, _*_, _^_, _<_}
 use Rattle.laws.proofs.All.{not-suc-le-zero, le-of-suc-le-suc, arith, length, getD, drop, range, is-map}
 use Rattle.laws.proofs.All.{quotient-of, remainder-of, place-lt}
 use Rattle.bits.specs.Fields.{field}
 use Rattle.constraint.specs.Walking.{Constraint, nowhere}
 use Rattle.table.specs.Rows.{Edge, edge, at}
 use Rattle.table.specs.declared.Head.{Head}
-use Rattle.record.specs.Layout.{headerBits, stateSize}
-use Rattle.record.specs.Layout.{opened, rowsOf}
+use Rattle.record.specs.Layout.{headerBits, stateSize, rowsOf}
 use Rattle.record.specs.Checks.{codeAt}
 use Rattle.record.specs.Places.{stateIn, edgesPlace, spot, Column}
 use Rattle.record.proofs.RecordAgain.{length-edgesOf, length-nextsOf, length-rowsOf}
@@ -24,11 +23,7 @@ states-are h bs =
     same : (k : ℕ) → stateIn bs k ≡ nextAt bs (headerBits + k * stateSize)
     same k =
         let e : headerBits + 5 + k * stateSize ≡ headerBits + k * stateSize + 5 = omega arith in
-        let f : headerBits + 5 + k * stateSize + 1 ≡ headerBits + k * stateSize + 6 = omega arith in
-        ap₂ (λ x y. record {
-          zero = opened (field bs (headerBits + k * stateSize) 1) (field bs (headerBits + k * stateSize + 1) 4);
-          one = opened (field bs x 1) (field bs y 4);
-        }) e f
+        let f : headerBits + k * stateSize + 5 + 1 ≡ headerBits + k * stateSize + 6 = omega arith in rw (e, f)
 
 -- the place of the edge of s that carries d
 spot-of : (n s d : ℕ) → d < n → spot n (s * n + d) ≡ s * 16 + d
@@ -84,13 +79,4 @@ pub code-is : (h : Head) (bs word next : List ℕ) (k : Constraint) (n : ℕ) �
       table = map (rowOf h bs word next) (range (h .states));
     } ≡ codeAt h bs
 code-is h bs word next k n e f w x =
-    let w' = subst (λ m. Column bs m (h .states * m) (edgesPlace h) (h .q + 7) (h .q) word) e w in
-    let x' = subst (λ m. Column bs m (h .states * m) (edgesPlace h + h .q) (h .q + 7) 7 next) e x in
-    ap₂ (λ c t. record {
-      p = h .p;
-      q = h .q;
-      window = record { memory = h .memory; lookahead = h .lookahead };
-      constraint = c;
-      start = h .start;
-      table = t;
-    }) (f ∙ states-are h bs) (rows-are h bs word next w' x')
+    rw (f, states-are h bs, rows-are h bs word next (rw e at w) (rw e at x))

@@ -1,11 +1,10 @@
 -- A code with its fields in range, written as a record and read again, is the same code.
 -- In order: length-nexts, length-pairs, length-rows; code-back, length-pack, bits-pack, fields-pack.
 -- Assumes nothing.
-use Rattle.laws.proofs.All.{_≡_, refl, sym, ap, ap₂, subst, _∙_, Bool, true, false, _&&_, _||_, List, [], _∷_, _++_}
-use Rattle.laws.proofs.All.{append-assoc, ℕ, zero, _+_, _*_, _-_, _^_, suc-mul, arith, T, ltb, leb, eqb, eqb→eq}
-use Rattle.laws.proofs.All.{eqb-refl, le→leb, lt→ltb, length, getD, take, drop, replicate, length-append}
-use Rattle.laws.proofs.All.{length-replicate, drop-at, if_then_else_, all, Each, and→, →and, each-map, all-each}
-use Rattle.laws.proofs.All.{all-of}
+use Rattle.laws.proofs.All.{T→true, eq-eqb, eqb-is, so, nay, _≡_, refl, sym, ap, ap₂, subst, _∙_, true, _&&_, List}
+use Rattle.laws.proofs.All.{[], _∷_, _++_, append-assoc, ℕ, zero, _+_, _*_, _-_, _^_, suc-mul, arith, T, ltb, leb}
+use Rattle.laws.proofs.All.{eqb, eqb→eq, le→leb, lt→ltb, length, getD, take, drop, replicate, length-append}
+use Rattle.laws.proofs.All.{length-replicate, drop-at, all, Each, and→, →and, each-map, all-each, all-of}
 use Rattle.answer.specs.declared.Refusal.the-variants.{Field, Length}
 use Rattle.answer.specs.Outcomes.{Outcome, done, unless}
 use Rattle.constraint.specs.Walking.{Constraint, none}
@@ -14,9 +13,8 @@ use Rattle.bits.specs.Fields.{read, write, bitsOf}
 use Rattle.bits.proofs.Fields.{regroup, read-back, length-read}
 use Rattle.table.specs.declared.Head.{Head}
 use Rattle.table.specs.Formed.{head, goodState, goodNext, goodEdge, goodRow, formed, Formed, Ranges}
-use Rattle.record.specs.Layout.{headerFields}
-use Rattle.record.specs.Layout.{header, headOf, size, widths, present, shown, nexts, pairs, rows, values}
-use Rattle.record.specs.Layout.{pack, opened, nextsOf, edgesOf, rowsOf, codeOf}
+use Rattle.record.specs.Layout.{headerFields, header, headOf, size, widths, present, shown, nexts, pairs}
+use Rattle.record.specs.Layout.{rows, values, pack, opened, nextsOf, edgesOf, rowsOf, codeOf}
 use Rattle.record.specs.Parse.{goodHead, goodField, goodFields, goodTarget, filler, goodRest}
 use Rattle.record.specs.Checks.{fieldsGood, fieldsChecked}
 use Rattle.table.proofs.Formed.{formed→}
@@ -25,11 +23,7 @@ use Rattle.answer.proofs.Outcomes.{unless-true}
 
 -- ---- a code from its values
 opened-present : (s : ℕ) → opened (present s) (shown s) ≡ s
-opened-present s = go (eqb s none) refl
-  where
-    go : (b : Bool) → eqb s none ≡ b → opened (if b then 0 else 1) (if b then 0 else s) ≡ s
-    go true e = sym (eqb→eq s none (rw e tt))
-    go false e = refl
+opened-present s = elim (eqb-is s none) [ so p q ↦ rw q (sym p) | nay p q ↦ rw q ]
 
 pub length-nexts : (c : Constraint) → length (nexts c) ≡ length c * 4
 length-nexts [] = refl
@@ -70,20 +64,16 @@ good-even p q n g t =
 
 pub code-back : (c : Code) → Formed c → codeOf (head c) (values c) ≡ c
 code-back c f =
-    ap₂ (λ x y. record { p = c .p; q = c .q; window = c .window; constraint = x; start = c .start; table = y })
-    (nexts-back (c .constraint) (rows (c .table) ++ (0 ∷ [])))
-    (ap (rowsOf (length (c .table)) (2 ^ c .p))
-    (drop-at (nexts (c .constraint)) (rows (c .table) ++ (0 ∷ [])) (length (c .constraint) * 4)
-    (length-nexts (c .constraint)))
-    ∙ rows-back (2 ^ c .p) (c .table) (0 ∷ []) (good-even (c .p) (c .q) (length (c .table)) (c .table) (f .rows)))
+    rw (
+      nexts-back (c .constraint) (rows (c .table) ++ (0 ∷ [])),
+      drop-at (nexts (c .constraint))
+          (rows (c .table) ++ (0 ∷ [])) (length (c .constraint) * 4) (length-nexts (c .constraint)),
+      rows-back (2 ^ c .p) (c .table) (0 ∷ []) (good-even (c .p) (c .q) (length (c .table)) (c .table) (f .rows)),
+    )
 
 -- ---- the checks of a record that was written
 field-good : (k s : ℕ) → T (goodState k s) → T (goodField k (present s) (shown s))
-field-good k s t = go (eqb s none) t
-  where
-    go : (b : Bool) → T (b || ltb s k) → T (goodField k (if b then 0 else 1) (if b then 0 else s))
-    go true u = tt
-    go false u = u
+field-good k s t = elim (eqb-is s none) [ so p q ↦ rw q tt | nay p q ↦ rw q (rw q at t) ]
 
 fields-good : (k : ℕ) (c : Constraint) (r : List ℕ) → T (all (goodNext k) c)
     → T (goodFields k (length c) (nexts c ++ r))
@@ -152,26 +142,14 @@ head-back c f =
     let s : length (c .table) - 1 + 1 ≡ length (c .table) = omega (arith, r .s₁) in
     let k : length (c .constraint) - 1 + 1 ≡ length (c .constraint) = omega (arith, r .k₁) in
     ap (λ vs. headOf (take headerFields vs)) (fields-back c f)
-    ∙ ap₂ (λ a b. record {
-      p = c .p;
-      q = c .q;
-      states = a;
-      memory = c .window .memory;
-      lookahead =
-          c .window .lookahead;
-      count = b;
-      start = c .start;
-    }) s k
+    ∙ rw (s, k)
 
 passed : (l : ℕ) (h : Head) (bs vs : List ℕ) (c : Code) → read (widths h) bs ≡ vs → codeOf h vs ≡ c → T (goodHead h)
     → l ≡ size h → T (goodRest h vs c)
     → fieldsGood l h bs ≡ done c
 passed l h bs vs c e e' t₁ t₂ t₃ =
     ap (λ vs. checked vs (codeOf h vs)) e ∙ ap (checked vs) e'
-    ∙ unless-true Field (goodHead h) (unless Length (eqb l (size h)) (unless Field (goodRest h vs c) (done c))) t₁
-    ∙ unless-true Length (eqb l (size h)) (unless Field (goodRest h vs c) (done c))
-    (subst (λ n. T (eqb l n)) t₂ (eqb-refl l))
-    ∙ unless-true Field (goodRest h vs c) (done c) t₃
+    ∙ rw (T→true (goodHead h) t₁, eq-eqb l (size h) t₂, T→true (goodRest h vs c) t₃)
   where
     checked : List ℕ → Code → Outcome Code
     checked vs c = unless Field (goodHead h) (unless Length (eqb l (size h)) (unless Field (goodRest h vs c) (done c)))

@@ -6,7 +6,7 @@ use Rattle.laws.proofs.All.{_≡_, sym, ap, subst, _∙_, true, false, List, []
 use Rattle.laws.proofs.All.{_≤_, _<_, arith, lt-leb, le-leb, T, length, getD, take, drop, length-append, range}
 use Rattle.laws.proofs.All.{Each, Below, each-image, each-always, length-map-range}
 use Rattle.answer.specs.declared.Refusal.the-variants.{Field, ShortOutput}
-use Rattle.answer.specs.Outcomes.{done, refused, unless}
+use Rattle.answer.specs.Outcomes.{done, refused}
 use Rattle.answer.proofs.Outcomes.{unless-true}
 use Rattle.bits.specs.Fields.{bits, bitsOf}
 use Rattle.bits.specs.Bytes.{spliced}
@@ -18,8 +18,7 @@ use Rattle.table.specs.Rows.{Code}
 use Rattle.table.specs.Formed.{head}
 use Rattle.table.specs.Value.{edgeIn, rowIn, rowsIn, codeIn, ready, Ready}
 use Rattle.table.proofs.ReadyTables.{head-in}
-use Rattle.record.specs.Layout.{headerBits, stateSize}
-use Rattle.record.specs.Layout.{bitCount, size, fill, pack}
+use Rattle.record.specs.Layout.{headerBits, stateSize, bitCount, size, fill, pack}
 use Rattle.record.specs.Parse.{packInto}
 use Rattle.record.specs.Checks.{packWith}
 use Rattle.table.specs.Value.{tableHead}
@@ -80,7 +79,7 @@ module _ (c : Code) (each : Each (λ es. length es ≡ 2 ^ c .p) (c .table)) (ou
 -- ---- the outcome at each return of the code
 pub pack-field : (t : Table) (room : ℕ) → ready t ≡ false → packWith t room ≡ refused Field
 unfolding packWith
-pack-field t room e = ap (λ b. unless Field b (packInto (codeIn t) room)) e
+pack-field t room e = rw e
 
 pub pack-ready : (t : Table) (room : ℕ) → T (ready t) → packWith t room ≡ packInto (codeIn t) room
 unfolding packWith
