@@ -38,21 +38,18 @@ module _ (q : ℕ) where
   unfolding edgeBits
   pairs-write [] = refl
   pairs-write (e ∷ es) =
-      ap (λ l. bits q (e .word) ++ (bits 7 (e .next) ++ l)) (pairs-write es)
-      ∙ sym (append-assoc (bits q (e .word)) (bits 7 (e .next)) (concat (map (edgeBits q) es)))
+      cc (pairs-write es, append-assoc (bits q (e .word)) (bits 7 (e .next)) (concat (map (edgeBits q) es)))
 
   pieces : (es fs : List Edge)
       → concat (map (edgeBits q) (es ++ fs)) ≡ concat (map (edgeBits q) es) ++ concat (map (edgeBits q) fs)
   pieces [] fs = refl
   pieces (e ∷ es) fs =
-      ap (λ l. edgeBits q e ++ l) (pieces es fs)
-      ∙ sym (append-assoc (edgeBits q e) (concat (map (edgeBits q) es)) (concat (map (edgeBits q) fs)))
+      cc (pieces es fs, append-assoc (edgeBits q e) (concat (map (edgeBits q) es)) (concat (map (edgeBits q) fs)))
 
   fields-rows : (n : ℕ) (t : Rows) → Each (λ es. length es ≡ n) t
       → length (repeat (length t) (repeat n (q ∷ 7 ∷ []))) ≡ length (rows t)
   fields-rows n t h =
-      length-repeat (length t) (repeat n (q ∷ 7 ∷ [])) ∙ ap (λ m. length t * m) (length-repeat n (q ∷ 7 ∷ []))
-      ∙ sym (length-rows n t h)
+      cc (length-repeat (length t) (repeat n (q ∷ 7 ∷ [])), length-repeat n (q ∷ 7 ∷ []), length-rows n t h)
 
   rows-write : (n : ℕ) (t : Rows) → Each (λ es. length es ≡ n) t
       → write (repeat (length t) (repeat n (q ∷ 7 ∷ []))) (rows t) ≡ rowsBits q t

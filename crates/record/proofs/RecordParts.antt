@@ -20,8 +20,7 @@ use Rattle.record.specs.Parts.{frontBits, nextBits}
 -- a field of the lowest bits
 pub put-low-is : (B : List ℕ) (at w x v : ℕ) → v ≡ x % 2 ^ w
     → take at B ++ bits w v ++ drop (at + w) B ≡ spliced at (bits w x) B
-put-low-is B at w x v e =
-    sym (spliced-field at w v B) ∙ ap (λ l. spliced at l B) (ap (bits w) e ∙ bits-rest w x)
+put-low-is B at w x v e = cc (spliced-field at w v B, bits-rest w x)
 
 -- no next state
 pub put-absent : (B : List ℕ) (at s : ℕ) → s ≡ none
@@ -43,13 +42,11 @@ put-present B at s v h e =
     let n : eqb s none ≡ false = ne-eqb s none h in
     let p : present s ≡ 1 = rw n in
     let q : shown s ≡ s = rw n in
-    sym (spliced-field at 5 (16 + v) B) ∙ ap (λ l. spliced at l B)
-    (joined s 1 v refl e ∙ ap₂ (λ x y. bits 1 x ++ bits 4 y) (sym p) (sym q))
+    cc (spliced-field at 5 (16 + v) B, joined s 1 v refl e)
 
 -- nothing put
 pub spliced-none : (at : ℕ) (B : List ℕ) → B ≡ spliced at [] B
-spliced-none at B =
-    sym (ap₂ _++_ (append-nil (take at B)) (ap (λ n. drop n B) (add-zero at)) ∙ take-append-drop at B)
+spliced-none at B = cc (append-nil (take at B), add-zero at, take-append-drop at B)
 
 -- as many bits as the widths say
 pub length-fields : (ws vs : List ℕ) → length ws ≡ length vs → length (write ws vs) ≡ sum ws
@@ -64,8 +61,7 @@ write-append [] us [] xs e = refl
 write-append [] us (v ∷ vs) xs e = absurd (omega arith)
 write-append (w ∷ ws) us [] xs e = absurd (omega arith)
 write-append (w ∷ ws) us (v ∷ vs) xs e =
-    ap (λ l. bits w v ++ l) (write-append ws us vs xs (omega arith))
-    ∙ sym (append-assoc (bits w v) (write ws vs) (write us xs))
+    cc (write-append ws us vs xs (omega arith), append-assoc (bits w v) (write ws vs) (write us xs))
 
 -- the numbers vs put one by one into fields of the widths ws, from the place o on, make B′ of the bits B
 abbrev pub Putting : List ℕ → ℕ → List ℕ → List ℕ → List ℕ → Type 0

@@ -21,9 +21,7 @@ drop-read (w ∷ ws) us bs = drop-read ws us (drop w bs) ∙ ap (read us) (drop-
 -- the fields behind n groups of widths
 pub behind : (n m : ℕ) (ws us bs : List ℕ) → n * length ws ≡ m
     → drop m (read (repeat n ws ++ us) bs) ≡ read us (drop (n * sum ws) bs)
-behind n m ws us bs e =
-    ap (λ k. drop k (read (repeat n ws ++ us) bs)) (sym (length-repeat n ws ∙ e)) ∙ drop-read (repeat n ws) us bs
-    ∙ ap (λ k. read us (drop k bs)) (sum-repeat n ws)
+behind n m ws us bs e = cc (length-repeat n ws, drop-read (repeat n ws) us bs, sum-repeat n ws)
 
 -- ---- constraint states
 abbrev pub nextAt : List ℕ → ℕ → NextStates
@@ -71,9 +69,7 @@ edgeAt-drop bs k o o' q e =
 edge-at : (n d q : ℕ) (us bs : List ℕ) → d < n
     → getD (edgesOf n (read (repeat n (q ∷ 7 ∷ []) ++ us) bs)) d (edge 0 0) ≡ edgeAt bs (d * (q + 7)) q
 edge-at zero d q us bs h = absurd (not-suc-le-zero h)
-edge-at (suc n) zero q us bs h =
-    ap (λ o. edge (value (take q bs)) (value (take 7 (drop o bs)))) (sym (zero-add q))
-    ∙ ap (λ o. edgeAt bs o q) (sym (zero-mul (q + 7)))
+edge-at (suc n) zero q us bs h = cc (zero-add q, zero-mul (q + 7))
 edge-at (suc n) (suc d) q us bs h =
     let e : q + 7 + d * (q + 7) ≡ suc d * (q + 7) = omega (arith, suc-mul d (q + 7)) in
     edge-at n d q us (drop 7 (drop q bs)) (le-of-suc-le-suc h) ∙ ap (λ l. edgeAt l (d * (q + 7)) q) (drop-drop 7 q bs)
@@ -86,8 +82,7 @@ row-at (suc s) zero n d q us bs h l =
     let A = repeat n (q ∷ 7 ∷ []) in
     let B = repeat s (repeat n (q ∷ 7 ∷ [])) in
     let e : d ≡ 0 * n + d = omega arith in
-    ap (λ ws. getD (edgesOf n (read ws bs)) d (edge 0 0)) (append-assoc A B us) ∙ edge-at n d q (B ++ us) bs l
-    ∙ ap (λ o. edgeAt bs (o * (q + 7)) q) e
+    cc (append-assoc A B us, edge-at n d q (B ++ us) bs l)
 row-at (suc s) (suc i) n d q us bs h l =
     let A = repeat n (q ∷ 7 ∷ []) in
     let B = repeat s (repeat n (q ∷ 7 ∷ [])) in

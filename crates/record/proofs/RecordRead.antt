@@ -48,9 +48,7 @@ module _ (p q s m a k z : ℕ) (t : List ℕ)
       let (b, _, l) = parts in
       let es : length g - 1 ≡ s = rw (length-rowsOf (s + 1) (2 ^ p) (drop ((k + 1) * 4) t)) (omega arith) in
       let ek : length (nextsOf (k + 1) t) - 1 ≡ k = rw (length-nextsOf (k + 1) t) (omega arith) in
-      ap (λ r. p ∷ q ∷ (length g - 1) ∷ m ∷ a ∷ (length (nextsOf (k + 1) t) - 1) ∷ z ∷ r)
-      (tail-again h t (f .1 .1 .1 .1 .1 .1 .1) b l)
-      ∙ ap₂ (λ x y. p ∷ q ∷ x ∷ m ∷ a ∷ y ∷ z ∷ t) es ek
+      cc (tail-again h t (f .1 .1 .1 .1 .1 .1 .1) b l)
 
   in-range : T (goodHead h) → T (inRange h)
   in-range = head-range vs (f .1 .1 .0) (f .1 .1 .1 .0) (f .1 .1 .1 .1 .0) (f .1 .1 .1 .1 .1 .0)

@@ -50,9 +50,7 @@ module _ (h : Head) (bs word next : List ℕ) where
         let p : spot n e ≡ s * 16 + d = spot-of n s d l in
         let g : e < h .states * n = place-lt (h .states) n s d i l in
         let o : edgesPlace h + h .q + e * (h .q + 7) ≡ edgesPlace h + e * (h .q + 7) + h .q = omega arith in
-        ap (λ m. edge (getD word m 0) (getD next m 0)) (sym p)
-        ∙ ap₂ edge (w .filled e g) (x .filled e g ∙ ap (λ m. field bs m 7) o)
-        ∙ sym (table-at h bs s d i l)
+        cc (w .filled e g, x .filled e g, table-at h bs s d i l)
 
     row-is : (s : ℕ) → s < h .states → rowOf s ≡ getD (codeAt h bs .table) s []
     row-is s i =

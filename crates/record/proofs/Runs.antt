@@ -21,5 +21,4 @@ module _ {A : Type 0} (g : ℕ → A) where
   flat n (suc s) =
       let f : ℕ → List A = λ i. map (λ d. g (i * n + d)) (range n) in
       let e : s * n + n ≡ suc s * n = omega (arith, suc-mul s n) in
-      ap (λ m. concat (map f (range m))) (sym (add-one s)) ∙ concat-more f s ∙ ap (λ l. l ++ f s) (flat n s)
-      ∙ sym (map-range-add (s * n) n) ∙ ap (λ m. map g (range m)) e
+      cc (add-one s, concat-more f s, flat n s, map-range-add (s * n) n)

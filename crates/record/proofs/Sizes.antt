@@ -41,8 +41,7 @@ fields-are : (bs : List ℕ) (o : ℕ) (ws vs : List ℕ) → Standing bs o ws v
 fields-are bs o [] [] s = refl
 fields-are bs o [] (v ∷ vs) s = absurd s
 fields-are bs o (w ∷ ws) [] s = absurd s
-fields-are bs o (w ∷ ws) (v ∷ vs) (e, s) =
-    ap₂ _∷_ e (fields-are bs (o + w) ws vs s ∙ ap (read ws) (sym (drop-drop w o bs)))
+fields-are bs o (w ∷ ws) (v ∷ vs) (e, s) = cc (fields-are bs (o + w) ws vs s, drop-drop w o bs)
 
 -- the numbers in front, field by field
 pub front-is : (bs : List ℕ) (p q s m a k z : ℕ) → Standing bs 0 header (p ∷ q ∷ s ∷ m ∷ a ∷ k ∷ z ∷ [])
