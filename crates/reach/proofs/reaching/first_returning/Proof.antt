@@ -9,13 +9,13 @@ use Rattle.reach.proofs.reaching.first_returning.Tie as tie
 
 abbrev Inv-loop : tie.InvT-loop
 Inv-loop m v k s₀ s =
-    (s ≤ k) × ((j : ℕ) → j < s → (weighs (take k v) j && returning (rowsOf m k) (live (take k v)) j) ≡ false)
+    ((j : ℕ) → j < s → (weighs (take k v) j && returning (rowsOf m k) (live (take k v)) j) ≡ false) × (s ≤ k)
 
 abbrev μ-loop : tie.MeasureT-loop
 μ-loop m v k s₀ s = k - s
 
 loop-holds : tie.Need-loop-holds Inv-loop μ-loop
-loop-holds c = (omega arith, λ j h. absurd (omega arith))
+loop-holds c = (λ j h. absurd (omega arith), omega arith)
 
 is-returning-requires : tie.Need-is-returning-requires Inv-loop μ-loop
 is-returning-requires c κs = (c .before .before .pre .0, c .before .before .pre .1, c .loop-test .taken)
@@ -26,16 +26,16 @@ returns c =
     let a : length (p .v) ≡ 16 = search needs in (
       lowest-at (now (p .m)) (p .v) (p .k) (c .before .before .before .before .pre .1) a
           (c .before .before .before .loop .s) (c .before .before .loop-test .taken)
-          (c .before .before .before .loop .inv .1)
+          (c .before .before .before .loop .inv .0)
           (sym (c .before .is-returning .ensures) ∙ c .if1 .taken),
       λ h. c .before .before .loop-test .taken,
     )
 
 loop-again : tie.Need-loop-again Inv-loop μ-loop
 loop-again c = (
-  omega arith,
-  below-more _ _ (c .before .before .before .loop .inv .1)
+  below-more _ _ (c .before .before .before .loop .inv .0)
       (sym (c .before .is-returning .ensures) ∙ c .if1 .left),
+  omega arith,
 )
 
 returns-2 : tie.Need-returns-2 Inv-loop μ-loop
@@ -43,7 +43,7 @@ returns-2 c =
     let p = c .before .before .args in
     let a : length (p .v) ≡ 16 = search needs in (
       lowest-none (now (p .m)) (p .v) (p .k) (c .before .before .pre .1) a
-          (λ j h. c .before .loop .inv .1 j (omega arith)),
+          (λ j h. c .before .loop .inv .0 j (omega arith)),
       λ h. h,
     )
 
