@@ -10,9 +10,9 @@ ghost use Rattle.checker.specs.Parse.{judged, parse, checkedOnly};
 use answer::Answer;
 use answer::Refusal;
 use answer::Verdict;
+use parsing::read;
 use record::TableAnswer;
 use record::declined;
-use record::read;
 use table::Table;
 
 // The two checks of a table whose fields are in range: 9, 10.

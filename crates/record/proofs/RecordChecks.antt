@@ -1,10 +1,11 @@
 -- The checks of a record's fields as tests of numbered fields, each by its bit place.
--- In order: all-split, all-shift; states-checked, targets-checked, fill-checked; rest-checked.
+-- In order: all-split, all-shift; states-checked, targets-checked, fill-checked; rest-checked,
+-- states-fail, targets-fail, targets-pass.
 -- Assumes nothing.
 use Rattle.laws.proofs.All.{_≡_, refl, sym, ap, ap₂, _∙_, Bool, _&&_, and-assoc, and-true, List, [], _∷_, _++_}
-use Rattle.laws.proofs.All.{append-assoc, ℕ, zero, suc, _+_, _*_, _-_, _^_, zero-mul, suc-mul, add-zero, zero-add}
-use Rattle.laws.proofs.All.{arith, ltb, eqb, getD, take, drop, drop-drop, all, from, range, repeat, length-repeat}
-use Rattle.laws.proofs.All.{sum-repeat}
+use Rattle.laws.proofs.All.{append-assoc, ℕ, zero, suc, _+_, _*_, _^_, zero-mul, suc-mul, add-zero, zero-add, arith}
+use Rattle.laws.proofs.All.{ltb, eqb, getD, take, drop, drop-drop, all, from, range, repeat, length-repeat}
+use Rattle.laws.proofs.All.{sum-repeat, true, false}
 use Rattle.bits.specs.Fields.{field, value, read}
 use Rattle.table.specs.declared.Head.{Head}
 use Rattle.record.specs.Layout.{headerBits, headerFields, stateSize, bitCount, fill, widths, edgesOf, rowsOf}
@@ -137,9 +138,26 @@ fill-checked h bs =
     ∙ ap (λ m. value (take (fill h) (drop (h .states * m) (drop (edgesPlace h) bs)))) (sum-repeat n (h .q ∷ 7 ∷ []))
     ∙ ap (λ l. value (take (fill h) l)) (past bs (h .states * (n * (h .q + 7))) (edgesPlace h) (bitCount h) e)
 
--- the check of the fields behind the header, in the code's order
-pub rest-checked : (h : Head) (bs : List ℕ) → restGood h bs
-    ≡ (all (goodAt bs (h .count)) (range (2 * h .count)) && (all (goodTargetAt bs h) (range (h .states * 2 ^ h .p))
-    && eqb (field bs (bitCount h) (fill h)) 0))
-rest-checked h bs =
-    rw (states-checked h bs, targets-checked h bs, fill-checked h bs)
+-- the check of the fields behind the header, in the code's order: the answers a and b of the first two tests
+module _ (h : Head) (bs : List ℕ) (n : ℕ) (a b : Bool) (e : n ≡ 2 ^ h .p)
+    (f : a ≡ all (goodAt bs (h .count)) (range (2 * h .count)))
+    (g : b ≡ all (goodTargetAt bs h) (range (h .states * n))) where
+  pub rest-checked : restGood h bs ≡ (a && (b && eqb (field bs (bitCount h) (fill h)) 0))
+  rest-checked =
+      ap₂ _&&_ (states-checked h bs ∙ sym f)
+      (ap₂ _&&_ (targets-checked h bs ∙ sym (g ∙ ap (λ n. all (goodTargetAt bs h) (range (h .states * n))) e))
+      (ap (λ x. eqb x 0) (fill-checked h bs)))
+
+  pub targets-fail : a ≡ true → b ≡ false → false ≡ restGood h bs
+  targets-fail p q = sym (rest-checked ∙ ap₂ (λ a b. a && (b && eqb (field bs (bitCount h) (fill h)) 0)) p q)
+
+  pub targets-pass : (r : Bool) → a ≡ true → b ≡ true → r ≡ eqb (field bs (bitCount h) (fill h)) 0 → r ≡ restGood h bs
+  targets-pass r p q s =
+      s ∙ sym (rest-checked ∙ ap₂ (λ a b. a && (b && eqb (field bs (bitCount h) (fill h)) 0)) p q)
+
+pub states-fail : (h : Head) (bs : List ℕ) (a : Bool) → a ≡ all (goodAt bs (h .count)) (range (2 * h .count))
+    → a ≡ false → false ≡ restGood h bs
+states-fail h bs a f p =
+    let b = all (goodTargetAt bs h) (range (h .states * 2 ^ h .p)) in
+    sym (rest-checked h bs (2 ^ h .p) a b refl f refl
+    ∙ ap (λ a. a && (b && eqb (field bs (bitCount h) (fill h)) 0)) p)

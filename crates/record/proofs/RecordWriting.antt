@@ -2,9 +2,9 @@
 -- In order: small-in; below-all; even, whole-record; pack-field, pack-ready, pack-long, pack-short,
 -- pack-fits.
 -- Assumes nothing.
-use Rattle.laws.proofs.All.{_≡_, sym, ap, subst, _∙_, true, false, List, [], _∷_, _++_, ℕ, suc, _+_, _*_, _-_, _^_}
-use Rattle.laws.proofs.All.{_≤_, _<_, arith, lt-leb, le-leb, T, length, getD, take, drop, length-append, range}
-use Rattle.laws.proofs.All.{Each, Below, each-image, each-always, length-map-range}
+use Rattle.laws.proofs.All.{_≡_, sym, ap, subst, _∙_, true, false, List, [], _∷_, _++_, ℕ, suc, _+_, _*_, _^_, _≤_}
+use Rattle.laws.proofs.All.{_<_, arith, lt-leb, le-leb, T, length, getD, take, drop, length-append, range, Each}
+use Rattle.laws.proofs.All.{Below, each-image, each-always, length-map-range}
 use Rattle.answer.specs.declared.Refusal.the-variants.{Field, ShortOutput}
 use Rattle.answer.specs.Outcomes.{done, refused}
 use Rattle.answer.proofs.Outcomes.{unless-true}

@@ -1,6 +1,6 @@
 -- Where each field stands among the bits bs of a record, as the code finds it.
--- In order: Small, numbers in front; nextIn, stateIn, the constraint; goodAt, its fields; edgesPlace, goodTargetAt,
--- the edges; spot, an edge's place in a table's arrays; Column, an array of one field of every edge; Reach, its
+-- In order: Small, numbers in front; nextIn, stateIn, the constraint; goodAt, its fields; edgesPlace, targetAt,
+-- goodTargetAt, the edges; spot, an edge's place in a table's arrays; Column, an array of one field of every edge; Reach, its
 -- limits.
 -- Assumes nothing.
 use mathlib.Core.Bool.{Bool}
@@ -41,9 +41,13 @@ goodAt bs K i = goodField K (field bs (headerBits + i * 5) 1) (field bs (headerB
 abbrev pub edgesPlace : Head → ℕ
 edgesPlace h = headerBits + h .count * stateSize
 
+-- the e-th of the next states that stand d bits apart, the first at the place o, is one of n states
+abbrev pub targetAt : List ℕ → ℕ → ℕ → ℕ → ℕ → Bool
+targetAt bs o d n e = ltb (field bs (o + e * d) 7) n
+
 -- the e-th edge, of those of all states, leads to a state
 abbrev pub goodTargetAt : List ℕ → Head → ℕ → Bool
-goodTargetAt bs h e = ltb (field bs (edgesPlace h + h .q + e * (h .q + 7)) 7) (h .states)
+goodTargetAt bs h = targetAt bs (edgesPlace h + h .q) (h .q + 7) (h .states)
 
 -- where the e-th edge, n a state, stands in a table's arrays
 abbrev pub spot : ℕ → ℕ → ℕ

@@ -7,7 +7,7 @@ use answer::Answer;
 use answer::Verdict;
 use checker::load;
 use decoder::decode_with;
-use record::read;
+use parsing::read;
 
 // The blocks of the words under the record in the bytes, in the output. Declines with the record's refusal, then 12,
 // 13, 11.

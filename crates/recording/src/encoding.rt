@@ -7,7 +7,7 @@ use answer::Answer;
 use answer::Verdict;
 use checker::load;
 use encoder::encode_with;
-use record::read;
+use parsing::read;
 
 // The recording of the blocks under the record in the bytes, in the output. Declines with the record's refusal, then
 // 13, then 11.

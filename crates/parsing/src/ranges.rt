@@ -6,13 +6,13 @@ ghost use lib.Dec.{eqb};
 ghost use lib.ListN.{length};
 ghost use Rattle.laws.specs.Lists.{all, range};
 ghost use Rattle.bits.specs.Fields.{bitsOf, field};
 ghost use Rattle.record.specs.Layout.{headerBits, stateSize, bitCount, size, fill};
 ghost use Rattle.record.specs.Parse.{goodField};
 ghost use Rattle.record.specs.Checks.{restGood};
-ghost use Rattle.record.specs.Places.{goodAt, goodTargetAt, edgesPlace, Small};
-use crate::numbers;
-use crate::numbers::FRONT;
-use crate::numbers::STATE;
+ghost use Rattle.record.specs.Places.{goodAt, targetAt, Small};
+use record::numbers;
+use record::numbers::FRONT;
+use record::numbers::STATE;
 use table::Head;
 
 // Whether the next state at the bit place `at` is one of `count` states, or absent and 0.
@@ -43,15 +43,13 @@ fn good_states(bytes: &[u8], count: usize) -> bool
     true
 }
 
-// Whether every edge leads to a state.
-fn good_targets(bytes: &[u8], f: Head, edges: usize) -> bool
-    requires { ⌜ Small f × (edges ≤ 2048)
-        × (edgesPlace f + edges * (f .q + 7) ≤ 8 * length (now bytes)) ⌝ }
-    ensures answer { λ r. ⌜ r ≡ all (goodTargetAt (bitsOf (now (bytes .entry))) f) (range edges) ⌝ }
+// Whether every edge leads to one of the states: the next state of the first stands at the bit place `first`, and those
+// of the others `step` bits apart.
+fn good_targets(bytes: &[u8], edges: usize, first: usize, step: usize, states: usize) -> bool
+    requires { ⌜ (edges ≤ 2048) × (first ≤ 256) × (step ≤ 15)
+        × (first + edges * step + 7 ≤ 8 * length (now bytes) + step) ⌝ }
+    ensures answer { λ r. ⌜ r ≡ all (targetAt (bitsOf (now (bytes .entry))) first step states) (range edges) ⌝ }
 {
-    let first = FRONT + f.count * STATE + f.q;
-    let step = f.q + 7;
-    let states = f.states;
     let mut e = 0;
     while e < edges {
         if states <= bits::get(bytes, first + e * step, 7) as usize {
@@ -80,7 +78,13 @@ pub fn good_rest(bytes: &[u8], f: Head) -> bool
         return false;
     }
     let edges = f.states * bits::power(f.p);
-    if !good_targets(bytes, f, edges) {
+    if !good_targets(
+        bytes,
+        edges,
+        FRONT + f.count * STATE + f.q,
+        f.q + 7,
+        f.states,
+    ) {
         return false;
     }
     good_fill(bytes, f)

@@ -2,9 +2,9 @@
 -- Assumes nothing.
 use Rattle.laws.proofs.All.{ap, ap₂, _∙_, _-_, _*_, arith, needs, now, eqb}
 use Rattle.bits.specs.Fields.{bitsOf, field}
 use Rattle.record.proofs.Sizes.{bitCount-le}
-use Rattle.record.proofs.ranges.good_fill.Statement.{statement}
-use Rattle.record.proofs.ranges.good_fill.Tie as tie
+use Rattle.parsing.proofs.ranges.good_fill.Statement.{statement}
+use Rattle.parsing.proofs.ranges.good_fill.Tie as tie
 
 mul-get : tie.Need-mul-get
 mul-get c =

@@ -1,8 +1,8 @@
 -- `good_next` meets its contract: the field "present" says which test is made of the other.
 -- Assumes nothing.
 use Rattle.laws.proofs.All.{arith, eq-eqb, ne-eqb, needs}
-use Rattle.record.proofs.ranges.good_next.Statement.{statement}
-use Rattle.record.proofs.ranges.good_next.Tie as tie
+use Rattle.parsing.proofs.ranges.good_next.Statement.{statement}
+use Rattle.parsing.proofs.ranges.good_next.Tie as tie
 
 returns : tie.Need-returns
 returns c = rw (

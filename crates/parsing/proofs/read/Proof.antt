@@ -4,15 +4,15 @@ use Rattle.laws.proofs.All.{true, _≡_, sym, ap, _∙_, not-true, not-false, l
 use Rattle.laws.proofs.All.{now, length}
 use Rattle.answer.specs.Outcomes.{done}
 use Rattle.table.specs.Formed.{Ranges}
 use Rattle.record.specs.Parse.{goodHead}
 use Rattle.record.specs.Layout.{size}
 use Rattle.record.specs.Places.{Small}
 use Rattle.record.proofs.Sizes.{small-of}
 use Rattle.record.proofs.RecordRead.{read-ready}
 use Rattle.record.proofs.RecordReading.{ranges-in, checked-short, checked-front, checked-length}
 use Rattle.record.proofs.RecordReading.{checked-rest, checked-good, good-not}
-use Rattle.record.proofs.read.Statement.{statement}
-use Rattle.record.proofs.read.Tie as tie
+use Rattle.parsing.proofs.read.Statement.{statement}
+use Rattle.parsing.proofs.read.Tie as tie
 
 -- the header is good
 fronted : (c : tie.Else2) → goodHead (c .before .before .front-of .result) ≡ true

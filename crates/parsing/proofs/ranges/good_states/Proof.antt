@@ -4,9 +4,9 @@
 use Rattle.laws.proofs.All.{_≡_, sym, _∙_, true, ℕ, _*_, _-_, _≤_, _<_, arith, below-more, not-true, not-false, now}
 use Rattle.laws.proofs.All.{all-range-true, all-range-false}
 use Rattle.bits.specs.Fields.{bitsOf}
 use Rattle.record.specs.Places.{goodAt}
-use Rattle.record.proofs.ranges.good_states.Statement.{statement}
-use Rattle.record.proofs.ranges.good_states.Tie as tie
+use Rattle.parsing.proofs.ranges.good_states.Statement.{statement}
+use Rattle.parsing.proofs.ranges.good_states.Tie as tie
 
 abbrev Inv-loop : tie.InvT-loop
 Inv-loop bytes count i₀ i = (i ≤ 2 * count) × ((k : ℕ) → k < i → goodAt (bitsOf bytes) count k ≡ true)
