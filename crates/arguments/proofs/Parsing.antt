@@ -1,10 +1,9 @@
 -- Numbers read digit by digit.
 -- In order: worth-grows; number-capped; number-on, number-off, number-end, digit by digit; parsed-none, parsed-some.
 -- Assumes nothing.
-use Rattle.laws.proofs.All.{_≡_, refl, sym, ap, _∙_, Bool, true, false, List, [], _∷_, ℕ, zero, suc, _+_, _*_, _≤_}
-use Rattle.laws.proofs.All.{_<_, min, min-eq-left, min-eq-right, add-one, arith, lt-ltb, le-ltb, ltb-true}
-use Rattle.laws.proofs.All.{ltb-false, ltb, length, getD, drop, drop-cons, drop-length, if_then_else_, all}
-use Rattle.arguments.specs.declared.Parsed.{Parsed}
+use Rattle.laws.proofs.All.{_≡_, refl, sym, ap, _∙_, Bool, true, false, List, [], _∷_, ℕ, _+_, _*_, _≤_, _<_, min}
+use Rattle.laws.proofs.All.{min-eq-left, min-eq-right, add-one, arith, lt-ltb, le-ltb, ltb-true, ltb-false, ltb}
+use Rattle.laws.proofs.All.{length, getD, drop, drop-cons, drop-length, if_then_else_, all}
 use Rattle.arguments.specs.declared.Parsed.the-variants.{Number, Wrong}
 use Rattle.arguments.specs.Parsing.{digitOf, isDigit, worth, numberIn, parsed}
 

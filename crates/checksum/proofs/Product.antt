@@ -1,7 +1,7 @@
 -- A product modulo 2^64 from the products of its halves.
 -- In order: three-terms; product; sum-more, sum-append.
 -- Assumes nothing.
-use mathlib.Core.Path.{_≡_, refl, sym, ap, ap₂, _∙_}
+use mathlib.Core.Path.{_≡_, refl, sym, ap, _∙_}
 use mathlib.Core.List.{List, [], _∷_, _++_}
 use Prim.Native.Nat.{ℕ, _+_, _*_, _/_, _%_, _^_, _<_}
 use native.Mathlib.Nat.{mod-add-mod, add-mod-mod, div-add-mod'}

@@ -1,9 +1,8 @@
 -- How a trace ends, by the answer of the call.
 -- In order: end-refused, end-done.
 -- Assumes nothing.
-use Rattle.laws.proofs.All.{_≡_, refl, sym, _∙_, List, ℕ, arith}
+use Rattle.laws.proofs.All.{_≡_, refl, List, ℕ, arith}
 use Rattle.answer.specs.declared.Refusal.{Refusal}
-use Rattle.answer.specs.declared.Answer.{Answer}
 use Rattle.answer.specs.declared.Answer.the-variants.{Done, Refused}
 use Rattle.answer.specs.Outcomes.{Outcome, done, refused, answerOf}
 use Rattle.arguments.specs.declared.Status.the-variants.{Failed, Done as Ended}

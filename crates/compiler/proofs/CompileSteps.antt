@@ -2,9 +2,9 @@
 -- In order: compile-heavy, compile-crowded, compile-table; crowded-stays; weighed-bad, weighed-good; has-states,
 -- held-powers, held-component; begun-splits, begun-crowded, begun-room, begun-short, begun-work, begun-finished.
 -- Assumes nothing.
-use Rattle.laws.proofs.All.{_≡_, sym, ap, ap₂, subst, _∙_, Bool, true, false, not, _&&_, List, [], _∷_, ℕ, zero}
-use Rattle.laws.proofs.All.{suc, _+_, _*_, _^_, _≤_, _<_, arith, lt-ltb, le-leb, lt-leb, ltb-false, leb}
-use Rattle.laws.proofs.All.{length, getD, length-map, pow-mono, sum, range, length-from, inl}
+use Rattle.laws.proofs.All.{_≡_, sym, ap, ap₂, subst, _∙_, Bool, true, false, not, _&&_, List, ℕ, zero, suc, _+_}
+use Rattle.laws.proofs.All.{_*_, _^_, _≤_, _<_, arith, lt-ltb, le-leb, lt-leb, ltb-false, leb, length, getD}
+use Rattle.laws.proofs.All.{length-map, pow-mono, sum, inl}
 use Rattle.answer.specs.declared.Refusal.{Refusal}
 use Rattle.answer.specs.declared.Refusal.the-variants.{NoCode, TooHeavy, TooManyEdges, NoWindow}
 use Rattle.answer.specs.Outcomes.{done, refused, unless}

@@ -39,4 +39,5 @@ unfolding readRunLength
 run-length-early xs =
     unless-early Length (eqb (length xs) 5) _ (inr refl)
     (unless-early Parameters (goodParameters (getD xs 2 0) (getD xs 3 0) (getD xs 4 0)) _ (inl (omega arith))
-    (unless-early States (leb (getD xs 0 0) (getD xs 1 0) && leb (getD xs 1 0) 15) _ (inl (omega arith)) (done-early _)))
+    (unless-early States (leb (getD xs 0 0) (getD xs 1 0) && leb (getD xs 1 0) 15) _ (inl (omega arith))
+    (done-early _)))

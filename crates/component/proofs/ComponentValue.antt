@@ -2,8 +2,8 @@
 -- In order: the module of one component: component-states, state-low, keep-is, place-is, row-is, arcs-are, bounded,
 -- graph-is, found-in.
 -- Assumes nothing.
-use Rattle.laws.proofs.All.{_≡_, refl, sym, ap, ap₂, subst, _∙_, inl, inr, Bool, true, false, _&&_, List, map, ℕ}
-use Rattle.laws.proofs.All.{_+_, _≤_, _<_, arith, lt-ltb, le-ltb, ltb-false, ne-eqb, T, ltb, length, getD, take}
+use Rattle.laws.proofs.All.{_≡_, refl, sym, ap, subst, _∙_, inl, inr, Bool, true, false, _&&_, List, map, ℕ, _+_}
+use Rattle.laws.proofs.All.{_≤_, _<_, arith, lt-ltb, le-ltb, ltb-false, ne-eqb, T, ltb, length, getD, take}
 use Rattle.laws.proofs.All.{length-take, length-take-le, getD-take, if_then_else_, range, filter, first, elem}
 use Rattle.laws.proofs.All.{indexOf, sum, concat, Each, and→, T→true, each-map, each-always, each-filter}
 use Rattle.laws.proofs.All.{each-image, each-range, each-union, each-elem, elem-filter, index-lt, each-at}
@@ -13,7 +13,7 @@ use Rattle.constraint.specs.Walking.{Target}
 use Rattle.graph.specs.declared.Graph.{Graph}
 use Rattle.graph.specs.declared.NextGraph.{NextGraph}
 use Rattle.reach.specs.declared.reaching.Members.{Members}
-use Rattle.graph.specs.Arcs.{Arc, arc, leadsOn}
+use Rattle.graph.specs.Arcs.{Arc, leadsOn}
 use Rattle.graph.specs.Splitting.{crowded}
 use Rattle.graph.specs.Component.{both, within, renamed, renumbered, reachings, reaches, returning, live, weightOf}
 use Rattle.graph.specs.Component.{componentStates, componentGraph}

@@ -38,7 +38,8 @@ module _ (n : ℕ) (x : Work) (i : Each (Inside (length (x .weights))) (x .arcs)
 
   zero-in : T (elem 0 S)
   unfolding tableStates tableOf
-  zero-in = →elem-filter (reach 0) 0 (range K) (elem-range K 0 pos) (reaches-is K (rows.firsts n K (x .arcs) i) .self 0 pos)
+  zero-in =
+      →elem-filter (reach 0) 0 (range K) (elem-range K 0 pos) (reaches-is K (rows.firsts n K (x .arcs) i) .self 0 pos)
 
   -- the first edges of a state reached lead to states reached
   row-stays : (s : ℕ) → T (elem s S) → Each (λ e. T (elem (e .target) S)) (row n (x .arcs) s)

@@ -125,7 +125,8 @@ module _ (v : List ℕ) (g : List Arc) (i : Each (Inside (length v)) g) (z : ℕ
   distinct′ d e =
       let e′ = arc (getD C (e .source) 0) (e .word) (getD C (e .target) 0) in
       le-trans (image-count (renamed C) e e′ (within C g)
-      (each-map _ _ (λ f h p. arc-eq (cc (at-index (f .source) C (h .0))) (cc) (cc (at-index (f .target) C (h .1)))) (within C g) in-both))
+      (each-map _ _ (λ f h p. arc-eq (cc (at-index (f .source) C (h .0))) (cc)
+      (cc (at-index (f .target) C (h .1)))) (within C g) in-both))
       (le-trans (tot-filter-le (one (same e′)) (both C) g) (d e′))
 
   enough′ : (n j : ℕ) → j < length C → getD v (getD C j 0) 0 * n ≤ total v (out g (getD C j 0))

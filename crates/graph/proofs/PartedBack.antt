@@ -12,4 +12,5 @@ pub parted-count : (s K : ℕ) (keep g : List Arc)
     → length (doubled s K (map (moved s K keep) g)) ≡ length g + length (filter (enters s) g)
 parted-count s K keep g = simp (length-append, length-map, filter-map (enters s) (moved s K keep))
     (ap (λ l. length g + length l) (filter-same _ (enters s) g
-    (each-always (λ e. enters s (moved s K keep e) ≡ enters s e) (λ e. elim (fate s K keep e) [ goes p u q ↦ rw q | stays u q ↦ rw q ]) g)))
+    (each-always (λ e. enters s (moved s K keep e) ≡ enters s e)
+    (λ e. elim (fate s K keep e) [ goes p u q ↦ rw q | stays u q ↦ rw q ]) g)))

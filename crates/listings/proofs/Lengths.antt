@@ -1,8 +1,7 @@
 -- How long the texts are: 43,028 bytes hold what the listing program prints.
 -- In order: refusal-is, refusal-short; compiled-short, never-short, room-enough.
 -- Assumes nothing.
-use Rattle.laws.proofs.All.{_≡_, ap, _∙_, _⊎_, inl, inr, List, [], _∷_, _++_, ℕ, _≤_, _<_, arith, length}
-use Rattle.laws.proofs.All.{length-append}
+use Rattle.laws.proofs.All.{_≡_, ap, _⊎_, inl, inr, List, [], _∷_, _++_, ℕ, _≤_, _<_, arith, length, length-append}
 use Rattle.answer.specs.declared.Refusal.{Refusal}
 use Rattle.answer.specs.declared.Refusal.the-variants.{ShortOutput}
 use Rattle.answer.specs.Refusals.{numberOf}

@@ -1,5 +1,6 @@
 -- Laws of a set of places and the list of its members, to which places are added.
--- In order: member-put; absent-put, absent-blank; queue-blank, queue-room, queue-put, queue-same; grown-none, grown-more.
+-- In order: member-put; absent-put, absent-blank; queue-blank, queue-room, queue-put, queue-same; grown-none,
+-- grown-more.
 -- Assumes nothing.
 use Rattle.laws.proofs.All.{_≡_, refl, sym, subst, _∙_, _⊎_, inl, inr, Bool, true, false, List, [], _∷_, ℕ, zero}
 use Rattle.laws.proofs.All.{suc, _+_, _<_, not-suc-le-zero, le-of-suc-le-suc, arith, ℕ-discrete, below-more, T}

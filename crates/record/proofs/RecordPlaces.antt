@@ -1,12 +1,12 @@
 -- Where each field of a record stands: the code that is read, entry by entry, by bit places.
 -- In order: nextAt, edgeAt, constraint-at, table-at.
 -- Assumes nothing.
-use Rattle.laws.proofs.All.{_≡_, refl, sym, ap, ap₂, _∙_, List, [], _∷_, _++_, append-assoc, ℕ, zero, suc, _+_, _*_}
-use Rattle.laws.proofs.All.{_^_, _<_, not-suc-le-zero, le-of-suc-le-suc, zero-mul, suc-mul, zero-add, arith, length}
-use Rattle.laws.proofs.All.{getD, take, drop, drop-drop, sum, repeat, sum-repeat, length-repeat}
+use Rattle.laws.proofs.All.{_≡_, refl, ap, ap₂, _∙_, List, [], _∷_, _++_, append-assoc, ℕ, zero, suc, _+_, _*_, _^_}
+use Rattle.laws.proofs.All.{_<_, not-suc-le-zero, le-of-suc-le-suc, zero-mul, suc-mul, zero-add, arith, length}
+use Rattle.laws.proofs.All.{getD, drop, drop-drop, sum, repeat, sum-repeat, length-repeat}
 use Rattle.constraint.specs.Walking.{NextStates}
 use Rattle.table.specs.Rows.{Edge, edge, at}
-use Rattle.bits.specs.Fields.{value, read, field}
+use Rattle.bits.specs.Fields.{read, field}
 use Rattle.table.specs.declared.Head.{Head}
 use Rattle.record.specs.Layout.{headerBits, headerFields, stateSize}
 use Rattle.record.specs.Layout.{header, fill, widths, opened, nextsOf, edgesOf, rowsOf, codeOf}

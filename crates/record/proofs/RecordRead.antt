@@ -1,7 +1,7 @@
 -- Bytes whose fields pass their checks are the record of the code that they name: a record is canonical.
 -- In order: fields-formed, read-ready; fields-again, Checked, fields-good.
 -- Assumes nothing.
-use Rattle.laws.proofs.All.{_≡_, refl, sym, ap, ap₂, subst, _∙_, _&&_, List, [], _∷_, ℕ, _+_, _*_, _-_, _^_, _≤_}
+use Rattle.laws.proofs.All.{_≡_, refl, sym, ap, subst, _∙_, _&&_, List, [], _∷_, ℕ, _+_, _*_, _-_, _^_, _≤_}
 use Rattle.laws.proofs.All.{le-refl, arith, T, leb, eqb, eqb→eq, length, drop, replicate, all, sum, and→, →and}
 use Rattle.laws.proofs.All.{Below, sum-replicate}
 use Rattle.answer.specs.declared.Refusal.the-variants.{Field, Length}

@@ -1,10 +1,9 @@
 -- A table's arrays filled from a record's bits stand for the code that the bits hold.
 -- In order: states-are; rows-are; code-is.
 -- Assumes nothing.
-use Rattle.laws.proofs.All.{_≡_, sym, ap, ap₂, _∙_, List, [], map, ℕ, zero, suc, _+_, _*_, _^_, _<_}
-use Rattle.laws.proofs.All.{not-suc-le-zero, le-of-suc-le-suc, arith, length, getD, drop, range, is-map}
-use Rattle.laws.proofs.All.{quotient-of, remainder-of, place-lt}
-use Rattle.bits.specs.Fields.{field}
+use Rattle.laws.proofs.All.{_≡_, sym, ap₂, _∙_, List, [], map, ℕ, zero, suc, _+_, _*_, _^_, _<_, not-suc-le-zero}
+use Rattle.laws.proofs.All.{le-of-suc-le-suc, arith, length, getD, drop, range, is-map, quotient-of, remainder-of}
+use Rattle.laws.proofs.All.{place-lt}
 use Rattle.constraint.specs.Walking.{Constraint, nowhere}
 use Rattle.table.specs.Rows.{Edge, edge, at}
 use Rattle.table.specs.declared.Head.{Head}

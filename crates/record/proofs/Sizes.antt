@@ -2,8 +2,8 @@
 -- In order: small-of; power-le, row-le, edges-le, bitCount-le; Standing, front-is; place-le, product-le; edge-count-le,
 -- edges-end; reach-words, reach-nexts.
 -- Assumes nothing.
-use Rattle.laws.proofs.All.{_≡_, refl, sym, ap, ap₂, _∙_, List, [], _∷_, ℕ, _+_, _*_, _^_, _≤_, _<_, mul-le-mul}
-use Rattle.laws.proofs.All.{mul-le-mul-right, mul-assoc, arith, lit≤, drop, drop-drop, pow-mono, pow-pos}
+use Rattle.laws.proofs.All.{_≡_, refl, ap, List, [], _∷_, ℕ, _+_, _*_, _^_, _≤_, _<_, mul-le-mul, mul-le-mul-right}
+use Rattle.laws.proofs.All.{mul-assoc, arith, lit≤, drop, drop-drop, pow-mono, pow-pos}
 use Rattle.bits.specs.Fields.{field, read}
 use Rattle.bits.proofs.Runs.{size-holds}
 use Rattle.table.specs.declared.Head.{Head}

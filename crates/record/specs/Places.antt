@@ -1,7 +1,7 @@
 -- Where each field stands among the bits bs of a record, as the code finds it.
 -- In order: Small, numbers in front; nextIn, stateIn, the constraint; goodAt, its fields; edgesPlace, targetAt,
--- goodTargetAt, the edges; spot, an edge's place in a table's arrays; Column, an array of one field of every edge; Reach, its
--- limits.
+-- goodTargetAt, the edges; spot, an edge's place in a table's arrays; Column, an array of one field of every edge;
+-- Reach, its limits.
 -- Assumes nothing.
 use mathlib.Core.Bool.{Bool}
 use mathlib.Core.Path.{_≡_}

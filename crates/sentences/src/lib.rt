@@ -1,4 +1,5 @@
-// Sentences: a pattern of bytes in which each `#` stands for a number, and each `~` for the plural that a number asks for.
+// Sentences: a pattern of bytes in which each `#` stands for a number, and each `~` for the plural ending that a number
+// asks for.
 ghost use mathlib.Core.Path.{_≡_};
 ghost use lib.ListN.{getD};
 ghost use Rattle.text.specs.Texts.{Added};

@@ -1,20 +1,19 @@
 -- The lines of a set's records, as the code puts them.
 -- In order: record-within, text-nowhere, text-at, part-line; line-bad, line-good; no-lines, lines-more.
 -- Assumes nothing.
-use Rattle.laws.proofs.All.{_≡_, refl, sym, ap, ap₂, subst, _∙_, Bool, true, false, List, [], _∷_, _++_, ℕ, _+_}
-use Rattle.laws.proofs.All.{_-_, _≤_, arith, T, ltb, length, take, drop, getD, length-map, length-drop}
-use Rattle.laws.proofs.All.{length-take-le, take-nil, if_then_else_, range, concat-more, length-from}
+use Rattle.laws.proofs.All.{_≡_, refl, sym, ap, _∙_, Bool, true, false, List, [], ℕ, _+_, _-_, _≤_, arith, ltb}
+use Rattle.laws.proofs.All.{length, take, drop, getD, length-map, length-drop, length-take-le, take-nil}
+use Rattle.laws.proofs.All.{if_then_else_, range, concat-more, length-from}
 use Rattle.text.specs.Texts.{Added}
 use Rattle.text.proofs.Adding.{added-same, added-more}
 use Rattle.answer.specs.declared.Refusal.{Refusal}
-use Rattle.answer.specs.Outcomes.{Outcome, done, refused, verdictOn}
+use Rattle.answer.specs.Outcomes.{Outcome, verdictOn}
 use Rattle.table.specs.declared.Table.{Table}
 use Rattle.table.specs.Rows.{Code}
 use Rattle.table.specs.Value.{codeIn, rowIn}
 use Rattle.answer.specs.declared.Verdict.{Verdict}
 use Rattle.answer.specs.declared.Verdict.the-variants.{Good, Bad}
 use Rattle.checker.specs.Parse.{parse}
-use Rattle.places.specs.declared.Place.{Place}
 use Rattle.places.specs.declared.Place.the-variants.{At, Nowhere}
 use Rattle.places.specs.Offsets.{placeAt, offsetOf, recordPlace}
 use Rattle.places.proofs.Offsets.{place→}

@@ -2,13 +2,13 @@
 -- In order: states-none, states-more; same-runs; run-least, run-none; runs-told, states-told;
 -- runs-so, runs-found.
 -- Assumes nothing.
-use Rattle.laws.proofs.All.{_≡_, refl, sym, ap, ap₂, subst, _∙_, Bool, true, false, and-false, List, [], _++_, ℕ}
-use Rattle.laws.proofs.All.{_+_, _-_, _≤_, _<_, arith, eqb-true, eq-eqb, ne-eqb, lt-ltb, le-ltb, lt-leb, le-leb, T}
-use Rattle.laws.proofs.All.{eqb, length, getD, range, all, and→, T→true, bool-eq, all-below→, →all-below}
-use Rattle.laws.proofs.All.{map-range-at, length-map-range, is-map, all-range-true, all-range-false}
-use Rattle.laws.proofs.All.{first-range-none, first-least, concat-more}
+use Rattle.laws.proofs.All.{_≡_, refl, sym, ap, ap₂, subst, _∙_, true, false, and-false, [], _++_, ℕ, _+_, _-_, _≤_}
+use Rattle.laws.proofs.All.{_<_, arith, eqb-true, eq-eqb, lt-ltb, le-ltb, lt-leb, le-leb, T, eqb, length, getD}
+use Rattle.laws.proofs.All.{range, all, and→, T→true, bool-eq, all-below→, →all-below, map-range-at}
+use Rattle.laws.proofs.All.{length-map-range, is-map, all-range-true, all-range-false, first-range-none}
+use Rattle.laws.proofs.All.{first-least, concat-more}
 use Rattle.constraint.specs.declared.Constraint.{Constraint}
-use Rattle.constraint.specs.Walking.{NextStates, Constraint as Limits, none, nowhere, runLengthState, runLength}
+use Rattle.constraint.specs.Walking.{NextStates, Constraint as Limits, nowhere, runLengthState, runLength}
 use Rattle.constraint.specs.Value.{nextStatesAt, constraintOf}
 use Rattle.constraint.proofs.Values.{length-constraintOf}
 use Rattle.showing.specs.Limits.{alike, alikeAt, isRuns, leastRun, stateLine, stateOf, statesTo}

@@ -12,7 +12,8 @@ items zero = []
 items (suc n) = 32 ∷ 35 ∷ items n
 
 -- THEOREM: the pattern cut behind its number k
-pub listed-items : (n k : ℕ) (l : List ℕ) → k ≤ n → k ≤ length l → sentence (take (2 * k) (items n)) l ≡ listed (take k l)
+pub listed-items : (n k : ℕ) (l : List ℕ) → k ≤ n → k ≤ length l
+    → sentence (take (2 * k) (items n)) l ≡ listed (take k l)
 unfolding listed
 listed-items n zero l h b = refl
 listed-items zero (suc k) l h b = absurd (omega arith)

@@ -1,8 +1,8 @@
 -- The listing as it is put, and how long it can be: 43,028 bytes hold that of every record.
 -- In order: listing-is; Small, listing-short, listing-most; ready-small, formed-short.
 -- Assumes nothing.
-use Rattle.laws.proofs.All.{_≡_, sym, ap, subst, _∙_, List, [], _∷_, _++_, append-assoc, ℕ, _+_, _*_, _^_, _≤_, _<_}
-use Rattle.laws.proofs.All.{arith, length, length-append}
+use Rattle.laws.proofs.All.{_≡_, sym, ap, subst, _∙_, List, [], _∷_, _++_, ℕ, _+_, _*_, _^_, _≤_, _<_, arith}
+use Rattle.laws.proofs.All.{length, length-append}
 use Rattle.table.specs.declared.Table.{Table}
 use Rattle.table.specs.Rows.{edges, at, Code}
 use Rattle.table.specs.Edges.{lent}

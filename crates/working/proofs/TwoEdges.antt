@@ -13,17 +13,8 @@ use Rattle.windows.proofs.Same.{onward}
 use Rattle.windows.proofs.Complete.{back-one}
 use Rattle.windows.proofs.Clashes.{Hit, hits→, →hits}
 use Rattle.table.proofs.Marks.{found, some-at}
-use Rattle.table.proofs.RowsOf.{
-  length-rows,
-  row-long,
-  edge-at,
-  closed-rows,
-  place,
-  place-state,
-  place-datum,
-  place-lt,
-  place-edge,
-}
+use Rattle.table.proofs.RowsOf.{length-rows, row-long, edge-at, closed-rows, place, place-state, place-datum}
+use Rattle.table.proofs.RowsOf.{place-lt, place-edge}
 use Rattle.table.proofs.EqualGrids.{grid-has}
 use Rattle.pairs.specs.PairSets.{pairsIn, counts, joins, leftOut, joinsAny}
 use Rattle.pairs.proofs.PairSets.{has-pairs, pairs-grid}

@@ -1,6 +1,6 @@
 -- `set_word` meets its contract: the number of a set's answer is at most the largest of a refusal.
 -- Assumes nothing.
-use mathlib.Core.Path.{_≡_, sym, ap₂, subst, _∙_}
+use mathlib.Core.Path.{sym, ap₂, subst, _∙_}
 use Prim.Native.Nat.{_≤_}
 use borrow.Author.Needs.{needs}
 use Rattle.answer.specs.Refusals.{most}

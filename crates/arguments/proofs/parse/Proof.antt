@@ -1,7 +1,7 @@
 -- `parse` meets its contract. The loop's invariant: the digits passed make n, and what is left behind n decides. The
 -- measure is what is left of the length.
 -- Assumes nothing.
-use Rattle.laws.proofs.All.{_≡_, refl, sym, ap, _∙_, _+_, _*_, _-_, _≤_, arith, now, length, drop, needs}
+use Rattle.laws.proofs.All.{_≡_, sym, ap, _∙_, _+_, _*_, _-_, _≤_, arith, now, length, drop, needs}
 use Rattle.arguments.specs.Parsing.{numberIn, parsed}
 use Rattle.arguments.proofs.Parsing.{number-capped, number-on, number-off, number-end, parsed-none, parsed-some}
 use Rattle.arguments.proofs.parse.Statement.{statement}
@@ -13,24 +13,12 @@ Inv-loop text n₀ i₀ n i = (i ≤ length text) × (n ≤ 255) × (parsed text
 abbrev μ-loop : tie.MeasureT-loop
 μ-loop text n₀ i₀ n i = length text - i
 
-returns : tie.Need-returns Inv-loop μ-loop
-returns c = sym (parsed-none _ (c .if1 .taken))
-
-loop-holds : tie.Need-loop-holds Inv-loop μ-loop
-loop-holds c = (omega arith, omega arith, parsed-some _ (c .if1 .left))
-
 returns-2 : tie.Need-returns-2 Inv-loop μ-loop
 returns-2 c =
     let l = c .before .before .before .before .loop in
     let a = c .before .before .before .before .before .before .before .args in
     let d = c .before .digit in
     sym (l .inv .2 ∙ number-off (now (a .text)) (l .n) (l .i) (omega arith) (omega (arith, d .ensures .0)))
-
-mul-n : tie.Need-mul-capped Inv-loop μ-loop
-mul-n c = omega arith
-
-add-n : tie.Need-add-capped Inv-loop μ-loop
-add-n c = omega arith
 
 loop-again : tie.Need-loop-again Inv-loop μ-loop
 loop-again c =
@@ -47,9 +35,6 @@ loop-again c =
           ∙ ap (λ k. numberIn k (drop (l .i + 1) (now (a .text)))) (sym (n .ensures .0)),
     )
 
-cast-t12 : tie.Need-cast-t12 Inv-loop μ-loop
-cast-t12 c = omega arith
-
 returns-3 : tie.Need-returns-3 Inv-loop μ-loop
 returns-3 c =
     let l = c .before .loop in
@@ -60,5 +45,7 @@ pub parse-spec : {M : Type 1} → statement M
 parse-spec =
     tie.close
     (tie.spec
-    Inv-loop μ-loop returns loop-holds (λ c. search needs) (λ c κs. search needs) returns-2 mul-n add-n
-    (λ c κs. search needs) (λ c. search needs) (λ c. search needs) loop-again cast-t12 returns-3)
+    Inv-loop μ-loop (λ c. sym (parsed-none _ (c .if1 .taken)))
+    (λ c. (omega arith, omega arith, parsed-some _ (c .if1 .left))) (λ c. search needs) (λ c κs. search needs)
+    returns-2 (λ c. omega arith) (λ c. omega arith) (λ c κs. search needs) (λ c. search needs) (λ c. search needs)
+    loop-again (λ c. omega arith) returns-3)

@@ -3,9 +3,7 @@
 use mathlib.Core.Path.{sym, subst}
 use native.Mathlib.Omega.{arith}
 use lib.Dec.{T}
-use borrow.Author.Needs.{needs}
 use borrow.Author.Tests.{leb-true}
-use Rattle.cases.specs.Placing.{Whole}
 use Rattle.cases.proofs.is_case.Statement.{statement}
 use Rattle.cases.proofs.is_case.Tie as tie
 

@@ -22,9 +22,6 @@ returns c =
     added-same (nothing-drawn _ (sym (test .before .is-ready .ensures) ∙ not-true _ (test .if1 .taken)))
     (x .put .ensures)
 
-ways-requires : tie.Need-ways-requires
-ways-requires c κs = good c .narrow
-
 put-diagram-requires : tie.Need-put-diagram-requires
 put-diagram-requires c κs = let w = c .before .before .before in (good (w .before), w .ways .ensures .0)
 
@@ -51,5 +48,6 @@ pub draw-spec : {M : Type 1} → statement M
 draw-spec =
     tie.close
     (tie.spec
-    (λ c κs. search needs) (λ c. search needs) (λ c κs. search needs) (λ c. search needs) returns ways-requires
-    put-diagram-requires (λ c. search needs) returns-2 put-matrix-requires (λ c. search needs) returns-3)
+    (λ c κs. search needs) (λ c. search needs) (λ c κs. search needs) (λ c. search needs) returns
+    (λ c κs. good c .narrow) put-diagram-requires (λ c. search needs) returns-2 put-matrix-requires
+    (λ c. search needs) returns-3)

@@ -36,9 +36,6 @@ returns c =
 add-j : tie.Need-add-j Inv-loop μ-loop
 add-j c = let turn = c .before .before in omega (arith, turn .loop-test .taken, turn .before .loop .inv .2)
 
-loop-less : tie.Need-loop-less Inv-loop μ-loop
-loop-less c = omega (arith, c .before .before .loop-test .taken)
-
 loop-again : tie.Need-loop-again Inv-loop μ-loop
 loop-again c =
     let one = c .before in
@@ -63,4 +60,5 @@ pub is-opening-spec : {M : Type 1} → statement M
 is-opening-spec =
     tie.close
     (tie.spec
-    Inv-loop μ-loop loop-holds is-joined-requires returns add-j loop-less loop-again returns-2)
+    Inv-loop μ-loop loop-holds is-joined-requires returns add-j
+    (λ c. omega (arith, c .before .before .loop-test .taken)) loop-again returns-2)

@@ -35,21 +35,6 @@ loop-holds c =
     let a = x .before .before .before .before .args in
     (omega arith, added-same (arrows-none (a .t)) (begun (x .put .ensures)))
 
-div-is-opening : tie.Need-div-is-opening Inv-loop μ-loop
-div-is-opening c = omega (arith, edge c .some)
-
-rem-is-opening : tie.Need-rem-is-opening Inv-loop μ-loop
-rem-is-opening c = omega (arith, edge c .some)
-
-is-opening-requires : tie.Need-is-opening-requires Inv-loop μ-loop
-is-opening-requires c κs = let e = edge c in (e .state, e .datum)
-
-div-put-arrow : tie.Need-div-put-arrow Inv-loop μ-loop
-div-put-arrow c = omega (arith, edge (c .before .before .before) .some)
-
-rem-put-arrow : tie.Need-rem-put-arrow Inv-loop μ-loop
-rem-put-arrow c = omega (arith, edge (c .before .before .before) .some)
-
 put-arrow-requires : tie.Need-put-arrow-requires Inv-loop μ-loop
 put-arrow-requires c κs =
     let turn = c .before .before .before in
@@ -59,9 +44,6 @@ put-arrow-requires c κs =
 
 add-e : tie.Need-add-e Inv-loop μ-loop
 add-e c = let turn = c .before .before in omega (arith, edge turn .few, turn .loop-test .taken)
-
-loop-less : tie.Need-loop-less Inv-loop μ-loop
-loop-less c = omega (arith, c .before .before .loop-test .taken)
 
 loop-again : tie.Need-loop-again Inv-loop μ-loop
 loop-again c =
@@ -92,6 +74,9 @@ pub put-diagram-spec : {M : Type 1} → statement M
 put-diagram-spec =
     tie.close
     (tie.spec
-    Inv-loop μ-loop (λ c. search needs) (λ c κs. search needs) mul-edges loop-holds div-is-opening rem-is-opening
-    is-opening-requires div-put-arrow rem-put-arrow put-arrow-requires add-e loop-less loop-again
-    (λ c. search needs) (λ c κs. search needs) (λ c. search needs) returns)
+    Inv-loop μ-loop (λ c. search needs) (λ c κs. search needs) mul-edges loop-holds
+    (λ c. omega (arith, edge c .some)) (λ c. omega (arith, edge c .some))
+    (λ c κs. let e = edge c in (e .state, e .datum)) (λ c. omega (arith, edge (c .before .before .before) .some))
+    (λ c. omega (arith, edge (c .before .before .before) .some)) put-arrow-requires add-e
+    (λ c. omega (arith, c .before .before .loop-test .taken)) loop-again (λ c. search needs) (λ c κs. search needs)
+    (λ c. search needs) returns)

@@ -10,12 +10,10 @@ returns c =
     let l = c .before .before .before .before .before .load-from in
     whole-fits (l .result) _ _ (l .ensures) (c .before .n .given .1)
 
-returns-2 : tie.Need-returns-2
-returns-2 c = (omega arith, sym (length-take-le _ _ (omega arith)))
-
 pub load-named-spec : {M : Type 1} → statement M
 load-named-spec =
     tie.close
     (tie.spec
     (λ c κs. search needs) (λ c. search needs) (λ c. search needs) (λ c. search needs) (λ c κs. search needs)
-    (λ c. search needs) returns (λ c. search needs) returns-2 (λ c. search needs) (λ c. search needs))
+    (λ c. search needs) returns (λ c. search needs) (λ c. (omega arith, sym (length-take-le _ _ (omega arith))))
+    (λ c. search needs) (λ c. search needs))

@@ -1,6 +1,6 @@
 -- `expected` meets its contract: below the length the default does not matter.
 -- Assumes nothing.
-use Rattle.laws.proofs.All.{sym, arith, now, List·getD-eq-default, getD-any, needs}
+use Rattle.laws.proofs.All.{sym, now, List·getD-eq-default, getD-any, needs}
 use Rattle.judging.proofs.expected.Statement.{statement}
 use Rattle.judging.proofs.expected.Tie as tie
 

@@ -1,7 +1,6 @@
 -- `is_same` meets its contract: number, value and output are compared.
 -- Assumes nothing.
 use Rattle.laws.proofs.All.{sym, subst, needs, T}
-use Rattle.judging.specs.Comparing.{Same}
 use Rattle.judging.proofs.is_same.Statement.{statement}
 use Rattle.judging.proofs.is_same.Tie as tie
 

@@ -2,7 +2,6 @@
 -- the bytes.
 -- Assumes nothing.
 use Rattle.laws.proofs.All.{_≡_, sym, subst, _∙_, ℕ, _-_, _≤_, _<_, arith, below-more, needs, T, length, getD}
-use Rattle.judging.specs.Comparing.{Stands}
 use Rattle.judging.proofs.stands.Statement.{statement}
 use Rattle.judging.proofs.stands.Tie as tie
 

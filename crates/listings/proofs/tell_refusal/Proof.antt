@@ -1,6 +1,6 @@
 -- `tell_refusal` meets its contract: the line fits the bytes that it is put into, and fills the output.
 -- Assumes nothing.
-use Rattle.laws.proofs.All.{_∙_, now, needs}
+use Rattle.laws.proofs.All.{now, needs}
 use Rattle.text.proofs.Adding.{added-same, added-whole}
 use Rattle.views.proofs.Filled.{fill-same}
 use Rattle.listings.proofs.Lengths.{refusal-is, refusal-short}

@@ -1,7 +1,7 @@
 -- `marks` meets its contract. The loop's invariant: n is the number of marks passed. The measure is what is left of the
 -- length.
 -- Assumes nothing.
-use Rattle.laws.proofs.All.{_≡_, sym, ap, _∙_, _+_, _-_, _≤_, zero-add, add-zero, arith, now, length, drop, needs}
+use Rattle.laws.proofs.All.{_≡_, sym, _+_, _-_, _≤_, zero-add, arith, now, length, drop, needs}
 use Rattle.marks.specs.Marking.{marksIn}
 use Rattle.marks.proofs.Marking.{mark-on, mark-end}
 use Rattle.marks.proofs.marks.Statement.{statement}
@@ -12,12 +12,6 @@ Inv-loop blocks n₀ i₀ n i = (i ≤ length blocks) × (n ≤ i) × (marksIn b
 
 abbrev μ-loop : tie.MeasureT-loop
 μ-loop blocks n₀ i₀ n i = length blocks - i
-
-loop-holds : tie.Need-loop-holds Inv-loop μ-loop
-loop-holds c = (omega arith, omega arith, sym (zero-add _))
-
-add-n : tie.Need-add-n Inv-loop μ-loop
-add-n c = omega (arith, c .mark .ensures .1)
 
 loop-again : tie.Need-loop-again Inv-loop μ-loop
 loop-again c =
@@ -38,5 +32,5 @@ pub marks-spec : {M : Type 1} → statement M
 marks-spec =
     tie.close
     (tie.spec
-    Inv-loop μ-loop loop-holds (λ c. search needs) (λ c κs. search needs) add-n (λ c. search needs)
-    (λ c. search needs) loop-again returns)
+    Inv-loop μ-loop (λ c. (omega arith, omega arith, sym (zero-add _))) (λ c. search needs) (λ c κs. search needs)
+    (λ c. omega (arith, c .mark .ensures .1)) (λ c. search needs) (λ c. search needs) loop-again returns)

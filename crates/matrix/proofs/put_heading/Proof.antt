@@ -15,15 +15,6 @@ Inv-loop out₀ first q n states words x y at₀ w₀ out at w =
 abbrev μ-loop : tie.MeasureT-loop
 μ-loop out₀ first q n states words x y at₀ w₀ out at w = words - w
 
-words-of-requires : tie.Need-words-of-requires Inv-loop μ-loop
-words-of-requires c κs = c .before .pre .0
-
-column-x-requires : tie.Need-column-x-requires Inv-loop μ-loop
-column-x-requires c κs = c .words-of .ensures .1
-
-row-y-requires : tie.Need-row-y-requires Inv-loop μ-loop
-row-y-requires c κs = let p = c .before .before .before .pre in (p .1, p .2)
-
 loop-holds : tie.Need-loop-holds Inv-loop μ-loop
 loop-holds c =
     let x = c .before .before in
@@ -77,5 +68,6 @@ pub put-heading-spec : {M : Type 1} → statement M
 put-heading-spec =
     tie.close
     (tie.spec
-    Inv-loop μ-loop words-of-requires column-x-requires row-y-requires (λ c. search needs) (λ c. search needs)
+    Inv-loop μ-loop (λ c κs. c .before .pre .0) (λ c κs. c .words-of .ensures .1)
+    (λ c κs. let p = c .before .before .before .pre in (p .1, p .2)) (λ c. search needs) (λ c. search needs)
     (λ c κs. search needs) loop-holds put-column-requires add-w loop-less loop-again same-length returns)

@@ -43,15 +43,6 @@ loop-holds c =
     let a = x .before .before .before .args in
     (omega arith, added-same (lines-none (cell (a .n)) (a .t)) (begun (x .put-axes .ensures)))
 
-div-put-entry : tie.Need-div-put-entry Inv-loop μ-loop
-div-put-entry c = omega (arith, edge (c .before) .some)
-
-rem-put-entry : tie.Need-rem-put-entry Inv-loop μ-loop
-rem-put-entry c = omega (arith, edge (c .before) .some)
-
-put-entry-requires : tie.Need-put-entry-requires Inv-loop μ-loop
-put-entry-requires c κs = let e = edge (c .before) in (e .narrow, e .state, e .datum)
-
 add-e : tie.Need-add-e Inv-loop μ-loop
 add-e c =
     let turn = c .before .before .before .before in
@@ -88,5 +79,7 @@ pub put-matrix-spec : {M : Type 1} → statement M
 put-matrix-spec =
     tie.close
     (tie.spec
-    Inv-loop μ-loop put-axes-requires mul-edges loop-holds div-put-entry rem-put-entry put-entry-requires add-e
-    loop-less loop-again (λ c. search needs) (λ c κs. search needs) (λ c. search needs) returns)
+    Inv-loop μ-loop put-axes-requires mul-edges loop-holds (λ c. omega (arith, edge (c .before) .some))
+    (λ c. omega (arith, edge (c .before) .some))
+    (λ c κs. let e = edge (c .before) in (e .narrow, e .state, e .datum)) add-e loop-less loop-again
+    (λ c. search needs) (λ c κs. search needs) (λ c. search needs) returns)

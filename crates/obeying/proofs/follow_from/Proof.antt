@@ -2,14 +2,7 @@
 use Rattle.laws.proofs.All.{sym, _∙_, Bool, ℕ, _-_, _≤_, _<_, not-suc-le-zero, arith, needs, not-true, not-false}
 use Rattle.laws.proofs.All.{now, T, getD, range, all, member-lt}
 use Rattle.queue.specs.Places.{pairAfter, findsAt}
-use Rattle.obeying.proofs.Reaching.{
-  Reaching,
-  reach-start,
-  reach-more,
-  reach-done,
-  reach-fail,
-  reach-test,
-}
+use Rattle.obeying.proofs.Reaching.{Reaching, reach-start, reach-more, reach-done, reach-fail, reach-test}
 use Rattle.obeying.proofs.follow_from.Statement.{statement}
 use Rattle.obeying.proofs.follow_from.Tie as tie
 

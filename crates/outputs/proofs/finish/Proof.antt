@@ -13,12 +13,9 @@ slice-aggregate-store-at c =
     let k = n .given .0 .0 in
     sym (length-take-le k out (front-long (start .args .r) out k (start .pre .1) (n .given .1)))
 
-store-at-requires : tie.Need-store-at-requires
-store-at-requires c κs = c .before .before .before .before .before .pre .0
-
 pub finish-spec : {M : Type 1} → statement M
 finish-spec =
     tie.close
     (tie.spec
-    (λ c. search needs) (λ c κs. search needs) (λ c. search needs) slice-aggregate-store-at store-at-requires
-    (λ c. search needs) (λ c. search needs))
+    (λ c. search needs) (λ c κs. search needs) (λ c. search needs) slice-aggregate-store-at
+    (λ c κs. c .before .before .before .before .before .pre .0) (λ c. search needs) (λ c. search needs))

@@ -58,9 +58,6 @@ link-on c =
     link-below (table s) _ (c .before .loop .cur - 1) (edge-on c) (s .args .states * 16) (now (s .args .head))
     (now (s .args .link)) (s .pre .0 .chained) (omega arith)
 
-cast-u : tie.Need-cast-u Inv-loop μ-loop
-cast-u c = omega (arith, first-small (c .before))
-
 cast-cur : tie.Need-cast-cur Inv-loop μ-loop
 cast-cur c =
     let s = c .before .before .before .before in
@@ -85,9 +82,6 @@ counted-requires : tie.Need-counted-requires Inv-loop μ-loop
 counted-requires c κs =
     let s = start c in
     (omega (arith, s .pre .0 .fits .few), omega (arith, s .pre .0 .fits .few))
-
-cast-v : tie.Need-cast-v Inv-loop μ-loop
-cast-v c = omega (arith, next-small (c .before .before .before))
 
 mul-out : tie.Need-mul-out Inv-loop μ-loop
 mul-out c =
@@ -151,6 +145,7 @@ pub mark-edge-spec : {M : Type 1} → statement M
 mark-edge-spec =
     tie.close
     (tie.spec
-    Inv-loop μ-loop (λ c. search needs) cast-u (λ c. search needs) (λ c κs. search needs) (λ c. search needs)
-    (λ c. search needs) cast-cur loop-holds (λ c. search needs) counted-requires (λ c. search needs) cast-v mul-out
+    Inv-loop μ-loop (λ c. search needs) (λ c. omega (arith, first-small (c .before))) (λ c. search needs)
+    (λ c κs. search needs) (λ c. search needs) (λ c. search needs) cast-cur loop-holds (λ c. search needs)
+    counted-requires (λ c. search needs) (λ c. omega (arith, next-small (c .before .before .before))) mul-out
     add-out element-write-out (λ c. search needs) (λ c. search needs) cast-cur-2 loop-less loop-again returns)

@@ -17,9 +17,6 @@ Inv-loop states n word next head link pairs apart out₀ i₀ out i =
 abbrev μ-loop : tie.MeasureT-loop
 μ-loop states n word next head link pairs apart out₀ i₀ out i = states * 16 - i
 
-clear-requires : tie.Need-clear-requires Inv-loop μ-loop
-clear-requires c κs = (c .before .pre .0 .fits .few, c .before .pre .1)
-
 loop-holds : tie.Need-loop-holds Inv-loop μ-loop
 loop-holds c =
     (c .before .before .pre .0 .fits .few, omega arith, c .clear .ensures .0, c .clear .ensures .1, mark-none _ _)
@@ -71,5 +68,5 @@ pub step-pairs-spec : {M : Type 1} → statement M
 step-pairs-spec =
     tie.close
     (tie.spec
-    Inv-loop μ-loop clear-requires loop-holds (λ c. search needs) (λ c κs. search needs) mark-edge-requires
-    (λ c. search needs) (λ c. search needs) loop-again returns)
+    Inv-loop μ-loop (λ c κs. (c .before .pre .0 .fits .few, c .before .pre .1)) loop-holds (λ c. search needs)
+    (λ c κs. search needs) mark-edge-requires (λ c. search needs) (λ c. search needs) loop-again returns)

@@ -12,9 +12,6 @@ Inv-loop word power n x d₀ d = (d ≤ n) × ((i : ℕ) → i < d → T (findsA
 abbrev μ-loop : tie.MeasureT-loop
 μ-loop word power n x d₀ d = n - d
 
-loop-holds : tie.Need-loop-holds Inv-loop μ-loop
-loop-holds c = (omega arith, λ i h. absurd (not-suc-le-zero h))
-
 returns : tie.Need-returns Inv-loop μ-loop
 returns c =
     let a = c .before .before .before .before .args in
@@ -42,5 +39,5 @@ pub finds-all-spec : {M : Type 1} → statement M
 finds-all-spec =
     tie.close
     (tie.spec
-    Inv-loop μ-loop loop-holds (λ c κs. search needs) returns (λ c. search needs) (λ c. search needs) loop-again
-    returns-2)
+    Inv-loop μ-loop (λ c. (omega arith, λ i h. absurd (not-suc-le-zero h))) (λ c κs. search needs) returns
+    (λ c. search needs) (λ c. search needs) loop-again returns-2)

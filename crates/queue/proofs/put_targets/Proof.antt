@@ -12,12 +12,6 @@ Inv-loop word next power n x m set₀ list₀ count₀ d₀ set list count d =
 abbrev μ-loop : tie.MeasureT-loop
 μ-loop word next power n x m set₀ list₀ count₀ d₀ set list count d = n - d
 
-loop-holds : tie.Need-loop-holds Inv-loop μ-loop
-loop-holds c = (omega arith, grown-none _ _ _ _ (c .pre .2))
-
-put-requires : tie.Need-put-requires Inv-loop μ-loop
-put-requires c κs = c .before .before .before .before .loop .inv .1 .queue
-
 loop-again : tie.Need-loop-again Inv-loop μ-loop
 loop-again c =
     let l = c .before .before .before .before .before .loop in (
@@ -36,5 +30,6 @@ pub put-targets-spec : {M : Type 1} → statement M
 put-targets-spec =
     tie.close
     (tie.spec
-    Inv-loop μ-loop loop-holds (λ c κs. search needs) put-requires (λ c. search needs) (λ c. search needs)
+    Inv-loop μ-loop (λ c. (omega arith, grown-none _ _ _ _ (c .pre .2))) (λ c κs. search needs)
+    (λ c κs. c .before .before .before .before .loop .inv .1 .queue) (λ c. search needs) (λ c. search needs)
     loop-again returns)

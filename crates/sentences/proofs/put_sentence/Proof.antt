@@ -1,8 +1,7 @@
 -- `put_sentence` meets its contract. The loop's invariant: what is put stands for the first i bytes of the pattern,
 -- which take k numbers. The measure is the bytes left.
 -- Assumes nothing.
-use Rattle.laws.proofs.All.{_≡_, refl, sym, ap, _∙_, ℕ, suc, _+_, _-_, _≤_, arith, length, take, getD, take-suc}
-use Rattle.laws.proofs.All.{take-all, now, needs}
+use Rattle.laws.proofs.All.{_≡_, refl, ap, _-_, _≤_, arith, length, take, take-all, now, needs}
 use Rattle.text.specs.Texts.{Added}
 use Rattle.text.proofs.Adding.{added-same, _then_, begun}
 use Rattle.sentences.specs.Sentences.{sentence}
@@ -27,8 +26,8 @@ add-k : tie.Need-add-k Inv-loop μ-loop
 add-k c =
     let x = c .before .before .before .before .before .before .before in
     let l = x .before .loop in
-    let u = used-fits (now (start (x .before) .args .pattern)) (l .i) (l .k) (x .loop-test .taken) (l .inv .1) (c .takes .result)
-    (c .takes .ensures) in
+    let u = used-fits (now (start (x .before) .args .pattern)) (l .i) (l .k) (x .loop-test .taken) (l .inv .1)
+    (c .takes .result) (c .takes .ensures) in
     omega arith
 
 loop-again : tie.Need-loop-again Inv-loop μ-loop
@@ -58,5 +57,5 @@ put-sentence-spec =
     tie.close
     (tie.spec
     Inv-loop μ-loop (λ c. search needs) (λ c κs. search needs) loop-holds (λ c. search needs) (λ c κs. search needs)
-    (λ c κs. search needs) (λ c κs. search needs) add-k (λ c. search needs) (λ c. search needs) loop-again (λ c. search needs)
-    returns)
+    (λ c κs. search needs) (λ c κs. search needs) add-k (λ c. search needs) (λ c. search needs) loop-again
+    (λ c. search needs) returns)

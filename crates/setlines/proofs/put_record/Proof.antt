@@ -1,6 +1,6 @@
 -- `put_record` meets its contract: the record stands where it is found.
 -- Assumes nothing.
-use Rattle.laws.proofs.All.{_≡_, sym, _∙_, _+_, _≤_, arith, now, length, needs}
+use Rattle.laws.proofs.All.{sym, _∙_, _+_, _≤_, arith, now, length, needs}
 use Rattle.text.proofs.Adding.{added-same}
 use Rattle.setlines.proofs.SetText.{record-within, text-nowhere, text-at, part-line}
 use Rattle.setlines.proofs.put_record.Statement.{statement}
@@ -14,12 +14,6 @@ within c =
     let a = c .before .before .before .before .before .before .args in
     let found = sym (c .before .before .before .find .ensures) ∙ c .before .start .given .1 in
     record-within (now (a .set)) (a .i) _ _ found
-
-add-end : tie.Need-add-end
-add-end c = omega (arith, within c)
-
-part-put-record-at-end : tie.Need-part-put-record-at-end
-part-put-record-at-end c = within (c .before)
 
 returns : tie.Need-returns
 returns c =
@@ -47,5 +41,5 @@ put-record-spec =
     tie.close
     (tie.spec
     (λ c κs. search needs) (λ c. search needs) (λ c. search needs) (λ c κs. search needs) (λ c. search needs)
-    add-end (λ c. search needs) (λ c. search needs) part-put-record-at-end (λ c κs. search needs)
-    (λ c. search needs) returns (λ c. search needs) returns-2)
+    (λ c. omega (arith, within c)) (λ c. search needs) (λ c. search needs) (λ c. within (c .before))
+    (λ c κs. search needs) (λ c. search needs) returns (λ c. search needs) returns-2)

@@ -22,18 +22,6 @@ start l = l .before .before .before .before .before .before .before .before .bef
 loop-holds : tie.Need-loop-holds Inv-loop μ-loop
 loop-holds c = (omega arith, search needs, begun (c .before .before .put-sentence .ensures))
 
-add-put-edge : tie.Need-add-put-edge Inv-loop μ-loop
-add-put-edge c = omega (arith, start (c .before .before) .pre .1)
-
-mul-put-edge : tie.Need-mul-put-edge Inv-loop μ-loop
-mul-put-edge c = omega (arith, start (c .before .before) .pre .1)
-
-array-read-put-edge : tie.Need-array-read-put-edge Inv-loop μ-loop
-array-read-put-edge c = omega (arith, start (c .before .before) .pre .1)
-
-put-edge-requires : tie.Need-put-edge-requires Inv-loop μ-loop
-put-edge-requires c κs = start (c .before .before) .pre .0
-
 loop-again : tie.Need-loop-again Inv-loop μ-loop
 loop-again c =
     let e = c .before .before in
@@ -59,5 +47,7 @@ pub put-kept-spec : {M : Type 1} → statement M
 put-kept-spec =
     tie.close
     (tie.spec
-    Inv-loop μ-loop (λ c. search needs) (λ c. search needs) (λ c κs. search needs) loop-holds add-put-edge mul-put-edge
-    array-read-put-edge put-edge-requires (λ c. search needs) (λ c. search needs) loop-again same-length returns)
+    Inv-loop μ-loop (λ c. search needs) (λ c. search needs) (λ c κs. search needs) loop-holds
+    (λ c. omega (arith, start (c .before .before) .pre .1)) (λ c. omega (arith, start (c .before .before) .pre .1))
+    (λ c. omega (arith, start (c .before .before) .pre .1)) (λ c κs. start (c .before .before) .pre .0)
+    (λ c. search needs) (λ c. search needs) loop-again same-length returns)

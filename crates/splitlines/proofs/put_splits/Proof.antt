@@ -21,9 +21,6 @@ put l = l .before .before .before .before
 abbrev start : tie.After-put-sentence Inv-loop μ-loop → tie.Start Inv-loop μ-loop
 start s = s .before .before .before .before .before
 
-is-unfinished-requires : tie.Need-is-unfinished-requires Inv-loop μ-loop
-is-unfinished-requires c κs = start (c .before .before) .pre .1 .fits
-
 loop-holds : tie.Need-loop-holds Inv-loop μ-loop
 loop-holds c =
     let s = c .before .before .before in
@@ -54,9 +51,6 @@ returns c =
     let b = put (i .before) in
     b .put-sentence .ensures then told-crowded (start b .pre .1) (i .before .loop .inv) (i .loop-test .taken)
     (d .put-split .ensures) (s .split .ensures) (c .if1 .taken)
-
-is-unfinished-requires-2 : tie.Need-is-unfinished-requires-2 Inv-loop μ-loop
-is-unfinished-requires-2 c κs = c .before .before .split .ensures .fits (c .before .if1 .left)
 
 loop-less : tie.Need-loop-less Inv-loop μ-loop
 loop-less c =
@@ -89,6 +83,7 @@ pub put-splits-spec : {M : Type 1} → statement M
 put-splits-spec =
     tie.close
     (tie.spec
-    Inv-loop μ-loop (λ c. search needs) (λ c. search needs) (λ c κs. search needs) is-unfinished-requires loop-holds
-    put-split-requires split-requires same-length returns is-unfinished-requires-2 loop-less loop-again same-length-2
-    returns-2)
+    Inv-loop μ-loop (λ c. search needs) (λ c. search needs) (λ c κs. search needs)
+    (λ c κs. start (c .before .before) .pre .1 .fits) loop-holds put-split-requires split-requires same-length
+    returns (λ c κs. c .before .before .split .ensures .fits (c .before .if1 .left)) loop-less loop-again
+    same-length-2 returns-2)

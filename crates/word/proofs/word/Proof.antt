@@ -1,6 +1,6 @@
 -- `word` meets its contract: an answer's number is at most the largest of a refusal.
 -- Assumes nothing.
-use Rattle.laws.proofs.All.{_≡_, sym, ap₂, subst, _∙_, _≤_, needs}
+use Rattle.laws.proofs.All.{sym, ap₂, subst, _∙_, _≤_, needs}
 use Rattle.answer.specs.Refusals.{most}
 use Rattle.word.specs.Words.{joined, wordOf}
 use Rattle.word.proofs.Words.{number-le}

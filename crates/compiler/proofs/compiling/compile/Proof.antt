@@ -7,12 +7,6 @@ use Rattle.compiler.proofs.CompileSteps.{weighed-bad, weighed-good}
 use Rattle.compiler.proofs.compiling.compile.Statement.{statement}
 use Rattle.compiler.proofs.compiling.compile.Tie as tie
 
-ways-requires : tie.Need-ways-requires
-ways-requires c κs = c .pre .allowed .p₂
-
-component-of-requires : tie.Need-component-of-requires
-component-of-requires c κs = (c .before .pre, c .ways .ensures .0)
-
 split-and-window-requires : tie.Need-split-and-window-requires
 split-and-window-requires c κs =
     let w = c .before .before .before in
@@ -47,5 +41,6 @@ pub compile-spec : {M : Type 1} → statement M
 compile-spec =
     tie.close
     (tie.spec
-    ways-requires component-of-requires (λ c κs. search needs) (λ c. search needs) (λ c κs. search needs)
-    (λ c. search needs) split-and-window-requires returns (λ c. search needs))
+    (λ c κs. c .pre .allowed .p₂) (λ c κs. (c .before .pre, c .ways .ensures .0)) (λ c κs. search needs)
+    (λ c. search needs) (λ c κs. search needs) (λ c. search needs) split-and-window-requires returns
+    (λ c. search needs))

@@ -8,12 +8,6 @@ use Rattle.compiler.proofs.CompileSteps.{has-states, held-powers, held-
 use Rattle.compiler.proofs.compiling.component_of.Statement.{statement}
 use Rattle.compiler.proofs.compiling.component_of.Tie as tie
 
-power-codes-requires : tie.Need-power-codes-requires
-power-codes-requires c κs = (c .pre .0 .limits, c .pre .0 .allowed .q₂)
-
-power-requires : tie.Need-power-requires
-power-requires c κs = omega (arith, c .before .pre .0 .allowed .q₂)
-
 state-weights-requires : tie.Need-state-weights-requires
 state-weights-requires c κs =
     let b = c .before .before .before in
@@ -44,8 +38,5 @@ pub component-of-spec : {M : Type 1} → statement M
 component-of-spec =
     tie.close
     (tie.spec
-    power-codes-requires
-    power-requires
-    state-weights-requires
-    find-component-requires
-    returns)
+    (λ c κs. (c .pre .0 .limits, c .pre .0 .allowed .q₂)) (λ c κs. omega (arith, c .before .pre .0 .allowed .q₂))
+    state-weights-requires find-component-requires returns)

@@ -12,9 +12,6 @@ Inv-loop states set out₀ z₀ out z =
 abbrev μ-loop : tie.MeasureT-loop
 μ-loop states set out₀ z₀ out z = states * 128 - z
 
-loop-holds : tie.Need-loop-holds Inv-loop μ-loop
-loop-holds c = (omega arith, c .pre .1, λ j l. absurd (omega arith))
-
 loop-again : tie.Need-loop-again Inv-loop μ-loop
 loop-again c =
     let A = now (c .before .before .before .args .set) in
@@ -37,5 +34,5 @@ pub copy-spec : {M : Type 1} → statement M
 copy-spec =
     tie.close
     (tie.spec
-    Inv-loop μ-loop loop-holds (λ c. search needs) (λ c. search needs) (λ c. search needs) (λ c. search needs)
-    (λ c. search needs) loop-again returns)
+    Inv-loop μ-loop (λ c. (omega arith, c .pre .1, λ j l. absurd (omega arith))) (λ c. search needs)
+    (λ c. search needs) (λ c. search needs) (λ c. search needs) (λ c. search needs) loop-again returns)

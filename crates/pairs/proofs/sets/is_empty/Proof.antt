@@ -12,9 +12,6 @@ Inv-loop states pairs z₀ z = (z ≤ states * 128) × (some (holdsAt states pai
 abbrev μ-loop : tie.MeasureT-loop
 μ-loop states pairs z₀ z = states * 128 - z
 
-loop-holds : tie.Need-loop-holds Inv-loop μ-loop
-loop-holds c = (omega arith, none-start _)
-
 returns : tie.Need-returns Inv-loop μ-loop
 returns c =
     let a = c .before .before .before .before .args in
@@ -41,5 +38,5 @@ pub is-empty-spec : {M : Type 1} → statement M
 is-empty-spec =
     tie.close
     (tie.spec
-    Inv-loop μ-loop loop-holds (λ c. search needs) (λ c κs. search needs) returns (λ c. search needs)
-    (λ c. search needs) loop-again returns-2)
+    Inv-loop μ-loop (λ c. (omega arith, none-start _)) (λ c. search needs) (λ c κs. search needs) returns
+    (λ c. search needs) (λ c. search needs) loop-again returns-2)

@@ -12,9 +12,6 @@ Inv-loop states a b z₀ z = (z ≤ states * 128) × (some (differsAt a b) z ≡
 abbrev μ-loop : tie.MeasureT-loop
 μ-loop states a b z₀ z = states * 128 - z
 
-loop-holds : tie.Need-loop-holds Inv-loop μ-loop
-loop-holds c = (omega arith, none-start _)
-
 returns : tie.Need-returns Inv-loop μ-loop
 returns c =
     let i = c .before .before .before .before in
@@ -42,5 +39,5 @@ pub same-pairs-spec : {M : Type 1} → statement M
 same-pairs-spec =
     tie.close
     (tie.spec
-    Inv-loop μ-loop loop-holds (λ c. search needs) (λ c. search needs) (λ c. search needs) (λ c κs. search needs)
-    returns (λ c. search needs) (λ c. search needs) loop-again returns-2)
+    Inv-loop μ-loop (λ c. (omega arith, none-start _)) (λ c. search needs) (λ c. search needs) (λ c. search needs)
+    (λ c κs. search needs) returns (λ c. search needs) (λ c. search needs) loop-again returns-2)

@@ -39,8 +39,9 @@ returns-2 c =
     let p = c .before .before .before .before .before .before in
     let s = p .before .before in
     let a = s .before .before .args in
-    targets-fail (a .f) (bitsOf (now (a .bytes))) (p .power .result) (s .good-states .result) (c .before .good-targets .result)
-    (p .power .ensures) (s .good-states .ensures) (c .before .good-targets .ensures) (not-false _ (p .before .if1 .left))
+    targets-fail (a .f) (bitsOf (now (a .bytes))) (p .power .result) (s .good-states .result)
+    (c .before .good-targets .result) (p .power .ensures) (s .good-states .ensures) (c .before .good-targets .ensures)
+    (not-false _ (p .before .if1 .left))
     (not-true _ (c .if2 .taken))
 
 returns-3 : tie.Need-returns-3

@@ -14,33 +14,12 @@ Inv-loop bytes count i₀ i = (i ≤ 2 * count) × ((k : ℕ) → k < i → good
 abbrev μ-loop : tie.MeasureT-loop
 μ-loop bytes count i₀ i = 2 * count - i
 
-loop-holds : tie.Need-loop-holds Inv-loop μ-loop
-loop-holds c = (omega arith, λ k h. absurd (omega arith))
-
-mul-loop : tie.Need-mul-loop Inv-loop μ-loop
-mul-loop c = omega arith
-
-mul-good-next : tie.Need-mul-good-next Inv-loop μ-loop
-mul-good-next c = omega arith
-
-add-good-next : tie.Need-add-good-next Inv-loop μ-loop
-add-good-next c = omega arith
-
-good-next-requires : tie.Need-good-next-requires Inv-loop μ-loop
-good-next-requires c κs = (omega arith, omega arith)
-
 returns : tie.Need-returns Inv-loop μ-loop
 returns c =
     let a = c .before .before .before .before .before .args in
     sym (all-range-false (goodAt (bitsOf (now (a .bytes))) (a .count)) (2 * a .count)
     (c .before .before .before .loop .i) (omega arith)
     (sym (c .before .good-next .ensures) ∙ not-true (c .before .good-next .result) (c .if1 .taken)))
-
-add-i : tie.Need-add-i Inv-loop μ-loop
-add-i c = omega arith
-
-loop-less : tie.Need-loop-less Inv-loop μ-loop
-loop-less c = omega arith
 
 loop-again : tie.Need-loop-again Inv-loop μ-loop
 loop-again c = (
@@ -59,15 +38,6 @@ pub good-states-spec : {M : Type 1} → statement M
 good-states-spec =
     tie.close
     (tie.spec
-    Inv-loop
-    μ-loop
-    loop-holds
-    mul-loop
-    mul-good-next
-    add-good-next
-    good-next-requires
-    returns
-    add-i
-    loop-less
-    loop-again
+    Inv-loop μ-loop (λ c. (omega arith, λ k h. absurd (omega arith))) (λ c. omega arith) (λ c. omega arith)
+    (λ c. omega arith) (λ c κs. (omega arith, omega arith)) returns (λ c. omega arith) (λ c. omega arith) loop-again
     returns-2)

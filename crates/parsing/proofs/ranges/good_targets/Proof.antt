@@ -36,7 +36,8 @@ get-requires c κs =
     let s = c .before .before .before in
     let a = s .args in (
       omega arith,
-      place-le (a .first) (a .edges) (a .step) 7 (8 * length (now (a .bytes))) (c .before .loop .e) (c .loop-test .taken)
+      place-le (a .first) (a .edges) (a .step) 7 (8 * length (now (a .bytes))) (c .before .loop .e)
+          (c .loop-test .taken)
           (s .pre .3),
     )
 
@@ -53,7 +54,8 @@ loop-again c =
     let l = c .before .before .before in (
       omega arith,
       below-more _ _ (l .loop .inv .1)
-          (ap (λ x. ltb x (l .before .before .args .states)) (sym (c .before .get .ensures)) ∙ lt-ltb _ _ (c .if1 .left)),
+          (ap (λ x. ltb x (l .before .before .args .states)) (sym (c .before .get .ensures))
+          ∙ lt-ltb _ _ (c .if1 .left)),
     )
 
 returns-2 : tie.Need-returns-2 Inv-loop μ-loop

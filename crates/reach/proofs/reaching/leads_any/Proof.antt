@@ -11,9 +11,6 @@ Inv-loop edge m k t s u₀ u = (u ≤ k) × (any (passesOn edge m t s) (range u)
 abbrev μ-loop : tie.MeasureT-loop
 μ-loop edge m k t s u₀ u = k - u
 
-loop-holds : tie.Need-loop-holds Inv-loop μ-loop
-loop-holds c = (omega arith, refl)
-
 returns : tie.Need-returns Inv-loop μ-loop
 returns c =
     let p = c .before .before .before .before .before .before .args in
@@ -50,5 +47,6 @@ pub leads-any-spec : {M : Type 1} → statement M
 leads-any-spec =
     tie.close
     (tie.spec
-    Inv-loop μ-loop loop-holds (λ c. search needs) (λ c. search needs) (λ c. search needs) (λ c. search needs)
-    (λ c. search needs) (λ c. search needs) returns (λ c. search needs) (λ c. search needs) loop-again returns-2)
+    Inv-loop μ-loop (λ c. (omega arith, refl)) (λ c. search needs) (λ c. search needs) (λ c. search needs)
+    (λ c. search needs) (λ c. search needs) (λ c. search needs) returns (λ c. search needs) (λ c. search needs)
+    loop-again returns-2)

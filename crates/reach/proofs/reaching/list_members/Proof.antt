@@ -14,12 +14,6 @@ Inv-loop m k s v state₀ index₀ count₀ t₀ state index count t =
 abbrev μ-loop : tie.MeasureT-loop
 μ-loop m k s v state₀ index₀ count₀ t₀ state index count t = k - t
 
-loop-holds : tie.Need-loop-holds Inv-loop μ-loop
-loop-holds c = (omega arith, c .pre .1, numbered-none _)
-
-array-write-state : tie.Need-array-write-state Inv-loop μ-loop
-array-write-state c = omega (arith, c .before .before .before .before .loop .inv .2 .fits)
-
 loop-again : tie.Need-loop-again Inv-loop μ-loop
 loop-again c =
     let l = c .before .before .before .before .loop in
@@ -56,6 +50,7 @@ pub list-members-spec : {M : Type 1} → statement M
 list-members-spec =
     tie.close
     (tie.spec
-    Inv-loop μ-loop loop-holds (λ c. search needs) (λ c. search needs) (λ c. search needs) (λ c. search needs)
-    (λ c. search needs) (λ c κs. search needs) (λ c. search needs) array-write-state (λ c. search needs)
+    Inv-loop μ-loop (λ c. (omega arith, c .pre .1, numbered-none _)) (λ c. search needs) (λ c. search needs)
+    (λ c. search needs) (λ c. search needs) (λ c. search needs) (λ c κs. search needs) (λ c. search needs)
+    (λ c. omega (arith, c .before .before .before .before .loop .inv .2 .fits)) (λ c. search needs)
     (λ c. search needs) (λ c. search needs) (λ c. search needs) (λ c. search needs) loop-again returns)

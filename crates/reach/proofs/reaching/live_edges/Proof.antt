@@ -11,15 +11,6 @@ Inv-loop count k v r₀ n x₀ r x = (x ≤ n) × (n ≤ 256) × Filled false (l
 abbrev μ-loop : tie.MeasureT-loop
 μ-loop count k v r₀ n x₀ r x = n - x
 
-loop-holds : tie.Need-loop-holds Inv-loop μ-loop
-loop-holds c = (omega arith, omega arith, fill-none false _ 256 false)
-
-array-read-all-above : tie.Need-array-read-all-above Inv-loop μ-loop
-array-read-all-above c = div-lt-iff-lt-mul {k = 16} {y = 16} (lit< tt) .1 (omega arith)
-
-array-read-all-above-2 : tie.Need-array-read-all-above-2 Inv-loop μ-loop
-array-read-all-above-2 c = mod-lt (c .before .loop .x) {m = 16} (lit< tt)
-
 loop-again : tie.Need-loop-again Inv-loop μ-loop
 loop-again c =
     let l = c .before .before .before .loop in
@@ -30,13 +21,12 @@ loop-again c =
           (c .all-above .ensures) (l .inv .2),
     )
 
-returns : tie.Need-returns Inv-loop μ-loop
-returns c = λ x h. c .before .loop .inv .2 .holds x (omega arith)
-
 pub live-edges-spec : {M : Type 1} → statement M
 live-edges-spec =
     tie.close
     (tie.spec
-    Inv-loop μ-loop (λ c. search needs) loop-holds (λ c. search needs) array-read-all-above (λ c. search needs)
-    array-read-all-above-2 (λ c. search needs) (λ c. search needs) (λ c κs. search needs) (λ c. search needs)
-    (λ c. search needs) (λ c. search needs) loop-again returns)
+    Inv-loop μ-loop (λ c. search needs) (λ c. (omega arith, omega arith, fill-none false _ 256 false))
+    (λ c. search needs) (λ c. div-lt-iff-lt-mul {k = 16} {y = 16} (lit< tt) .1 (omega arith)) (λ c. search needs)
+    (λ c. mod-lt (c .before .loop .x) {m = 16} (lit< tt)) (λ c. search needs) (λ c. search needs)
+    (λ c κs. search needs) (λ c. search needs) (λ c. search needs) (λ c. search needs) loop-again
+    (λ c. λ x h. c .before .loop .inv .2 .holds x (omega arith)))

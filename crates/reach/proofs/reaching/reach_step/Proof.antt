@@ -13,9 +13,6 @@ Inv-loop edge m k r₀ n x₀ r x =
 abbrev μ-loop : tie.MeasureT-loop
 μ-loop edge m k r₀ n x₀ r x = n - x
 
-loop-holds : tie.Need-loop-holds Inv-loop μ-loop
-loop-holds c = (omega arith, omega arith, fill-none false _ 256 false)
-
 loop-again : tie.Need-loop-again Inv-loop μ-loop
 loop-again c =
     let l = c .before .before .loop in
@@ -27,12 +24,10 @@ loop-again c =
           256 (l .x) (l .r) _ (omega arith) (c .reaches-on .ensures) (l .inv .2),
     )
 
-returns : tie.Need-returns Inv-loop μ-loop
-returns c = λ x h. c .before .loop .inv .2 .holds x (omega arith)
-
 pub reach-step-spec : {M : Type 1} → statement M
 reach-step-spec =
     tie.close
     (tie.spec
-    Inv-loop μ-loop (λ c. search needs) loop-holds (λ c κs. search needs) (λ c. search needs) (λ c. search needs)
-    (λ c. search needs) loop-again returns)
+    Inv-loop μ-loop (λ c. search needs) (λ c. (omega arith, omega arith, fill-none false _ 256 false))
+    (λ c κs. search needs) (λ c. search needs) (λ c. search needs) (λ c. search needs) loop-again
+    (λ c. λ x h. c .before .loop .inv .2 .holds x (omega arith)))

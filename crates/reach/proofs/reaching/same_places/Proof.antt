@@ -10,22 +10,14 @@ Inv-loop a b n x₀ x = (x ≤ n) × ((j : ℕ) → j < x → getD a j false ≡
 abbrev μ-loop : tie.MeasureT-loop
 μ-loop a b n x₀ x = n - x
 
-loop-holds : tie.Need-loop-holds Inv-loop μ-loop
-loop-holds c = (omega arith, λ j h. absurd (omega arith))
-
-returns : tie.Need-returns Inv-loop μ-loop
-returns c = λ e. let z : _≡_ {A = ℕ} 0 1 = cc in absurd (omega arith)
-
 loop-again : tie.Need-loop-again Inv-loop μ-loop
 loop-again c =
     (omega arith, below-more _ _ (c .before .before .before .before .loop .inv .1) (same-bool _ _ (c .if1 .left)))
-
-returns-2 : tie.Need-returns-2 Inv-loop μ-loop
-returns-2 c = λ e j h. c .before .loop .inv .1 j (omega arith)
 
 pub same-places-spec : {M : Type 1} → statement M
 same-places-spec =
     tie.close
     (tie.spec
-    Inv-loop μ-loop loop-holds (λ c. search needs) (λ c. search needs) returns (λ c. search needs)
-    (λ c. search needs) loop-again returns-2)
+    Inv-loop μ-loop (λ c. (omega arith, λ j h. absurd (omega arith))) (λ c. search needs) (λ c. search needs)
+    (λ c. λ e. let z : _≡_ {A = ℕ} 0 1 = cc in absurd (omega arith)) (λ c. search needs) (λ c. search needs)
+    loop-again (λ c. λ e j h. c .before .loop .inv .1 j (omega arith)))

@@ -1,6 +1,6 @@
 -- The loop goes along the run of the word from its last edge to its first, so the datum in hand is that of the first
 -- edge passed that leads from the one set into the other.
-use Rattle.laws.proofs.All.{sym, _∙_, ⊎-elim, ℕ, _+_, _-_, _*_, _<_, arith, now, getD, needs}
+use Rattle.laws.proofs.All.{sym, _∙_, ⊎-elim, ℕ, _+_, _-_, _<_, arith, now, getD, needs}
 use Rattle.table.specs.Edges.{Arrays, arrays, nextOf}
 use Rattle.runs.proofs.EdgeRuns.{RunOf, run-of}
 use Rattle.runs.proofs.RunTurns.{on-edge, edge-small, next-small}

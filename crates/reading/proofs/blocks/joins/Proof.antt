@@ -3,12 +3,6 @@ use Rattle.laws.proofs.All.{sym, ap, _&&_, arith, now, getD, member, needs}
 use Rattle.reading.proofs.blocks.joins.Statement.{statement}
 use Rattle.reading.proofs.blocks.joins.Tie as tie
 
-cast-result : tie.Need-cast-result
-cast-result c = omega (arith, c .before .before .before .pre .1)
-
-element-copy-out-result-2 : tie.Need-element-copy-out-result-2
-element-copy-out-result-2 c = c .before .before .before .pre .1
-
 returns : tie.Need-returns
 returns c =
     let a = c .before .before .before .before .args in
@@ -23,4 +17,5 @@ pub joins-spec : {M : Type 1} → statement M
 joins-spec =
     tie.close
     (tie.spec
-    (λ c. search needs) (λ c. search needs) cast-result element-copy-out-result-2 returns returns-2)
+    (λ c. search needs) (λ c. search needs) (λ c. omega (arith, c .before .before .before .pre .1))
+    (λ c. c .before .before .before .pre .1) returns returns-2)

@@ -31,9 +31,6 @@ small c =
     reach-step (8 * length (now (a .bytes))) (a .n) (a .edges) (a .first) (a .step) (a .width) (c .before .loop .e)
     (c .before .before .before .pre) (c .loop-test .taken)
 
-mul-get : tie.Need-mul-get Inv-loop μ-loop
-mul-get c = record { fits = omega (arith, small c) }
-
 add-get : tie.Need-add-get Inv-loop μ-loop
 add-get c = record { fits = omega (arith, small c, c .before .before .before .pre .first) }
 
@@ -44,27 +41,6 @@ get-requires c κs =
       reach-end (8 * length (now (a .bytes))) (a .n) (a .edges) (a .first) (a .step) (a .width) (c .before .loop .e)
           (c .before .before .before .pre) (c .loop-test .taken),
     )
-
-div-a : tie.Need-div-a Inv-loop μ-loop
-div-a c = c .before .before .before .before .pre .some
-
-mul-a : tie.Need-mul-a Inv-loop μ-loop
-mul-a c = record { fits = omega (arith, within (c .before)) }
-
-rem-a : tie.Need-rem-a Inv-loop μ-loop
-rem-a c = c .before .before .before .before .pre .some
-
-add-a : tie.Need-add-a Inv-loop μ-loop
-add-a c = record { fits = omega (arith, within (c .before)) }
-
-array-write-a : tie.Need-array-write-a Inv-loop μ-loop
-array-write-a c = within (c .before)
-
-add-e : tie.Need-add-e Inv-loop μ-loop
-add-e c = omega arith
-
-loop-less : tie.Need-loop-less Inv-loop μ-loop
-loop-less c = omega arith
 
 loop-again : tie.Need-loop-again Inv-loop μ-loop
 loop-again c =
@@ -88,18 +64,7 @@ pub column-spec : {M : Type 1} → statement M
 column-spec =
     tie.close
     (tie.spec
-    Inv-loop
-    μ-loop
-    loop-holds
-    mul-get
-    add-get
-    get-requires
-    div-a
-    mul-a
-    rem-a
-    add-a
-    array-write-a
-    add-e
-    loop-less
-    loop-again
-    returns)
+    Inv-loop μ-loop loop-holds (λ c. record { fits = omega (arith, small c) }) add-get get-requires
+    (λ c. c .before .before .before .before .pre .some) (λ c. record { fits = omega (arith, within (c .before)) })
+    (λ c. c .before .before .before .before .pre .some) (λ c. record { fits = omega (arith, within (c .before)) })
+    (λ c. within (c .before)) (λ c. omega arith) (λ c. omega arith) loop-again returns)

@@ -22,39 +22,6 @@ abbrev μ-loop : tie.MeasureT-loop
 loop-holds : tie.Need-loop-holds Inv-loop μ-loop
 loop-holds c = (omega arith, refl, refl, λ k h. absurd (omega arith), λ k h. absurd (omega arith))
 
-mul-next-of : tie.Need-mul-next-of Inv-loop μ-loop
-mul-next-of c = omega arith
-
-add-next-of : tie.Need-add-next-of Inv-loop μ-loop
-add-next-of c = omega arith
-
-next-of-requires : tie.Need-next-of-requires Inv-loop μ-loop
-next-of-requires c κs = (omega arith, omega arith)
-
-array-write-zero : tie.Need-array-write-zero Inv-loop μ-loop
-array-write-zero c = omega arith
-
-add-next-of-2 : tie.Need-add-next-of-2 Inv-loop μ-loop
-add-next-of-2 c = omega arith
-
-mul-next-of-2 : tie.Need-mul-next-of-2 Inv-loop μ-loop
-mul-next-of-2 c = omega arith
-
-add-next-of-3 : tie.Need-add-next-of-3 Inv-loop μ-loop
-add-next-of-3 c = omega arith
-
-next-of-requires-2 : tie.Need-next-of-requires-2 Inv-loop μ-loop
-next-of-requires-2 c κs = (omega arith, omega arith)
-
-array-write-one : tie.Need-array-write-one Inv-loop μ-loop
-array-write-one c = omega arith
-
-add-s : tie.Need-add-s Inv-loop μ-loop
-add-s c = omega arith
-
-loop-less : tie.Need-loop-less Inv-loop μ-loop
-loop-less c = omega arith
-
 loop-again : tie.Need-loop-again Inv-loop μ-loop
 loop-again c =
     let b = c .before .before .before in
@@ -84,19 +51,6 @@ pub states-of-spec : {M : Type 1} → statement M
 states-of-spec =
     tie.close
     (tie.spec
-    Inv-loop
-    μ-loop
-    loop-holds
-    mul-next-of
-    add-next-of
-    next-of-requires
-    array-write-zero
-    add-next-of-2
-    mul-next-of-2
-    add-next-of-3
-    next-of-requires-2
-    array-write-one
-    add-s
-    loop-less
-    loop-again
-    returns)
+    Inv-loop μ-loop loop-holds (λ c. omega arith) (λ c. omega arith) (λ c κs. (omega arith, omega arith))
+    (λ c. omega arith) (λ c. omega arith) (λ c. omega arith) (λ c. omega arith) (λ c κs. (omega arith, omega arith))
+    (λ c. omega arith) (λ c. omega arith) (λ c. omega arith) loop-again returns)

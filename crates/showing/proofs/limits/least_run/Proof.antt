@@ -1,7 +1,6 @@
 -- `least_run` meets its contract: with no d passed is the constraint (d, k); the first with which it is ends the loop.
 -- Assumes nothing.
-use Rattle.laws.proofs.All.{_≡_, sym, subst, _∙_, false, ℕ, _-_, _≤_, _<_, not-suc-le-zero, arith, needs}
-use Rattle.laws.proofs.All.{below-more}
+use Rattle.laws.proofs.All.{_≡_, sym, _∙_, false, ℕ, _-_, _≤_, _<_, not-suc-le-zero, arith, below-more}
 use Rattle.constraint.specs.Value.{constraintOf}
 use Rattle.showing.specs.Limits.{isRuns}
 use Rattle.showing.proofs.LimitLines.{same-runs, run-least, run-none}
@@ -24,18 +23,6 @@ test-is c =
     let turn = run .before in
     c .is-same .ensures ∙ same-runs (turn .before .before .args .c) (run .run-length .result) (turn .before .loop .d)
     (omega (arith, turn .loop-test .taken)) (run .run-length .ensures)
-
-loop-holds : tie.Need-loop-holds Inv-loop μ-loop
-loop-holds c = (omega arith, omega arith, λ j h. absurd (not-suc-le-zero h))
-
-sub-run-length : tie.Need-sub-run-length Inv-loop μ-loop
-sub-run-length c = omega (arith, c .loop-test .taken)
-
-run-length-requires : tie.Need-run-length-requires Inv-loop μ-loop
-run-length-requires c κs = omega (arith, c .loop-test .taken, c .before .loop .inv .1)
-
-is-same-requires : tie.Need-is-same-requires Inv-loop μ-loop
-is-same-requires c κs = c .before .before .loop .inv .1
 
 returns : tie.Need-returns Inv-loop μ-loop
 returns c =
@@ -71,14 +58,6 @@ pub least-run-spec : {M : Type 1} → statement M
 least-run-spec =
     tie.close
     (tie.spec
-    Inv-loop
-    μ-loop
-    loop-holds
-    sub-run-length
-    run-length-requires
-    is-same-requires
-    returns
-    add-d
-    loop-less
-    loop-again
-    returns-2)
+    Inv-loop μ-loop (λ c. (omega arith, omega arith, λ j h. absurd (not-suc-le-zero h)))
+    (λ c. omega (arith, c .loop-test .taken)) (λ c κs. omega (arith, c .loop-test .taken, c .before .loop .inv .1))
+    (λ c κs. c .before .before .loop .inv .1) returns add-d loop-less loop-again returns-2)

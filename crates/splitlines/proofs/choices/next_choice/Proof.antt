@@ -14,7 +14,8 @@ candidate-keys-requires c κs =
       b .pre .0,
       b .pre .2,
       b .pre .3,
-      chosen-light (b .args .n) (b .args .g) (s .result) (s .ensures .0) (b .pre .4) _ (c .before .greatest-weight .ensures),
+      chosen-light (b .args .n) (b .args .g) (s .result) (s .ensures .0) (b .pre .4) _
+          (c .before .greatest-weight .ensures),
     )
 
 -- the keys are those of the state that the rule names

@@ -11,9 +11,6 @@ Inv-loop s g n count₀ i₀ count i =
 abbrev μ-loop : tie.MeasureT-loop
 μ-loop s g n count₀ i₀ count i = n - i
 
-loop-holds : tie.Need-loop-holds Inv-loop μ-loop
-loop-holds c = (omega arith, refl, c .pre .room, omega arith, refl)
-
 loop-again : tie.Need-loop-again Inv-loop μ-loop
 loop-again c =
     let l = c .before .before .before .loop in
@@ -47,5 +44,5 @@ pub enter-count-spec : {M : Type 1} → statement M
 enter-count-spec =
     tie.close
     (tie.spec
-    Inv-loop μ-loop loop-holds (λ c. search needs) (λ c. search needs) (λ c. search needs) (λ c. search needs)
-    (λ c. search needs) loop-again returns)
+    Inv-loop μ-loop (λ c. (omega arith, refl, c .pre .room, omega arith, refl)) (λ c. search needs)
+    (λ c. search needs) (λ c. search needs) (λ c. search needs) (λ c. search needs) loop-again returns)

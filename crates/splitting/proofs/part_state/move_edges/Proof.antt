@@ -3,17 +3,8 @@ use Rattle.laws.proofs.All.{_≡_, refl, sym, subst, _∙_, ⊎-elim, map, _-_,
 use Rattle.laws.proofs.All.{not-true, not-false}
 use Rattle.order.specs.EdgeKeys.{keysIn, arcOf}
 use Rattle.splitting.specs.SplitParts.{keptArcs}
-use Rattle.splitting.proofs.MovedSources.{
-  Resourced,
-  resource-none,
-  resource-put,
-  resource-stay,
-  resource-end,
-  newSource,
-  new-off,
-  new-kept,
-  new-moved,
-}
+use Rattle.splitting.proofs.MovedSources.{Resourced, resource-none, resource-put, resource-stay}
+use Rattle.splitting.proofs.MovedSources.{resource-end, newSource, new-off, new-kept, new-moved}
 use Rattle.order.proofs.KeptKeys.{among-kept}
 use Rattle.splitting.proofs.part_state.move_edges.Statement.{statement}
 use Rattle.splitting.proofs.part_state.move_edges.Tie as tie

@@ -10,9 +10,6 @@ Inv-loop n count k s₀ s = (s ≤ k) × (k ≤ 128) × ((j : ℕ) → j < s →
 abbrev μ-loop : tie.MeasureT-loop
 μ-loop n count k s₀ s = k - s
 
-loop-holds : tie.Need-loop-holds Inv-loop μ-loop
-loop-holds c = (omega arith, c .before .pre .few, λ j h. absurd (omega arith))
-
 returns : tie.Need-returns Inv-loop μ-loop
 returns c =
     let e = c .before .before .before .out-counts .ensures (c .before .before .loop .s) (omega arith) in
@@ -33,5 +30,5 @@ pub is-unfinished-spec : {M : Type 1} → statement M
 is-unfinished-spec =
     tie.close
     (tie.spec
-    Inv-loop μ-loop (λ c κs. search needs) loop-holds (λ c. search needs) (λ c. search needs) returns
-    (λ c. search needs) (λ c. search needs) loop-again returns-2)
+    Inv-loop μ-loop (λ c κs. search needs) (λ c. (omega arith, c .before .pre .few, λ j h. absurd (omega arith)))
+    (λ c. search needs) (λ c. search needs) returns (λ c. search needs) (λ c. search needs) loop-again returns-2)

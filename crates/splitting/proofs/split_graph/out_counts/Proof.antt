@@ -13,15 +13,6 @@ abbrev μ-loop : tie.MeasureT-loop
 small : (c : tie.In-loop Inv-loop μ-loop) → getD (c .before .before .args .t1 .source) (c .before .loop .i) 0 < 128
 small c = omega (arith, c .before .before .pre .few, c .before .before .pre .source (c .before .loop .i) (omega arith))
 
-loop-holds : tie.Need-loop-holds Inv-loop μ-loop
-loop-holds c = (omega arith, refl, c .pre .room, counted-none _)
-
-mul-r : tie.Need-mul-r Inv-loop μ-loop
-mul-r c = omega (arith, small (c .before))
-
-array-read-r : tie.Need-array-read-r Inv-loop μ-loop
-array-read-r c = small (c .before)
-
 add-r : tie.Need-add-r Inv-loop μ-loop
 add-r c =
     omega (
@@ -29,12 +20,6 @@ add-r c =
       c .before .before .loop .inv .3 .low
           (getD (c .before .before .before .args .t1 .source) (c .before .before .loop .i) 0) (small (c .before)),
     )
-
-mul-r-2 : tie.Need-mul-r-2 Inv-loop μ-loop
-mul-r-2 c = omega (arith, small (c .before))
-
-array-write-r : tie.Need-array-write-r Inv-loop μ-loop
-array-write-r c = small (c .before)
 
 loop-again : tie.Need-loop-again Inv-loop μ-loop
 loop-again c =
@@ -57,5 +42,6 @@ pub out-counts-spec : {M : Type 1} → statement M
 out-counts-spec =
     tie.close
     (tie.spec
-    Inv-loop μ-loop loop-holds (λ c. search needs) (λ c. search needs) mul-r array-read-r add-r mul-r-2
-    array-write-r (λ c. search needs) (λ c. search needs) loop-again returns)
+    Inv-loop μ-loop (λ c. (omega arith, refl, c .pre .room, counted-none _)) (λ c. search needs) (λ c. search needs)
+    (λ c. omega (arith, small (c .before))) (λ c. small (c .before)) add-r (λ c. omega (arith, small (c .before)))
+    (λ c. small (c .before)) (λ c. search needs) (λ c. search needs) loop-again returns)

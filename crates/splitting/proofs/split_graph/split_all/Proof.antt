@@ -3,16 +3,8 @@
 use Rattle.laws.proofs.All.{_≡_, sym, _∙_, _-_, arith, true}
 use Rattle.graph.specs.Splitting.{unfinished}
 use Rattle.graph.specs.Value.{workIn}
-use Rattle.splitting.proofs.SplitLoop.{
-  Going,
-  going-start,
-  going-room,
-  going-splits,
-  going-on,
-  going-grows,
-  going-crowded,
-  going-end,
-}
+use Rattle.splitting.proofs.SplitLoop.{Going, going-start, going-room, going-splits, going-on, going-grows}
+use Rattle.splitting.proofs.SplitLoop.{going-crowded, going-end}
 use Rattle.splitting.proofs.split_graph.split_all.Statement.{statement}
 use Rattle.splitting.proofs.split_graph.split_all.Tie as tie
 

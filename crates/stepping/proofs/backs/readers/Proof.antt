@@ -2,8 +2,7 @@
 use Rattle.laws.proofs.All.{_≡_, sym, ap, _∙_, _+_, _-_, _%_, _≤_, _<_, arith, now, getD, slice, needs}
 use Rattle.table.specs.Rows.{Rows}
 use Rattle.table.specs.Edges.{arrays, rowsOf}
-use Rattle.stepping.specs.StateSets.{back, able}
-use Rattle.stepping.specs.StateSets.{statesIn}
+use Rattle.stepping.specs.StateSets.{back, able, statesIn}
 use Rattle.stepping.proofs.StateWords.{able-two}
 use Rattle.stepping.proofs.backs.readers.Statement.{statement}
 use Rattle.stepping.proofs.backs.readers.Tie as tie
@@ -31,9 +30,6 @@ loop-holds c =
     let e = c .back-odd .ensures in
     (e .0 .0, e .0 .1, e .0 .2, e .1)
 
-sub-back-by-2 : tie.Need-sub-back-by-2 Inv-loop μ-loop
-sub-back-by-2 c = omega (arith, two (c .before .before .before .before .before))
-
 shared-slice-read-back-by-2 : tie.Need-shared-slice-read-back-by-2 Inv-loop μ-loop
 shared-slice-read-back-by-2 c =
     let i = c .before .before .before .before .before .before in
@@ -41,12 +37,6 @@ shared-slice-read-back-by-2 c =
 
 abbrev in-turn : tie.After-back-by2 Inv-loop μ-loop → tie.In-loop Inv-loop μ-loop
 in-turn c = c .before .before .before .before .before .before .before .before
-
-sub-j : tie.Need-sub-j Inv-loop μ-loop
-sub-j c = omega (arith, two (in-turn c))
-
-loop-less : tie.Need-loop-less Inv-loop μ-loop
-loop-less c = omega (arith, two (in-turn c))
 
 loop-again : tie.Need-loop-again Inv-loop μ-loop
 loop-again c =
@@ -78,4 +68,6 @@ readers-spec =
     tie.close
     (tie.spec
     Inv-loop μ-loop (λ c κs. search needs) loop-holds (λ c. search needs) (λ c. search needs) (λ c κs. search needs)
-    sub-back-by-2 shared-slice-read-back-by-2 (λ c κs. search needs) sub-j loop-less loop-again returns)
+    (λ c. omega (arith, two (c .before .before .before .before .before))) shared-slice-read-back-by-2
+    (λ c κs. search needs) (λ c. omega (arith, two (in-turn c))) (λ c. omega (arith, two (in-turn c))) loop-again
+    returns)

@@ -2,8 +2,7 @@
 use Rattle.laws.proofs.All.{_≡_, sym, ap, _∙_, _+_, _-_, _%_, _≤_, _<_, arith, now, getD, slice, needs}
 use Rattle.table.specs.Rows.{Rows}
 use Rattle.table.specs.Edges.{arrays, rowsOf}
-use Rattle.stepping.specs.StateSets.{along, alongAll}
-use Rattle.stepping.specs.StateSets.{statesIn}
+use Rattle.stepping.specs.StateSets.{along, alongAll, statesIn}
 use Rattle.stepping.proofs.StateWords.{along-two, along-end}
 use Rattle.stepping.proofs.steps.step_all.Statement.{statement}
 use Rattle.stepping.proofs.steps.step_all.Tie as tie

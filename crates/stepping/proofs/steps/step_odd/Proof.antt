@@ -1,8 +1,7 @@
 -- No word, or one.
 use Rattle.laws.proofs.All.{sym, ap, _∙_, arith, _+_, now, slice, needs}
 use Rattle.table.specs.Edges.{arrays, rowsOf}
-use Rattle.stepping.specs.StateSets.{alongAll}
-use Rattle.stepping.specs.StateSets.{statesIn}
+use Rattle.stepping.specs.StateSets.{alongAll, statesIn}
 use Rattle.stepping.proofs.StateWords.{along-first}
 use Rattle.stepping.proofs.steps.step_odd.Statement.{statement}
 use Rattle.stepping.proofs.steps.step_odd.Tie as tie

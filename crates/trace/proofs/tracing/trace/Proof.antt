@@ -11,15 +11,6 @@ use Rattle.trace.proofs.tracing.trace.Tie as tie
 ready : (c : tie.After-enum-told) → JobReady (c .before .before .before .before .args .r .job)
 ready c = c .before .before .before .before .pre (c .enum-told .given .1)
 
-ways-requires : tie.Need-ways-requires
-ways-requires c κs = ready (c .before) .allowed .p₂
-
-put-stages-requires : tie.Need-put-stages-requires
-put-stages-requires c κs = (ready (c .before .before), c .ways .ensures .0)
-
-compile-requires : tie.Need-compile-requires
-compile-requires c κs = ready (c .before .before .before .before .before)
-
 returns : tie.Need-returns
 returns c =
     let p = c .before .before in
@@ -42,5 +33,7 @@ pub trace-spec : {M : Type 1} → statement M
 trace-spec =
     tie.close
     (tie.spec
-    (λ c. search needs) (λ c κs. search needs) (λ c. search needs) ways-requires put-stages-requires compile-requires
-    (λ c κs. search needs) (λ c. search needs) returns (λ c. search needs) returns-2)
+    (λ c. search needs) (λ c κs. search needs) (λ c. search needs) (λ c κs. ready (c .before) .allowed .p₂)
+    (λ c κs. (ready (c .before .before), c .ways .ensures .0))
+    (λ c κs. ready (c .before .before .before .before .before)) (λ c κs. search needs) (λ c. search needs) returns
+    (λ c. search needs) returns-2)

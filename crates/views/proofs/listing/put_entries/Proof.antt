@@ -35,36 +35,6 @@ loop-holds c = (
       (begun (c .before .before .put .ensures)),
 )
 
-div-i : tie.Need-div-i Inv-loop μ-loop
-div-i c = omega (arith, edge c .some)
-
-mul-i : tie.Need-mul-i Inv-loop μ-loop
-mul-i c = omega (arith, edge c .state)
-
-rem-i : tie.Need-rem-i Inv-loop μ-loop
-rem-i c = omega (arith, edge c .some)
-
-add-i : tie.Need-add-i Inv-loop μ-loop
-add-i c = omega (arith, edge c .place)
-
-div-put-entry : tie.Need-div-put-entry Inv-loop μ-loop
-div-put-entry c = omega (arith, edge (c .before) .some)
-
-rem-put-entry : tie.Need-rem-put-entry Inv-loop μ-loop
-rem-put-entry c = omega (arith, edge (c .before) .some)
-
-element-copy-out-put-entry : tie.Need-element-copy-out-put-entry Inv-loop μ-loop
-element-copy-out-put-entry c = edge (c .before) .place
-
-cast-put-entry : tie.Need-cast-put-entry Inv-loop μ-loop
-cast-put-entry c = omega (arith, edge (c .before .before) .word)
-
-element-copy-out-put-entry-2 : tie.Need-element-copy-out-put-entry-2 Inv-loop μ-loop
-element-copy-out-put-entry-2 c = edge (c .before .before) .place
-
-cast-put-entry-2 : tie.Need-cast-put-entry-2 Inv-loop μ-loop
-cast-put-entry-2 c = omega (arith, edge (c .before .before .before) .next)
-
 put-entry-requires : tie.Need-put-entry-requires Inv-loop μ-loop
 put-entry-requires c κs =
     c .before .before .before .before .before .before .before .before .before .before .before .pre .0 .short
@@ -98,6 +68,10 @@ pub put-entries-spec : {M : Type 1} → statement M
 put-entries-spec =
     tie.close
     (tie.spec
-    Inv-loop μ-loop mul-edges (λ c. search needs) (λ c κs. search needs) loop-holds div-i mul-i rem-i add-i
-    div-put-entry rem-put-entry element-copy-out-put-entry cast-put-entry element-copy-out-put-entry-2
-    cast-put-entry-2 put-entry-requires add-e (λ c. search needs) loop-again same-length returns)
+    Inv-loop μ-loop mul-edges (λ c. search needs) (λ c κs. search needs) loop-holds
+    (λ c. omega (arith, edge c .some)) (λ c. omega (arith, edge c .state)) (λ c. omega (arith, edge c .some))
+    (λ c. omega (arith, edge c .place)) (λ c. omega (arith, edge (c .before) .some))
+    (λ c. omega (arith, edge (c .before) .some)) (λ c. edge (c .before) .place)
+    (λ c. omega (arith, edge (c .before .before) .word)) (λ c. edge (c .before .before) .place)
+    (λ c. omega (arith, edge (c .before .before .before) .next)) put-entry-requires add-e (λ c. search needs)
+    loop-again same-length returns)

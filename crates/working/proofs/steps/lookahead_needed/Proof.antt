@@ -6,14 +6,8 @@ use Rattle.table.specs.Edges.{Arrays, arrays, rowsOf}
 use Rattle.table.proofs.RowsOf.{length-rows}
 use Rattle.pairs.specs.PairSets.{pairsIn, Long}
 use Rattle.working.proofs.SetsOf.{empty-of}
-use Rattle.working.proofs.Stepped.{
-  Stepped,
-  stepped-start,
-  stepped-more,
-  stepped-stop,
-  stepped-end,
-  stepped-rest,
-}
+use Rattle.working.proofs.Stepped.{Stepped, stepped-start, stepped-more, stepped-stop, stepped-end}
+use Rattle.working.proofs.Stepped.{stepped-rest}
 use Rattle.working.proofs.steps.lookahead_needed.Statement.{statement}
 use Rattle.working.proofs.steps.lookahead_needed.Tie as tie
 
