@@ -9,15 +9,15 @@ use answer::Answer;
 use answer::answer_number;
 use compiler::bytes::compile_run_length;
 use libc::STDOUT_FILENO;
-use std::num::wrapping_add_u64;
+use sentences::put_sentence;
+use std::num::wrapping_add_usize;
 use text::put;
 use text::put_hex;
-use text::put_line;
 
 // How many jobs there were, how many of them had each answer by its number, and the checksum.
 struct Tally {
-    jobs: u64,
-    answers: [u64; 256],
+    jobs: usize,
+    answers: [usize; 256],
     sum: u64,
 }
 
@@ -25,7 +25,7 @@ struct Tally {
 fn no_job() -> Tally {
     Tally {
         jobs: 0,
-        answers: [0u64; 256],
+        answers: [0usize; 256],
         sum: checksum::START,
     }
 }
@@ -76,8 +76,8 @@ fn with_job(t: Tally, i: usize) -> Tally
     let a = compile_run_length(&job, &mut out);
     let n = (answer_number(a) % 256) as usize;
     let mut r = t;
-    r.jobs = wrapping_add_u64(t.jobs, 1);
-    r.answers[n] = wrapping_add_u64(t.answers[n], 1);
+    r.jobs = wrapping_add_usize(t.jobs, 1);
+    r.answers[n] = wrapping_add_usize(t.answers[n], 1);
     r.sum = sum_with(t.sum, &job, a, n as u8, &out);
     r
 }
@@ -107,15 +107,21 @@ fn sweep() -> Tally {
 // What is printed of a tally.
 fn say(t: Tally) {
     let mut out = io::buffer();
-    let a = put_line(&mut out, 0, b"jobs ", t.jobs);
-    let b = put_line(&mut out, a, b"compiled ", t.answers[0]);
-    let c = put_line(&mut out, b, b"refusal 3 ", t.answers[3]);
-    let d = put_line(&mut out, c, b"refusal 4 ", t.answers[4]);
-    let e = put_line(&mut out, d, b"refusal 5 ", t.answers[5]);
-    let f = put_line(&mut out, e, b"refusal 6 ", t.answers[6]);
-    let g = put(&mut out, f, b"checksum ");
-    let h = put_hex(&mut out, g, t.sum, 16);
-    let size = put(&mut out, h, b"\n");
+    let sum = put_sentence(
+        &mut out,
+        0,
+        b"jobs #\ncompiled #\nrefusal 3 #\nrefusal 4 #\nrefusal 5 #\nrefusal 6 #\nchecksum ",
+        &[
+            t.jobs,
+            t.answers[0],
+            t.answers[3],
+            t.answers[4],
+            t.answers[5],
+            t.answers[6],
+        ],
+    );
+    let end = put_hex(&mut out, sum, t.sum, 16);
+    let size = put(&mut out, end, b"\n");
     io::write_all(STDOUT_FILENO, &out[..size]);
 }
 
