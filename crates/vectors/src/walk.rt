@@ -7,13 +7,14 @@ ghost use Rattle.cases.specs.Placing.{Whole};
 ghost use Rattle.vectors.specs.Counting.{Few, Counted};
 use crate::calls::call;
 use crate::report::say_file;
-use crate::report::say_kind;
 use cases::Case;
 use cases::case_at;
 use cases::is_case;
 use judging::is_same;
 use judging::judge;
 use judging::say_number;
+use libc::STDOUT_FILENO;
+use sentences::put_sentence;
 use std::num::wrapping_add_u64;
 
 // The place that the walk reached; how many cases there were, and how many of them differ; and for each kind how many
@@ -136,26 +137,41 @@ fn is_end(bytes: &[u8], at: usize) -> bool
     bytes[at] == 0
 }
 
-// The calls that compile.
-fn say_compiling(t: Tally) {
-    say_kind(b"compile_job ", t.kinds[1], t.differ[1]);
-    say_kind(b"compile_run_length ", t.kinds[2], t.differ[2]);
-}
-
-// The calls on one record.
-fn say_coding(t: Tally) {
-    say_kind(b"check ", t.kinds[3], t.differ[3]);
-    say_kind(b"encode ", t.kinds[4], t.differ[4]);
-    say_kind(b"decode ", t.kinds[5], t.differ[5]);
+// The numbers of a tally as they are printed: of kinds 1 to 7 and then of all, how many cases, and how many differ.
+fn numbers_of(t: Tally) -> [usize; 16] {
+    [
+        t.kinds[1] as usize,
+        t.differ[1] as usize,
+        t.kinds[2] as usize,
+        t.differ[2] as usize,
+        t.kinds[3] as usize,
+        t.differ[3] as usize,
+        t.kinds[4] as usize,
+        t.differ[4] as usize,
+        t.kinds[5] as usize,
+        t.differ[5] as usize,
+        t.kinds[6] as usize,
+        t.differ[6] as usize,
+        t.kinds[7] as usize,
+        t.differ[7] as usize,
+        t.cases as usize,
+        t.wrong as usize,
+    ]
 }
 
 // What is printed of a tally.
 fn say_tally(t: Tally) {
-    say_compiling(t);
-    say_coding(t);
-    say_kind(b"set ", t.kinds[6], t.differ[6]);
-    say_kind(b"listing ", t.kinds[7], t.differ[7]);
-    say_kind(b"all ", t.cases, t.wrong);
+    let mut out = [0u8; 1024];
+    let numbers = numbers_of(t);
+    let size = put_sentence(
+        &mut out,
+        0,
+        b"compile_job # cases, differ #\ncompile_run_length # cases, differ #\ncheck # cases, differ #\n\
+        encode # cases, differ #\ndecode # cases, differ #\nset # cases, differ #\n\
+        listing # cases, differ #\nall # cases, differ #\n",
+        &numbers,
+    );
+    io::write_all(STDOUT_FILENO, &out[..size]);
 }
 
 // Runs every case and prints what came out.
