@@ -1,12 +1,13 @@
 -- The state to split: there is one, of greatest weight, with more than n edges.
 -- In order: greatest-ge, greatest-at, total-le, total-lt, ripe-some, Chosen, chosen-is.
 -- Assumes nothing.
-use Rattle.laws.proofs.All.{_≡_, refl, sym, _∙_, _⊎_, inl, inr, Bool, true, false, List, [], _∷_, ℕ, zero, suc, _+_}
-use Rattle.laws.proofs.All.{_*_, _≤_, _<_, zero-le, suc-le-suc, not-suc-le-zero, le-trans, le-of-eq, mul-comm}
+use Rattle.laws.proofs.All.{_≡_, refl, sym, _∙_, inl, inr, Bool, true, false, List, [], _∷_, ℕ, zero, suc, _+_, _*_}
+use Rattle.laws.proofs.All.{_≤_, _<_, zero-le, suc-le-suc, not-suc-le-zero, le-trans, le-of-eq, mul-comm}
 use Rattle.laws.proofs.All.{le-of-mul-le-mul-right, lt-of-mul-lt-mul-right, le-max-left, le-max-right, max-eq-left}
-use Rattle.laws.proofs.All.{max-eq-right, arith, decLe, T, eqb, ltb, eqb→eq, eqb-refl, ltb→lt, ltb-false, length}
-use Rattle.laws.proofs.All.{getD, range, any, and→, →and, or→, any-below→, →any-below, Each, each-map, each-always}
-use Rattle.laws.proofs.All.{each-both, filter-each, each-any, first-passes, tot-le, tot-const, each-range, each-for}
+use Rattle.laws.proofs.All.{max-eq-right, arith, decLe, T, eqb, ltb, eqb→eq, eqb-refl, ltb→lt, length, getD, range}
+use Rattle.laws.proofs.All.{any, and→, →and, or→, any-below→, →any-below, Each, each-map, each-always, each-both}
+use Rattle.laws.proofs.All.{filter-each, each-any, first-passes, tot-le, tot-const, each-range, each-for, decLt}
+use Rattle.laws.proofs.All.{lt→ltb}
 use Rattle.graph.specs.Invariant.{Inside, Stays, Inv}
 use Rattle.graph.specs.Arcs.{Arc, Work, leaves, out}
 use Rattle.graph.specs.Weights.{weight, total}
@@ -35,16 +36,13 @@ total-le v es = le-trans (tot-le (weight v) (λ e. greatest v) es (each-always _
 pub total-lt : (v : List ℕ) (es : List Arc) → T (any (lighter v (greatest v)) es)
     → total v es < length es * greatest v
 total-lt v [] t = absurd t
-total-lt v (e ∷ es) t = go (or→ (lighter v (greatest v) e) (any (lighter v (greatest v)) es) t) (total-lt v es)
+total-lt v (e ∷ es) t = elim (or→ (lighter v (greatest v) e) (any (lighter v (greatest v)) es) t) [
+  | inl u ↦ rw (sucs (length es)) (omega (arith, ltb→lt (weight v e) (greatest v) u, total-le v es))
+  | inr u ↦ rw (sucs (length es)) (omega (arith, (total-lt v es) u, greatest-ge v (e .target)))
+]
   where
     sucs : (k : ℕ) → suc k * greatest v ≡ greatest v + k * greatest v
     sucs k = omega arith
-
-    go : T (lighter v (greatest v) e) ⊎ T (any (lighter v (greatest v)) es)
-        → (T (any (lighter v (greatest v)) es) → total v es < length es * greatest v)
-        → weight v e + total v es < suc (length es) * greatest v
-    go (inl u) k = rw (sucs (length es)) (omega (arith, ltb→lt (weight v e) (greatest v) u, total-le v es))
-    go (inr u) k = rw (sucs (length es)) (omega (arith, k u, greatest-ge v (e .target)))
 
 module _ (n S : ℕ) (x : Work) (I : Inv n S x) where
   abbrev v : List ℕ
@@ -68,15 +66,13 @@ module _ (n S : ℕ) (x : Work) (I : Inv n S x) where
       step : (e : Arc) → Inside (length v) e
           × ((s : ℕ) → T (leaves s e) → T (lighter v (greatest v) e) → T (any (lighter v (greatest v)) (out g s)))
           → Stays (λ s. eqb (getD v s 0) (greatest v)) e
-      step e (i, f) t = go (ltb (weight v e) (greatest v)) refl
-        where
-          go : (b : Bool) → ltb (weight v e) (greatest v) ≡ b → T (eqb (weight v e) (greatest v))
-          go true q = absurd (h (→any-below (splittable v g) (length v) (e .source) (i .0)
-              (→and (eqb (getD v (e .source) 0) (greatest v)) (any (lighter v (greatest v)) (out g (e .source))) t
-              (f (e .source) (eqb-refl (e .source)) (rw q tt)))))
-          go false q = let m : weight v e ≡ greatest v =
-              omega (arith, ltb-false (weight v e) (greatest v) q, greatest-ge v (e .target)) in
-              rw m (eqb-refl (greatest v))
+      step e (i, f) t = elim (decLt (weight v e) (greatest v)) [
+        | yes q ↦ absurd (h (→any-below (splittable v g) (length v) (e .source) (i .0)
+            (→and (eqb (getD v (e .source) 0) (greatest v)) (any (lighter v (greatest v)) (out g (e .source))) t
+            (f (e .source) (eqb-refl (e .source)) (lt→ltb (weight v e) (greatest v) q)))))
+        | no q ↦ let m : weight v e ≡ greatest v = omega (arith, greatest-ge v (e .target)) in
+            rw m (eqb-refl (greatest v))
+      ]
 
   -- some state of greatest weight has an edge to a lighter one
   pub ripe-some : T (unfinished n x) → T (any (splittable v g) (range (length v)))
@@ -92,14 +88,11 @@ module _ (n S : ℕ) (x : Work) (I : Inv n S x) where
           (rw em (eqb-refl (greatest v))) i h) in
           let few : length (out g i) < n = ltb→lt (length (out g i)) n u in
           let a : greatest v * n ≤ total v (out g i) = rw e at (I .enough i h) in
-          let b : greatest v * n ≤ greatest v * length (out g i) =
-          le-trans a (le-trans (total-le v (out g i)) (le-of-eq (mul-comm (length (out g i)) (greatest v)))) in
           let pos : 0 < greatest v = rw e at (I .positive i h) in
-          absurd (few-not (greatest v) n (length (out g i)) pos b few)
-        where
-          few-not : (M a b : ℕ) → 0 < M → M * a ≤ M * b → b < a → ⊥
-          few-not M a b p l k = let r : a ≤ b = le-of-mul-le-mul-right (rw (mul-comm a M, mul-comm b M) l) p in
-              omega arith
+          let r : n ≤ length (out g i) =
+          le-of-mul-le-mul-right {k = greatest v} (le-trans (le-of-eq (mul-comm n (greatest v)))
+          (le-trans a (total-le v (out g i)))) pos in
+          absurd (omega arith)
 
   pub record Chosen (s : ℕ) : Type 0 where
     pub state : s < length (x .weights)

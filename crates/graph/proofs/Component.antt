@@ -48,24 +48,17 @@ module _ (K : ℕ) (L : List ℕ) (g : List Arc) (reach : ℕ → ℕ → Bool) 
   lower : (s : ℕ) → T (elem s L) → T (any good L) ⊎ ((t : ℕ) × T (elem t L) × (size t < size s))
   lower s es = go (good s) refl
     where
-      next : (t : ℕ) × (returns reach s t ≡ false) × T (elem t L) → (t : ℕ) × T (elem t L) × (size t < size s)
-      next (t, e, et) =
-          let (p, q) = fails (reach s t) (reach t s) e in
-          (t, et, smaller s t es (lt t et) (rw p tt) q)
-
       go : (b : Bool) → good s ≡ b → T (any good L) ⊎ ((t : ℕ) × T (elem t L) × (size t < size s))
       go true q = inl (elem-each (λ s. T (good s) → T (any good L)) s L es (each-any good L) (rw q tt))
-      go false q = inr (next (not-all (returns reach s) (λ t. T (elem t L)) L q (each-elem L)))
+      go false q =
+          let (t, e, et) = not-all (returns reach s) (λ t. T (elem t L)) L q (each-elem L) in
+          let (p, r) = fails (reach s t) (reach t s) e in
+          inr (t, et, smaller s t es (lt t et) (rw p tt) r)
 
   -- there is a state that all states reachable from it reach back
   descend : (k s : ℕ) → T (elem s L) → size s ≤ k → T (any good L)
   descend zero s es h = elim (lower s es) [ inl u ↦ u | inr (t, et, l) ↦ absurd (omega arith) ]
-  descend (suc k) s es h = go (lower s es) (λ t et l. descend k t et l)
-    where
-      go : T (any good L) ⊎ ((t : ℕ) × T (elem t L) × (size t < size s))
-          → ((t : ℕ) → T (elem t L) → size t ≤ k → T (any good L)) → T (any good L)
-      go (inl u) f = u
-      go (inr (t, et, l)) f = f t et (omega arith)
+  descend (suc k) s es h = elim (lower s es) [ inl u ↦ u | inr (t, et, l) ↦ descend k t et (omega arith) ]
 
   pub good-some : (s : ℕ) → T (elem s L) → T (any good L)
   good-some s es = descend (size s) s es (le-refl (size s))

@@ -1,10 +1,10 @@
 -- The sum over the words is the sum over the states t of A(s, t) times the weight of t.
 -- In order: exchange.
 -- Assumes nothing.
-use Rattle.laws.proofs.All.{_≡_, sym, ap₂, _∙_, Bool, true, false, List, [], _∷_, ℕ, _+_, _*_, _<_, zero-add}
-use Rattle.laws.proofs.All.{zero-mul, arith, decLt, eqb, length, getD, List·getD-eq-default, if_then_else_, range}
-use Rattle.laws.proofs.All.{filter, so, nay, eqb-is, tot, one, times, each-always, tot-eq, tot-add, tot-zero}
-use Rattle.laws.proofs.All.{any→count, range-once, elem-range}
+use Rattle.laws.proofs.All.{_≡_, sym, ap₂, _∙_, Bool, true, false, List, [], _∷_, ℕ, _+_, _*_, zero-add, zero-mul}
+use Rattle.laws.proofs.All.{arith, decLt, eqb, length, getD, List·getD-eq-default, if_then_else_, range, filter, so}
+use Rattle.laws.proofs.All.{nay, eqb-is, tot, one, times, each-always, tot-eq, tot-add, tot-zero, any→count}
+use Rattle.laws.proofs.All.{range-once, elem-range}
 use Rattle.graph.specs.Arcs.{Arc, enters, out}
 use Rattle.graph.specs.Weights.{total, wordsBetween}
 
@@ -17,14 +17,12 @@ tot-only f a (t ∷ l) = rw (tot-only f a l) (elim (eqb-is a t) [
 ])
 
 one-weight : (v : List ℕ) (a : ℕ) → tot (λ t. one (eqb a) t * getD v t 0) (range (length v)) ≡ getD v a 0
-one-weight v a = tot-only (λ t. getD v t 0) a (range (length v)) ∙ go (decLt a (length v))
-  where
-    go : Dec (a < length v) → times a (range (length v)) * getD v a 0 ≡ getD v a 0
-    go (yes h) =
-        let b : 0 < times a (range (length v)) = any→count (eqb a) (range (length v)) (elem-range (length v) a h) in
-        let c : times a (range (length v)) ≡ 1 = omega (arith, range-once a (length v)) in
-        rw c (omega arith)
-    go (no h) = rw (List·getD-eq-default v 0 {n = a} (omega arith)) (omega arith)
+one-weight v a = tot-only (λ t. getD v t 0) a (range (length v)) ∙ (elim (decLt a (length v)) [
+  | yes h ↦ let b = any→count (eqb a) (range (length v)) (elem-range (length v) a h) in
+      let c : times a (range (length v)) ≡ 1 = omega (arith, range-once a (length v)) in
+      rw c (omega arith)
+  | no h ↦ rw (List·getD-eq-default v 0 {n = a} (omega arith)) (omega arith)
+])
 
 -- for any list of edges
 exchange-all : (v : List ℕ) (es : List Arc)

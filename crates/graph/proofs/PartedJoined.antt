@@ -15,8 +15,8 @@ module _ (s K : ℕ) (keep g : List Arc) (hs : s < K) (Q : ℕ → Bool) where
   abbrev merged : ℕ → Bool
   merged x = if eqb x s then Q s && Q K else Q x
 
-  merged-at : (x : ℕ) → T (Q x) → (x ≡ s → T (Q K)) → T (merged x)
-  merged-at x t f = elim (eqb-is x s) [ so p q ↦ rw q (→and (Q s) (Q K) (rw p at t) (f p)) | nay p q ↦ rw q t ]
+  merged-at : (x : ℕ) → T (Q x) × (x ≡ s → T (Q K)) → T (merged x)
+  merged-at x (t, f) = elim (eqb-is x s) [ so p q ↦ rw q (→and (Q s) (Q K) (rw p at t) (f p)) | nay p q ↦ rw q t ]
 
   at-merged : (x : ℕ) → T (merged x) → T (Q x) × (x ≡ s → T (Q K))
   at-merged x t = elim (eqb-is x s) [
@@ -42,12 +42,9 @@ module _ (s K : ℕ) (keep g : List Arc) (hs : s < K) (Q : ℕ → Bool) where
 
     merged-stays : (e : Arc) → Both (moved s K keep e) → Stays merged e
     merged-stays e b t = elim (fate s K keep e) [
-      | goes p u q ↦ use-it (subst Both q b (at-merged (e .source) t .1 p))
-      | stays u q ↦ use-it (subst Both q b (at-merged (e .source) t .0))
+      | goes p u q ↦ merged-at (e .target) (subst Both q b (at-merged (e .source) t .1 p))
+      | stays u q ↦ merged-at (e .target) (subst Both q b (at-merged (e .source) t .0))
     ]
-      where
-        use-it : T (Q (e .target)) × (e .target ≡ s → T (Q K)) → T (merged (e .target))
-        use-it u = merged-at (e .target) (u .0) (u .1)
 
     merged-closed : Each (Stays merged) g
     merged-closed = each-map (λ e. Both (moved s K keep e)) (Stays merged) merged-stays g
@@ -59,13 +56,9 @@ module _ (s K : ℕ) (keep g : List Arc) (hs : s < K) (Q : ℕ → Bool) where
     member v i x t h =
         let g′ = map (moved s K keep) g in
         let h′ : 0 < tot (mask (leaves x) (weight v)) g′ = rw (← tot-filter (weight v) (leaves x) g′) h in
-        go (tot-some (mask (leaves x) (weight v)) (λ e. Both e × (e .target < K)) g′ h′
-        (each-both Both (λ e. e .target < K) g′ moved-both i))
-      where
-        go : (e : Arc) × (0 < mask (leaves x) (weight v) e) × (Both e × (e .target < K))
-            → (y : ℕ) × (y < K) × T (merged y)
-        go (e, p, (b, l)) = elim (eqb-is (e .source) x) [
-          | so r q ↦ let u = b (rw r t) in (e .target, l, merged-at (e .target) (u .0) (u .1))
+        let (e, p, (b, l)) = tot-some (mask (leaves x) (weight v)) (λ e. Both e × (e .target < K)) g′ h′
+        (each-both Both (λ e. e .target < K) g′ moved-both i) in elim (eqb-is (e .source) x) [
+          | so r q ↦ (e .target, l, merged-at (e .target) (b (rw r t)))
           | nay r q ↦ absurd (let z : mask (leaves x) (weight v) e ≡ 0 = rw q in omega arith)
         ]
 

@@ -2,36 +2,29 @@
 -- In order: power-distinct, power-reads, power-inside.
 -- Assumes nothing.
 use Rattle.laws.proofs.All.{_≡_, refl, _∙_, inl, inr, Bool, true, false, not, _&&_, map, ℕ, _≤_, _<_, zero-le, _^_}
-use Rattle.laws.proofs.All.{le-refl, le-trans, le-of-eq, T, eqb, eq-eqb, length, if_then_else_, range, concat}
-use Rattle.laws.proofs.All.{Whether, so, nay, eqb-is, Each, tot, one, each-map, each-always, each-filter}
-use Rattle.laws.proofs.All.{each-image, tot-le, tot-zero, tot-map, tot-union, each-union, each-range, range-once}
-use Rattle.laws.proofs.All.{tot-filter-le}
+use Rattle.laws.proofs.All.{le-refl, le-trans, le-of-eq, T, eqb, eq-eqb, length, if_then_else_, range, concat, so}
+use Rattle.laws.proofs.All.{nay, eqb-is, Each, one, each-map, each-always, each-filter, each-image, tot-le}
+use Rattle.laws.proofs.All.{tot-zero, tot-map, tot-union, each-union, each-range, range-once, tot-filter-le}
 use Rattle.graph.specs.Invariant.{count, Inside}
 use Rattle.graph.specs.Arcs.{Arc, wordFrom, wordsFrom, leadsOn, power, Reads}
 use Rattle.graph.specs.Splitting.{same}
 use Rattle.constraint.specs.Walking.{Constraint, none, walk, Target, Well}
 use Rattle.constraint.proofs.Walking.{walk-target}
 
-and-le : (a b c : Bool) → (if a && (b && c) then 1 else 0) ≤ (if b then 1 else 0)
-and-le true true true = le-refl 1
-and-le true true false = zero-le
-and-le true false c = zero-le
-and-le false true c = zero-le
-and-le false false c = zero-le
+and-le : (b c : Bool) → (if b && c then 1 else 0) ≤ (if b then 1 else 0)
+and-le true true = le-refl 1
+and-le true false = zero-le
+and-le false c = zero-le
 
 module _ (c : Constraint) (q : ℕ) where
   row-count : (e : Arc) (s : ℕ) → count e (wordsFrom c q s) ≤ one (eqb (e .source)) s
-  row-count e s = rw (tot-map (one (same e)) (wordFrom c q s) (range (2 ^ q))) (go (eqb-is (e .source) s))
-    where
-      go : Whether (e .source ≡ s) (eqb (e .source) s)
-          → tot (λ w. one (same e) (wordFrom c q s w)) (range (2 ^ q)) ≤ one (eqb (e .source)) s
-      go (so p u) =
-          rw u (le-trans (tot-le (λ w. if true && (eqb (e .word) w && eqb (e .target) (walk c q w s)) then 1 else 0)
-          (one (eqb (e .word))) (range (2 ^ q))
-          (each-always _ (λ w. and-le true (eqb (e .word) w) (eqb (e .target) (walk c q w s)))
-          (range (2 ^ q))))
-          (range-once (e .word) (2 ^ q)))
-      go (nay p u) = rw u (le-of-eq (tot-zero (range (2 ^ q))))
+  row-count e s = rw (tot-map (one (same e)) (wordFrom c q s) (range (2 ^ q))) (elim (eqb-is (e .source) s) [
+    | so p u ↦ rw u (le-trans (tot-le (λ w. if eqb (e .word) w && eqb (e .target) (walk c q w s) then 1 else 0)
+        (one (eqb (e .word))) (range (2 ^ q))
+        (each-always _ (λ w. and-le (eqb (e .word) w) (eqb (e .target) (walk c q w s))) (range (2 ^ q))))
+        (range-once (e .word) (2 ^ q)))
+    | nay p u ↦ rw u (le-of-eq (tot-zero (range (2 ^ q))))
+  ])
 
   pub power-distinct : (e : Arc) → count e (power c q) ≤ 1
   unfolding power

@@ -64,16 +64,12 @@ module _ (K : ℕ) (g : List Arc) (t : ℕ) where
       first-one s m q = subst (λ x. T (Q x)) (sym (eqb→eq t s (tab→ (eqb t) K s m .1))) q
 
       keep : (S : List Bool) → Sound Q S → Sound Q (withSources g S)
-      keep S h s m q = elim (or→ (member S s) (any (leadsInto S s) g)
-          (tab→ (reachesInto g S) (length S) s m .1)) [
-            | inl a ↦ h s a q
-            | inr a ↦ found (any-each (leadsInto S s) (Stays Q) g a c)
-          ]
-        where
-          found : (e : Arc) × T (leadsInto S s e) × Stays Q e → T (Q t)
-          found (e, u, stay) =
-              let (a, b) = and→ (eqb (e .source) s) (member S (e .target)) u in
-              h (e .target) b (stay (rw (eqb→eq (e .source) s a) q))
+      keep S h s m q = elim (or→ (member S s) (any (leadsInto S s) g) (tab→ (reachesInto g S) (length S) s m .1)) [
+        | inl a ↦ h s a q
+        | inr a ↦ let (e, u, stay) = any-each (leadsInto S s) (Stays Q) g a c in
+            let (a, b) = and→ (eqb (e .source) s) (member S (e .target)) u in
+            h (e .target) b (stay (rw (eqb→eq (e .source) s a) q))
+      ]
 
 -- what the rest of the theory uses
 pub record Reaching (K : ℕ) (g : List Arc) (reach : ℕ → ℕ → Bool) : Type 0 where

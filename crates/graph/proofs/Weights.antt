@@ -106,9 +106,8 @@ weights-cap n g cap K =
     (λ v h s. le-trans (lowered-below n g v s) (h s)) (K * cap) (replicate K cap) capped
   where
     capped : (s : ℕ) → getD (replicate K cap) s 0 ≤ cap
-    capped s = go (decLt s K)
-      where
-        go : Dec (s < K) → getD (replicate K cap) s 0 ≤ cap
-        go (yes h) = le-of-eq (getD-replicate K s cap 0 h)
-        go (no h) =
-            rw (List·getD-eq-default (replicate K cap) 0 {n = s} (rw (length-replicate K cap) (omega arith))) zero-le
+    capped s = elim (decLt s K) [
+      | yes h ↦ le-of-eq (getD-replicate K s cap 0 h)
+      | no h ↦ rw (List·getD-eq-default (replicate K cap) 0 {n = s} (rw (length-replicate K cap) (omega arith)))
+          zero-le
+    ]
