@@ -1,9 +1,9 @@
 -- The compiler's code passes the checker: its fields are in range, every recording obeys, its window works.
 -- In order: Made, made; made-formed; made-obeys; compiled-code; compile-parses; compiled-ready.
 -- Assumes nothing.
-use Rattle.laws.proofs.All.{_≡_, sym, ap, subst, _∙_, inl, inr, _&&_, [], ℕ, zero, _^_, _≤_, _<_, le-trans, arith}
-use Rattle.laws.proofs.All.{T, ltb, leb, eqb, lt→ltb, le→leb, eqb-refl, length, getD, sum, all, Each, →and, →orL}
-use Rattle.laws.proofs.All.{→orR, →all, each-at}
+use Rattle.laws.proofs.All.{_≡_, sym, ap, subst, _∙_, inl, inr, [], ℕ, zero, _^_, _≤_, _<_, le-trans, arith, T, ltb}
+use Rattle.laws.proofs.All.{leb, eqb, lt→ltb, le→leb, eqb-refl, length, getD, sum, all, Each, →and, →orL, →orR}
+use Rattle.laws.proofs.All.{→all, each-at}
 use Rattle.answer.specs.Outcomes.{done}
 use Rattle.constraint.specs.Walking.{Constraint, none, nowhere, walk, Target}
 use Rattle.table.specs.Rows.{edge, Rows, edges, at, Code}
@@ -110,24 +110,16 @@ made-formed j a m w =
     let h = head (code j t) in
     let first : startOf j < length (j .constraint) =
     rw (← (m .start)) (m .table .over 0 0 (m .table .some) (ways-pos j) .0) in
-    →and (inRange h) (all (goodNext (length (j .constraint))) (j .constraint)
-    && all (goodRow (j .p) (j .q) (length t)) t)
-    (→and (leb 1 (j .p) && leb (j .p) 4) _
-    (→and (leb 1 (j .p)) (leb (j .p) 4) (le→leb 1 (j .p) (a .p₁)) (le→leb (j .p) 4 (a .p₂)))
-    (→and (leb 1 (j .q) && leb (j .q) 8) _
-    (→and (leb 1 (j .q)) (leb (j .q) 8) (le→leb 1 (j .q) (a .q₁)) (le→leb (j .q) 8 (a .q₂)))
-    (→and (leb 1 (length t) && leb (length t) 128) _
-    (→and (leb 1 (length t)) (leb (length t) 128) (le→leb 1 (length t) (m .table .some))
-    (le→leb (length t) 128 (m .few)))
-    (→and (ltb (window t .memory) 16) _ (lt→ltb (window t .memory) 16 (omega arith))
-    (→and (ltb (window t .lookahead) 16) _ (lt→ltb (window t .lookahead) 16 (window-found t w .0))
-    (→and (leb 1 (length (j .constraint)) && leb (length (j .constraint)) 16)
-    (ltb (startOf j) (length (j .constraint)))
-    (→and (leb 1 (length (j .constraint))) (leb (length (j .constraint)) 16) (le→leb 1 (length (j .constraint)) (a .k₁))
-    (le→leb (length (j .constraint)) 16 (a .k₂)))
-    (lt→ltb (startOf j) (length (j .constraint)) first)))))))
-    (→and (all (goodNext (length (j .constraint))) (j .constraint)) (all (goodRow (j .p) (j .q) (length t)) t)
-    (good-nexts (j .constraint) (length (j .constraint)) (a .well)) (good-rows j m))
+    search (
+      →and,
+      le→leb,
+      first,
+      window-found t w .0,
+      le→leb 1 (length t) (m .table .some),
+      lt→ltb (window t .memory) 16 (omega arith),
+      good-nexts (j .constraint) (length (j .constraint)) (a .well),
+      good-rows j m,
+    ) depth 12
 
 -- ---- the code of a job
 -- what holds of the code that compiling gives

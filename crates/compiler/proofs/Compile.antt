@@ -2,11 +2,11 @@
 -- In order: Reason, reason; ways-pos; weighs-nothing, no-vector, vector-none; compile-none, no-code-exact;
 -- greatest-vector.
 -- Assumes nothing.
-use Rattle.laws.proofs.All.{_≡_, refl, subst, _∙_, _↔_, Bool, true, false, not, List, ℕ, _≤_, _<_, arith, decLt}
-use Rattle.laws.proofs.All.{ltb, leb, pow-pos, le-of-eq, length, getD, List·getD-eq-default, ltb-true, ltb-false}
-use Rattle.laws.proofs.All.{leb-true, leb-false, sum, tot-zero, tot-eq, each-always}
+use Rattle.laws.proofs.All.{le-ltb, lt-ltb, lt-leb, le-leb, _≡_, subst, _∙_, _↔_, List, ℕ, _≤_, _<_, arith, decLt}
+use Rattle.laws.proofs.All.{ltb, pow-pos, le-of-eq, length, getD, List·getD-eq-default, sum, tot-zero, tot-eq}
+use Rattle.laws.proofs.All.{each-always}
 use Rattle.answer.specs.declared.Refusal.the-variants.{NoCode, TooHeavy, TooManyEdges, NoWindow}
-use Rattle.answer.specs.Outcomes.{Outcome, done, refused, unless}
+use Rattle.answer.specs.Outcomes.{Outcome, done, refused}
 use Rattle.answer.proofs.Outcomes.{unless-false}
 use Rattle.table.specs.Rows.{Code}
 use Rattle.windows.specs.Search.{window}
@@ -32,28 +32,22 @@ pub data Reason (j : Job) : Outcome Code → Type 0 where
 pub reason : (j : Job) → Reason j (compile j)
 unfolding compile
 reason j =
-    go (ltb 0 (sum (componentOf j .weights))) refl (leb (sum (componentOf j .weights)) 128) refl
-    (ltb 2048 (length (finishedOf j .arcs))) refl (leb (window (tableFor j) .memory) 15) refl
-  where
-    w : ℕ
-    w = sum (componentOf j .weights)
-
-    e : ℕ
-    e = length (finishedOf j .arcs)
-
-    m : ℕ
-    m = window (tableFor j) .memory
-
-    go : (b₁ : Bool) → ltb 0 w ≡ b₁ → (b₂ : Bool) → leb w 128 ≡ b₂ → (b₃ : Bool) → ltb 2048 e ≡ b₃
-        → (b₄ : Bool) → leb m 15 ≡ b₄
-        → Reason j (unless NoCode b₁ (unless TooHeavy b₂ (unless TooManyEdges (not b₃)
-        (unless NoWindow b₄ (done (code j (tableFor j)))))))
-    go false e₁ b₂ e₂ b₃ e₃ b₄ e₄ = nothing (omega (arith, ltb-false 0 w e₁))
-    go true e₁ false e₂ b₃ e₃ b₄ e₄ = heavy (leb-false w 128 e₂)
-    go true e₁ true e₂ true e₃ b₄ e₄ = crowding (leb-true w 128 e₂) (ltb-true 2048 e e₃)
-    go true e₁ true e₂ false e₃ false e₄ = windowless (leb-true w 128 e₂) (ltb-false 2048 e e₃) (leb-false m 15 e₄)
-    go true e₁ true e₂ false e₃ true e₄ =
-        coded (ltb-true 0 w e₁) (leb-true w 128 e₂) (ltb-false 2048 e e₃) (leb-true m 15 e₄)
+    let w = sum (componentOf j .weights) in
+    let e = length (finishedOf j .arcs) in
+    let m = window (tableFor j) .memory in
+    elim (decLt 0 w) [
+      | no h ↦ rw (le-ltb 0 w (omega arith)) (nothing (omega arith))
+      | yes h ↦ rw (lt-ltb 0 w h) (elim (decLt 128 w) [
+        | yes k ↦ rw (lt-leb w 128 k) (heavy k)
+        | no k ↦ rw (le-leb w 128 (omega arith)) (elim (decLt 2048 e) [
+          | yes l ↦ rw (lt-ltb 2048 e l) (crowding (omega arith) l)
+          | no l ↦ rw (le-ltb 2048 e (omega arith)) (elim (decLt 15 m) [
+            | yes n ↦ rw (lt-leb m 15 n) (windowless (omega arith) (omega arith) n)
+            | no n ↦ rw (le-leb m 15 (omega arith)) (coded h (omega arith) (omega arith) (omega arith))
+          ])
+        ])
+      ])
+    ]
 
 pub ways-pos : (j : Job) → 0 < ways j
 ways-pos j = pow-pos (j .p)
