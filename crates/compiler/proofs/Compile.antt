@@ -1,5 +1,5 @@
 -- The outcomes of compiling, each with its reason; and "no code" is said exactly when there is none.
--- In order: Reason, reason; ways-pos; weighs-nothing, no-vector, vector-none; compile-none, no-code-exact;
+-- In order: Reason, reason; ways-pos, job-inv; weighs-nothing, no-vector, vector-none; compile-none, no-code-exact;
 -- greatest-vector.
 -- Assumes nothing.
 use Rattle.laws.proofs.All.{le-ltb, lt-ltb, lt-leb, le-leb, _≡_, subst, _∙_, _↔_, List, ℕ, _≤_, _<_, arith, decLt}

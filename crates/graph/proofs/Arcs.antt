@@ -1,5 +1,5 @@
 -- Edges: when two are the same, how often one occurs, sorting, and the sum over the edges that a list names.
--- In order: same→eq, same-refl, same-is, among→count, count→among, each-among, image-count, none-count, tot-sort,
+-- In order: arc-eq, same→eq, same-refl, same-is, among→count, count→among, each-among, image-count, none-count, tot-sort,
 -- length-sort, tot-same, pick.
 -- Assumes nothing.
 use Rattle.laws.proofs.All.{_≡_, refl, sym, ap₂, subst, _∙_, Bool, true, false, _&&_, _||_, List, [], _∷_, ℕ, _+_}

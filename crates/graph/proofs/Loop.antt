@@ -1,5 +1,6 @@
 -- All splits: they end with no state short of edges, or with too many edges, and never for want of rounds.
--- In order: splits-on, splits-off, states-le, splits-end, splitted-end, splitted-full.
+-- In order: splits-on, splits-off, short, splits-keep, splits-last-one, states-le, splits-end, splitted-end,
+-- splitted-full.
 -- Assumes nothing.
 use Rattle.laws.proofs.All.{_≡_, refl, sym, subst, Bool, true, false, not, ℕ, zero, suc, _+_, _≤_, _<_, le-trans}
 use Rattle.laws.proofs.All.{_∙_, ap, le-of-eq, arith, T, ltb, ltb-false, le-ltb, length, sum, and→, →and, →any-below}

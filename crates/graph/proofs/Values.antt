@@ -1,6 +1,6 @@
 -- A graph by value: that it fits its arrays, by its lists; more edges.
--- In order: Bounded, Low, fits-from, fits-arcs, fits-weights; withArc; Appended, appended-none, appended-count,
--- appended-more; climbs.
+-- In order: Bounded, Low, fits-from, fits-arcs, fits-weights; withArc; Appended, appended-none, arcs-count,
+-- appended-count, appended-more; climbs.
 -- Assumes nothing.
 use Rattle.laws.proofs.All.{_≡_, refl, sym, ap, ap₂, subst, _∙_, List, [], _∷_, map, _++_, append-assoc, append-nil}
 use Rattle.laws.proofs.All.{ℕ, zero, suc, _+_, _-_, _≤_, _<_, add-zero, arith, length, set, length-set}
