@@ -1,6 +1,6 @@
 -- Edges: when two are the same, how often one occurs, sorting, and the sum over the edges that a list names.
--- In order: arc-eq, same→eq, same-refl, same-is, among→count, count→among, each-among, image-count, none-count, tot-sort,
--- length-sort, tot-same, pick.
+-- In order: arc-eq, same→eq, same-refl, same-is, among→count, count→among, each-among, image-count, none-count,
+-- tot-sort, length-sort, tot-same, pick.
 -- Assumes nothing.
 use Rattle.laws.proofs.All.{_≡_, refl, sym, ap₂, subst, _∙_, Bool, true, false, _&&_, _||_, List, [], _∷_, ℕ, _+_}
 use Rattle.laws.proofs.All.{_*_, _≤_, _<_, zero-add, add-zero, zero-mul, arith, T, eqb, eqb→eq, eqb-refl, length}

@@ -12,8 +12,8 @@ use Rattle.table.specs.Value.{rowsIn, codeIn, Ready}
 use Rattle.windows.specs.Works.{works}
 use Rattle.windows.specs.Search.{window}
 use Rattle.windows.proofs.WindowLeast.{window-least, Chosen}
-use Rattle.search.specs.declared.Found.{Found}
-use Rattle.search.specs.Finding.{foundSize}
+use Rattle.finding.specs.declared.Found.{Found}
+use Rattle.finding.specs.Finding.{foundSize}
 use Rattle.windowing.specs.Windowed.{windowed, withSize, Whole}
 
 -- a window of memory up to 15 works and is small

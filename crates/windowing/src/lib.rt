@@ -2,15 +2,15 @@
 ghost use mathlib.Core.Path.{_≡_};
 ghost use Rattle.answer.specs.declared.Verdict.the-variants.{Good};
 ghost use Rattle.table.specs.Value.{codeIn, Ready};
-ghost use Rattle.search.specs.Finding.{foundSize};
+ghost use Rattle.finding.specs.Finding.{foundSize};
 ghost use Rattle.record.specs.Checks.{outcomeIn};
 ghost use Rattle.windowing.specs.Windowed.{windowed, withSize, Whole};
 use answer::Refusal;
 use answer::Verdict;
+use finding::Found;
+use finding::least_window;
 use record::TableAnswer;
 use record::declined;
-use search::Found;
-use search::least_window;
 use table::Table;
 
 // The memory of a window that was found, 16 for none.

@@ -1,7 +1,7 @@
 -- Memory past the last is not stepped to; where the pairs stay the same the search stops.
 use Rattle.laws.proofs.All.{refl, inl, inr, arith, needs}
-use Rattle.search.proofs.stop_at.Statement.{statement}
-use Rattle.search.proofs.stop_at.Tie as tie
+use Rattle.finding.proofs.stop_at.Statement.{statement}
+use Rattle.finding.proofs.stop_at.Tie as tie
 
 returns : tie.Need-returns
 returns c = (inl refl, ((λ l. absurd (omega (arith, c .if1 .taken))), (c .before .pre .1, c .before .pre .2)))

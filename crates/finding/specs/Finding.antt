@@ -4,8 +4,8 @@
 use Rattle.table.specs.Rows.{Size}
 use Rattle.windows.specs.Search.{noSize}
 use Rattle.windows.specs.Steps.{size}
-use Rattle.search.specs.declared.Found.{Found}
-use Rattle.search.specs.declared.Found.the-variants.{None, Window}
+use Rattle.finding.specs.declared.Found.{Found}
+use Rattle.finding.specs.declared.Found.the-variants.{None, Window}
 
 -- the size that the code's answer names, or the mark for none
 abbrev pub foundSize : Found → Size

@@ -11,8 +11,8 @@ use Rattle.working.proofs.SetsOf.{all-of}
 use Rattle.windows.proofs.PastSets.{pasts-none}
 use Rattle.windows.proofs.Leading.{lead-start, lead-small}
 use Rattle.windows.proofs.Turns.{turn}
-use Rattle.search.proofs.least.Statement.{statement}
-use Rattle.search.proofs.least.Tie as tie
+use Rattle.finding.proofs.least.Statement.{statement}
+use Rattle.finding.proofs.least.Tie as tie
 
 abbrev Inv-loop : tie.InvT-loop
 Inv-loop states n word next head link past₀ set₀ spare₀ best₀ stop₀ m₀ past set spare best stop m =

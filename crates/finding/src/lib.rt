@@ -7,7 +7,7 @@ ghost use Rattle.windows.specs.Search.{noSize, window, pasts};
 ghost use Rattle.table.specs.Edges.{borrowed, rowsOf, Linked};
 ghost use Rattle.pairs.specs.PairSets.{pairsIn, Long};
 ghost use Rattle.windows.specs.Steps.{size, withWord, Leading, Room};
-ghost use Rattle.search.specs.Finding.{foundSize};
+ghost use Rattle.finding.specs.Finding.{foundSize};
 use table::Table;
 use table::chains::chain;
 use table::chains::ways;

@@ -8,8 +8,8 @@ use Rattle.table.proofs.RowsOf.{length-rows, closed-rows}
 use Rattle.windows.specs.Steps.{size, Emptied}
 use Rattle.windows.proofs.Lookahead.{fails-sooner, works-there}
 use Rattle.windows.proofs.Leading.{lead-small, lead-take, lead-skip}
-use Rattle.search.proofs.try_memory.Statement.{statement}
-use Rattle.search.proofs.try_memory.Tie as tie
+use Rattle.finding.proofs.try_memory.Statement.{statement}
+use Rattle.finding.proofs.try_memory.Tie as tie
 
 abbrev table : tie.Start → Arrays
 table s = arrays (s .args .states) (s .args .n) (now (s .args .word)) (now (s .args .next))

@@ -6,8 +6,8 @@ use Rattle.table.specs.Edges.{arrays, rowsOf}
 use Rattle.table.proofs.RowsOf.{fits-lent}
 use Rattle.windows.specs.Steps.{size}
 use Rattle.windows.proofs.Leading.{none-found}
-use Rattle.search.proofs.least_window.Statement.{statement}
-use Rattle.search.proofs.least_window.Tie as tie
+use Rattle.finding.proofs.least_window.Statement.{statement}
+use Rattle.finding.proofs.least_window.Tie as tie
 
 -- what the search says of the table
 found : (c : tie.After-least)
