@@ -1,7 +1,7 @@
 -- The cases of `Refusal`, by where they stand in the code's list of them.
--- In order: tag; number-tag, number-most, most-fits, place-none; others.
+-- In order: tag; number-tag, number-most, place-none; others.
 -- Assumes nothing.
-use Rattle.laws.proofs.All.{_≡_, refl, sym, subst, List, _++_, ℕ, suc, _-_, _≤_, arith, from}
+use Rattle.laws.proofs.All.{_≡_, refl, sym, subst, List, _++_, ℕ, suc, _-_, _≤_, from}
 use denote.Enum.Declared.{tagOf}
 use borrow.Enum.Match.{tag-small}
 use Rattle.answer.specs.declared.Refusal.{Refusal}
@@ -36,10 +36,6 @@ number-tag r = case r .0
 
 pub number-most : (r : Refusal) → numberOf r ≤ most
 number-most r = subst (λ n. n ≤ most) (sym (number-tag r)) (tag-small the-type r)
-
--- a number is a byte
-pub most-fits : most ≤ 255
-most-fits = omega arith
 
 pub place-none : (r : Refusal) → (numberOf r ≡ 11 → ⊥) → placeOf r ≡ 0
 place-none r = case r .1

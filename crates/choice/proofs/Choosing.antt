@@ -3,9 +3,8 @@
 -- Assumes nothing.
 use Rattle.laws.proofs.All.{_≡_, refl, sym, ap, subst, _∙_, _⊎_, inl, inr, Bool, true, false, _&&_, List, [], _∷_}
 use Rattle.laws.proofs.All.{_++_, map, ℕ, _+_, _≤_, _<_, max, min, arith, ℕ-discrete, T, ltb, eqb, eqb→eq, eqb-refl}
-use Rattle.laws.proofs.All.{length, getD, if_then_else_, range, any, and→, →and, any→, →any, any-below→}
-use Rattle.laws.proofs.All.{T→true, bool-eq}
-use Rattle.laws.proofs.All.{map-range-at, any-filter, length-map-range, map-range-more, first-least}
+use Rattle.laws.proofs.All.{length, getD, if_then_else_, range, any, and→, →and, any→, →any, any-below→, T→true}
+use Rattle.laws.proofs.All.{bool-eq, map-range-at, any-filter, length-map-range, map-range-more, first-least}
 use Rattle.graph.specs.declared.Graph.{Graph}
 use Rattle.graph.specs.Arcs.{arc, leaves, out}
 use Rattle.graph.specs.Splitting.{greatest, lighter, splittable, chosen}

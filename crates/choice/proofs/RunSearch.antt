@@ -1,5 +1,5 @@
 -- The search for a run: sums of stretches, from the last place back.
--- In order: Summed, what holds after i places; summed-none, summed-more; run-found, run-none; first-found,
+-- In order: Summed, what holds after i places; summed-more; run-found, run-none; first-found,
 -- first-nowhere.
 -- Assumes nothing.
 use Rattle.laws.proofs.All.{_≡_, refl, sym, ap, _∙_, false, List, [], _∷_, map, ℕ, suc, _+_, _-_, _*_, _%_, _≤_}
@@ -21,9 +21,6 @@ pub record Summed (n : ℕ) (W : List ℕ) (j i s : ℕ) : Type 0 where
   pub whole : s ≡ sum (take i (drop (j + 1 - i) W))
   pub small : s ≤ 128 * i
   pub fails : (k : ℕ) → k < i → stretchSum W j k % n ≡ 0 → ⊥
-
-pub summed-none : (n : ℕ) (W : List ℕ) (j : ℕ) → Summed n W j 0 0
-summed-none n W j = record { whole = refl; small = omega arith; fails = λ k h e. absurd (omega arith) }
 
 -- the weights of a stretch of edges
 total-is : (v W : List ℕ) (es : List Arc) → map (weight v) es ≡ W → (j k : ℕ) → total v (stretch es j k)

@@ -1,12 +1,12 @@
 -- Edges: when two are the same, how often one occurs, sorting, and the sum over the edges that a list names.
--- In order: arc-eq, same→eq, same-refl, same-is, among→count, count→among, each-among, image-count, none-count,
+-- In order: arc-eq, same→eq, same-refl, same-is, among→count, each-among, image-count, none-count,
 -- tot-sort, length-sort, tot-same, pick.
 -- Assumes nothing.
 use Rattle.laws.proofs.All.{_≡_, refl, sym, ap₂, subst, _∙_, Bool, true, false, _&&_, _||_, List, [], _∷_, ℕ, _+_}
 use Rattle.laws.proofs.All.{_*_, _≤_, _<_, zero-add, add-zero, zero-mul, arith, T, eqb, eqb→eq, eqb-refl, length}
 use Rattle.laws.proofs.All.{if_then_else_, and→, →and, →orL, →orR, so, nay, Whether, T→true, Each, tot, mask, one}
-use Rattle.laws.proofs.All.{each-map, each-always, tot-eq, tot-add, tot-zero, any→count, count→any}
-use Rattle.laws.proofs.All.{tot-map, tot-le, map, le-refl, zero-le}
+use Rattle.laws.proofs.All.{each-map, each-always, tot-eq, tot-add, tot-zero, any→count, tot-map, tot-le, map}
+use Rattle.laws.proofs.All.{le-refl, zero-le}
 use Rattle.laws.proofs.Sorted as sorted
 use Rattle.graph.specs.Arcs.{Arc}
 use Rattle.graph.specs.Splitting.{earlier, sort, same, among}
@@ -39,9 +39,6 @@ same-is e f = go (same e f) refl
 
 pub among→count : (l : List Arc) (e : Arc) → T (among l e) → 0 < count e l
 among→count l e t = any→count (same e) l t
-
-pub count→among : (l : List Arc) (e : Arc) → 0 < count e l → T (among l e)
-count→among l e h = count→any (same e) l h
 
 -- each arc of a list is among it
 pub each-among : (l : List Arc) → Each (λ e. T (among l e)) l
