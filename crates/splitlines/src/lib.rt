@@ -12,7 +12,7 @@ use crate::choices::next_choice;
 use finish::finish_table::finish_table;
 use graph::Graph;
 use sentences::put_sentence;
-use splitting::split_graph::is_unfinished;
+use parting::is_unfinished;
 use splitting::split_graph::split;
 use splitting::split_graph::split_all;
 use text::put_word;

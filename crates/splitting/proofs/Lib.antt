@@ -1,5 +1,4 @@
-pub mod MovedSources
-pub mod Doubling
+pub mod Weighing
 pub mod SplitState
 pub mod OneSplit
 pub mod SplitLoop

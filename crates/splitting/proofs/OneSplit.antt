@@ -9,7 +9,8 @@ use Rattle.graph.specs.Arcs.{out}
 use Rattle.graph.specs.Weights.{total}
 use Rattle.graph.specs.Splitting.{greatest, lighter, splittable, chosen, kept, parted, split, crowded}
 use Rattle.graph.specs.Value.{arcAt, arcsIn, weightsIn, workIn}
-use Rattle.splitting.specs.SplitParts.{entering, PartedInto, SplitInto}
+use Rattle.parting.specs.Parts.{entering}
+use Rattle.splitting.specs.SplitParts.{PartedInto, SplitInto}
 use Rattle.graph.proofs.PartedBack.{parted-count}
 
 module _ (n : ℕ) (g : Graph) where

@@ -6,7 +6,7 @@ use Rattle.laws.proofs.All.{arith, T, length, if_then_else_, filter, Each, each
 use Rattle.laws.proofs.All.{each-image}
 use Rattle.graph.specs.Arcs.{Arc, arc, leaves, enters}
 use Rattle.graph.specs.Splitting.{among, moved, redirected, doubled}
-use Rattle.splitting.specs.SplitParts.{entering}
+use Rattle.parting.specs.Parts.{entering}
 use Rattle.graph.proofs.Values.{Bounded}
 
 -- ---- moving edges changes no target

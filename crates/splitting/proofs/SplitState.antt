@@ -17,7 +17,8 @@ use Rattle.graph.specs.Splitting.{sort, greatest, lighter, other, candidates, f
 use Rattle.graph.specs.Value.{arcsIn, weightAt, weightsIn, Fits}
 use Rattle.order.specs.EdgeKeys.{arcOf, keysIn, keyWeight}
 use Rattle.choice.specs.ChoiceParts.{FirstRun}
-use Rattle.splitting.specs.SplitParts.{keptArcs, Moved, entering, Doubled, Weighed, PartedInto}
+use Rattle.parting.specs.Parts.{Moved, entering, Doubled}
+use Rattle.splitting.specs.SplitParts.{keptArcs, Weighed, PartedInto}
 use Rattle.graph.proofs.Choice.{total-le}
 use Rattle.graph.proofs.Candidates.{each-sort, any-sort}
 use Rattle.graph.proofs.Values.{Bounded, Low, fits-arcs, fits-from, fits-weights}

@@ -1,45 +1,27 @@
 -- What the parts of a split answer.
--- In order: keptArcs; Moved, Doubled, Weighed, the steps of a split; entering, PartedInto, SplitInto, the answer of a
--- split; Splits, SplitAllInto, all splits.
+-- In order: keptArcs; Weighed, the last step of a split; PartedInto, SplitInto, the answer of a split; Splits,
+-- SplitAllInto, all splits.
 -- Assumes nothing.
 use mathlib.Core.Path.{_≡_}
 use mathlib.Core.Bool.{false}
-use mathlib.Core.List.{List, [], _∷_, _++_, map}
+use mathlib.Core.List.{List, [], _∷_, _++_}
 use Prim.Native.Nat.{ℕ, _+_, _-_, _/_, _≤_, _<_}
-use lib.ListN.{length, getD, take, drop, set}
-use Rattle.laws.specs.Lists.{sum, filter}
+use lib.ListN.{getD, set}
+use Rattle.laws.specs.Lists.{sum}
 use Rattle.graph.specs.declared.Graph.{Graph}
 use Rattle.order.specs.declared.keys.Keys.{Keys}
 use Rattle.choice.specs.declared.find_run.Run.{Run}
 use Rattle.graph.specs.declared.NextGraph.{NextGraph}
-use Rattle.graph.specs.Arcs.{Arc, enters}
-use Rattle.graph.specs.Weights.{weight, total}
-use Rattle.graph.specs.Splitting.{kept, moved, doubled, parted, split, splitAll, crowded}
+use Rattle.graph.specs.Arcs.{Arc}
+use Rattle.graph.specs.Weights.{total}
+use Rattle.graph.specs.Splitting.{kept, parted, split, splitAll, crowded}
 use Rattle.graph.specs.Invariant.{Inv}
 use Rattle.graph.specs.Value.{arcsIn, weightsIn, workIn, Fits}
-use Rattle.order.specs.EdgeKeys.{keysIn, arcOf}
+use Rattle.parting.specs.Parts.{keptFrom}
 
 -- the edges of s that a run of keys keeps
 abbrev pub keptArcs : ℕ → Keys → Run → List Arc
-keptArcs s l r = map (arcOf s) (take (r .count) (drop (r .from) (keysIn l)))
-
--- r is g, but "a new last state takes all other edges of s"
-pub record Moved (g : Graph) (s : ℕ) (keep : List Arc) (r : Graph) : Type 0 where
-  pub arcs : arcsIn r ≡ map (moved s (g .states) keep) (arcsIn g)
-  pub edges : r .edges ≡ g .edges
-  pub states : r .states ≡ g .states
-  pub weight : r .weight ≡ g .weight
-
--- how many edges lead into s
-abbrev pub entering : List Arc → ℕ → ℕ
-entering l s = length (filter (enters s) l)
-
--- r is g, but "every edge into s becomes two, to s and to the new state"
-pub record Doubled (g : Graph) (s : ℕ) (r : Graph) : Type 0 where
-  pub arcs : arcsIn r ≡ doubled s (g .states) (arcsIn g)
-  pub room : r .edges ≤ 2048
-  pub states : r .states ≡ g .states
-  pub weight : r .weight ≡ g .weight
+keptArcs s l r = keptFrom s l (r .from) (r .count)
 
 -- r is g, but s has weight w, "and a new last state" what is left of its weight
 pub record Weighed (g : Graph) (s w : ℕ) (r : Graph) : Type 0 where

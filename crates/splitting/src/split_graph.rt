@@ -1,18 +1,17 @@
 // "Splitting, while some state has fewer than n edges out."
-use crate::part_state::enter_count;
 use crate::part_state::part_state;
 use choice::choose::choose;
 use choice::choose::greatest_weight;
 use graph::Graph;
 use graph::NextGraph;
-ghost use mathlib.Core.Path.{_≡_};
-ghost use Prim.Native.Nat.{ℕ, _+_, _≤_, _<_};
+use parting::enter_count;
+use parting::is_unfinished;
+ghost use Prim.Native.Nat.{_+_, _≤_, _<_};
 ghost use lib.Dec.{T};
-ghost use lib.ListN.{length, getD};
+ghost use lib.ListN.{length};
 ghost use Rattle.laws.specs.Lists.{any, range};
-ghost use Rattle.graph.specs.Arcs.{out};
-ghost use Rattle.graph.specs.Splitting.{splittable, unfinished};
-ghost use Rattle.graph.specs.Value.{weightsIn, arcsIn, workIn, Fits};
+ghost use Rattle.graph.specs.Splitting.{splittable};
+ghost use Rattle.graph.specs.Value.{weightsIn, arcsIn, Fits};
 ghost use Rattle.splitting.specs.SplitParts.{SplitInto, Splits, SplitAllInto};
 
 // One split.
@@ -34,39 +33,6 @@ pub fn split(g: Graph, n: usize) -> NextGraph
         crowded: false,
         graph: h,
     }
-}
-
-// How many edges each state has.
-fn out_counts(g: Graph) -> [usize; 128]
-    requires { ⌜ Fits g ⌝ }
-    ensures answer { λ r. ⌜ ((s : ℕ) → s < g .states → getD r s 0 ≡ length (out (arcsIn g) s)) ⌝ }
-{
-    let mut r = [0usize; 128];
-    let n = g.edges;
-    let mut i = 0;
-    while i < n {
-        let s = g.source[i] as usize;
-        r[s] = r[s] + 1;
-        i += 1;
-    }
-    r
-}
-
-// "some state has fewer than n edges out".
-pub fn is_unfinished(g: Graph, n: usize) -> bool
-    requires { ⌜ Fits g ⌝ }
-    ensures answer { λ r. ⌜ r ≡ unfinished n (workIn g) ⌝ }
-{
-    let count = out_counts(g);
-    let k = g.states;
-    let mut s = 0;
-    while s < k {
-        if count[s] < n {
-            return true;
-        }
-        s += 1;
-    }
-    false
 }
 
 // All splits.

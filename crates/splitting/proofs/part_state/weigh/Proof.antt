@@ -1,6 +1,6 @@
 -- Two stores: the weight of s, and that of the new state.
-use Rattle.laws.proofs.All.{_≡_, length, arith, needs, needs}
-use Rattle.splitting.proofs.Doubling.{weigh-is}
+use Rattle.laws.proofs.All.{_≡_, length, arith, needs}
+use Rattle.splitting.proofs.Weighing.{weigh-is}
 use Rattle.splitting.proofs.part_state.weigh.Statement.{statement}
 use Rattle.splitting.proofs.part_state.weigh.Tie as tie
 

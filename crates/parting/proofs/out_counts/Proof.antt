@@ -1,8 +1,8 @@
 -- Each edge counts at its source.
 use Rattle.laws.proofs.All.{_≡_, refl, ap, _∙_, _-_, _≤_, _<_, arith, length, getD, needs}
-use Rattle.splitting.proofs.SplitLoop.{Counted, counted-none, counted-more, left}
-use Rattle.splitting.proofs.split_graph.out_counts.Statement.{statement}
-use Rattle.splitting.proofs.split_graph.out_counts.Tie as tie
+use Rattle.parting.proofs.Counts.{Counted, counted-none, counted-more, left}
+use Rattle.parting.proofs.out_counts.Statement.{statement}
+use Rattle.parting.proofs.out_counts.Tie as tie
 
 abbrev Inv-loop : tie.InvT-loop
 Inv-loop g r₀ n i₀ r i = (i ≤ n) × (n ≡ g .edges) × (n ≤ 2048) × Counted g i r

@@ -1,8 +1,8 @@
 -- The states are tried one by one.
 use Rattle.laws.proofs.All.{sym, ℕ, _-_, _≤_, _<_, arith, below-more, getD, needs}
-use Rattle.splitting.proofs.SplitLoop.{unfinished-yes, unfinished-no}
-use Rattle.splitting.proofs.split_graph.is_unfinished.Statement.{statement}
-use Rattle.splitting.proofs.split_graph.is_unfinished.Tie as tie
+use Rattle.parting.proofs.Counts.{unfinished-yes, unfinished-no}
+use Rattle.parting.proofs.is_unfinished.Statement.{statement}
+use Rattle.parting.proofs.is_unfinished.Tie as tie
 
 abbrev Inv-loop : tie.InvT-loop
 Inv-loop n count k s₀ s = (s ≤ k) × (k ≤ 128) × ((j : ℕ) → j < s → n ≤ getD count j 0)

@@ -1,8 +1,8 @@
 -- The edges into s are counted.
 use Rattle.laws.proofs.All.{_≡_, refl, ap, _∙_, ⊎-elim, _-_, _≤_, arith, length, needs}
-use Rattle.splitting.proofs.Doubling.{entered, entered-no, count-yes}
-use Rattle.splitting.proofs.part_state.enter_count.Statement.{statement}
-use Rattle.splitting.proofs.part_state.enter_count.Tie as tie
+use Rattle.parting.proofs.Doubling.{entered, count-taken, count-left}
+use Rattle.parting.proofs.enter_count.Statement.{statement}
+use Rattle.parting.proofs.enter_count.Tie as tie
 
 abbrev Inv-loop : tie.InvT-loop
 Inv-loop s g n count₀ i₀ count i =
@@ -15,23 +15,11 @@ loop-again : tie.Need-loop-again Inv-loop μ-loop
 loop-again c =
     let l = c .before .before .before .loop in
     let p = c .before .before .before .before .args in
-    ⊎-elim (λ w. (
-      omega arith,
-      refl,
-      omega arith,
-      omega (arith, w .1),
-      omega
-          (arith, w .1, count-yes (p .t1) (p .s) (l .i) (w .0 .taken)),
-    ))
-    (λ w. (
-      omega arith,
-      refl,
-      omega arith,
-      omega (arith, w .1),
-      omega
-          (arith, w .1, ap length (entered-no (p .t1) (p .s) (l .i) (w .0 .left))),
-    ))
-    (c .if1 .came)
+    let go = ⊎-elim
+    (λ w. count-taken (p .t1) (p .s) (l .i) (l .count) (c .if1 .count) (l .inv .3) (l .inv .4) (w .1) (w .0 .taken))
+    (λ w. count-left (p .t1) (p .s) (l .i) (l .count) (c .if1 .count) (l .inv .3) (l .inv .4) (w .1) (w .0 .left))
+    (c .if1 .came) in
+    (omega arith, refl, l .inv .2, go .0, go .1)
 
 returns : tie.Need-returns Inv-loop μ-loop
 returns c =

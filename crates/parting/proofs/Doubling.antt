@@ -1,17 +1,16 @@
--- Doubling the edges into a state, and the new weights.
--- In order: entered, entered-yes, entered-no, count-yes, entered-all; Grown, grown-room, grown-yes, grown-no,
--- grown-end; withWeights, weigh-is.
+-- Doubling the edges into a state.
+-- In order: entered, entered-yes, entered-no, count-yes, count-taken, count-left,
+-- entered-all; Grown, grown-room, grown-yes, grown-no,
+-- turn-yes, turn-no, grown-end.
 -- Assumes nothing.
-use Rattle.laws.proofs.All.{_≡_, refl, sym, ap, ap₂, subst, _∙_, List, [], _∷_, _++_, map, append-nil, ℕ, _+_, _-_}
-use Rattle.laws.proofs.All.{_≤_, _<_, arith, ℕ-discrete, eq-eqb, ne-eqb, length, getD, set, length-set}
-use Rattle.laws.proofs.All.{length-append, length-map, getD-set-same, getD-set-other, ext-getD, if_then_else_}
-use Rattle.laws.proofs.All.{range, filter, map-range-at, map-append, filter-append, map-range-more}
-use Rattle.laws.proofs.All.{length-map-range}
+use Rattle.laws.proofs.All.{_≡_, sym, ap, subst, _∙_, List, [], _∷_, _++_, map, append-nil, ℕ, _+_, _≤_, _<_, arith}
+use Rattle.laws.proofs.All.{eq-eqb, ne-eqb, length, getD, length-append, length-map, if_then_else_, range, filter}
+use Rattle.laws.proofs.All.{map-append, filter-append, map-range-more}
 use Rattle.graph.specs.declared.Graph.{Graph}
 use Rattle.graph.specs.Arcs.{Arc, enters}
 use Rattle.graph.specs.Splitting.{redirected}
-use Rattle.graph.specs.Value.{arcAt, arcsIn, weightAt, weightsIn}
-use Rattle.splitting.specs.SplitParts.{entering, Doubled, Weighed}
+use Rattle.graph.specs.Value.{arcAt, arcsIn}
+use Rattle.parting.specs.Parts.{entering, Doubled}
 use Rattle.graph.proofs.Values.{withArc, Appended, appended-count, appended-more, climbs}
 
 -- ---- counting and doubling
@@ -36,6 +35,15 @@ module _ (g : Graph) (s : ℕ) where
 
   pub count-yes : (i : ℕ) → getD (g .target) i 0 ≡ s → length (entered (i + 1)) ≡ length (entered i) + 1
   count-yes i q = ap length (entered-yes i q) ∙ length-append (entered i) (arcAt g i ∷ [])
+
+  -- one turn of the loop that counts
+  pub count-taken : (i k k' : ℕ) → k ≤ i → k ≡ length (entered i) → k' ≡ k + 1 → getD (g .target) i 0 ≡ s
+      → (k' ≤ i + 1) × (k' ≡ length (entered (i + 1)))
+  count-taken i k k' l e f q = (omega arith, f ∙ ap (λ k. k + 1) e ∙ sym (count-yes i q))
+
+  pub count-left : (i k k' : ℕ) → k ≤ i → k ≡ length (entered i) → k' ≡ k → (getD (g .target) i 0 ≡ s → ⊥)
+      → (k' ≤ i + 1) × (k' ≡ length (entered (i + 1)))
+  count-left i k k' l e f q = (omega arith, f ∙ e ∙ sym (ap length (entered-no i q)))
 
   entered-all : (i n : ℕ) → i ≤ n → length (entered i) ≤ length (entered n)
   entered-all = climbs (λ i. length (entered i)) (λ i. omega (
@@ -73,6 +81,15 @@ module _ (g : Graph) (s : ℕ) (h : Graph) (m i : ℕ) (c : Grown g s h m i) whe
   pub grown-no : (getD (g .target) i 0 ≡ s → ⊥) → Grown g s h m (i + 1)
   grown-no q = subst (λ L. Appended g h m (map (redirected (g .states)) L)) (sym (entered-no g s i q)) c
 
+  -- one turn of the loop, and what it leaves
+  pub turn-yes : (h' : Graph) (m' : ℕ) → h' ≡ withArc h m (getD (g .source) i 0) (getD (g .word) i 0) (g .states)
+      → m' ≡ m + 1 → m < 2048 → getD (g .target) i 0 ≡ s → (m' ≤ 2048) × Grown g s h' m' (i + 1)
+  turn-yes h' m' e f l q = (omega arith, rw (e, f) (grown-yes l q))
+
+  pub turn-no : (h' : Graph) (m' : ℕ) → h' ≡ h → m' ≡ m → m ≤ 2048 → (getD (g .target) i 0 ≡ s → ⊥)
+      → (m' ≤ 2048) × Grown g s h' m' (i + 1)
+  turn-no h' m' e f l q = (omega arith, rw (e, f) (grown-no q))
+
 pub grown-end : (g : Graph) (s : ℕ) (h : Graph) (m : ℕ) → m ≤ 2048 → Grown g s h m (g .edges)
     → Doubled g s (record {
       states = h .states;
@@ -83,49 +100,3 @@ pub grown-end : (g : Graph) (s : ℕ) (h : Graph) (m : ℕ) → m ≤ 2048 → G
       target = h .target;
     })
 grown-end g s h m l c = record { arcs = c .arcs; room = l; states = c .states; weight = c .weight }
-
--- ---- the new weights
--- g with weight w at s, x at a new last state
-abbrev pub withWeights : Graph → ℕ → ℕ → ℕ → Graph
-withWeights g s w x = record {
-  states = g .states + 1;
-  edges = g .edges;
-  weight = set (set (g .weight) s w) (g .states) x;
-  source = g .source;
-  word = g .word;
-  target = g .target;
-}
-
-pub weigh-is : (g : Graph) (s w : ℕ) → length (g .weight) ≡ 128 → s < g .states → g .states < 128
-    → Weighed g s w (withWeights g s w (getD (g .weight) s 0 - w))
-weigh-is g s w l h b = record {
-  weights =
-      map-range-more (weightAt r) (g .states)
-      ∙ ap₂ (λ a x. a ++ (x ∷ []))
-      (ext-getD 0 (map (weightAt r) (range (g .states))) (set (weightsIn g) s w)
-      (length-map-range (weightAt r) (g .states) ∙ sym (length-set (weightsIn g) s w ∙ K))
-      (λ i k. let m : i < g .states = rw (length-map-range (weightAt r) (g .states)) at k in
-      map-range-at (weightAt r) (g .states) i 0 m
-      ∙ getD-set-other (set (g .weight) s w) (g .states) i x 0 (λ q. omega arith) ∙ at i m (ℕ-discrete i s)))
-      (getD-set-same (set (g .weight) s w) (g .states) x 0 (rw (length-set (g .weight) s w) (omega arith))
-      ∙ ap (λ y. y - w) (sym (map-range-at (weightAt g) (g .states) s 0 h)));
-  arcs = refl;
-  edges = refl;
-  states = refl;
-}
-  where
-    x : ℕ
-    x = getD (g .weight) s 0 - w
-
-    r : Graph
-    r = withWeights g s w x
-
-    K : length (weightsIn g) ≡ g .states
-    K = length-map-range (weightAt g) (g .states)
-
-    at : (i : ℕ) → i < g .states → Dec (i ≡ s) → getD (set (g .weight) s w) i 0 ≡ getD (set (weightsIn g) s w) i 0
-    at i m (yes q) =
-        rw q (getD-set-same (g .weight) s w 0 (omega arith) ∙ sym (getD-set-same (weightsIn g) s w 0 (rw K h)))
-    at i m (no q) =
-        getD-set-other (g .weight) s i w 0 q
-        ∙ sym (getD-set-other (weightsIn g) s i w 0 q ∙ map-range-at (weightAt g) (g .states) i 0 m)

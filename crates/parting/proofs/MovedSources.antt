@@ -1,15 +1,17 @@
 -- Moving the edges of a state that the run does not keep.
--- In order: Resourced, sources as f says below i; withSource; resource-none, resource-put,
--- resource-stay; newSource, new-off, new-kept, new-moved; resource-end.
+-- In order: Resourced, sources as f says below i; withSource; resource-none, resource-put; newSource,
+-- resource-end; source-other, source-kept, source-moved, new-source; resource-next.
 -- Assumes nothing.
 use Rattle.laws.proofs.All.{_≡_, refl, sym, ap, ap₂, _∙_, Bool, true, false, not, _&&_, List, map, ℕ, _+_, _≤_, _<_}
-use Rattle.laws.proofs.All.{arith, below-more, eq-eqb, ne-eqb, length, getD, set, length-set, getD-set-same}
-use Rattle.laws.proofs.All.{getD-set-other, if_then_else_, range, map-map, map-range-same}
+use Rattle.laws.proofs.All.{arith, below-more, ne-eqb, length, getD, set, length-set, getD-set-same, getD-set-other}
+use Rattle.laws.proofs.All.{if_then_else_, range, map-map, map-range-same, ℕ-discrete, elem, eqb, eq-eqb}
 use Rattle.graph.specs.declared.Graph.{Graph}
 use Rattle.graph.specs.Arcs.{Arc, arc, leaves}
 use Rattle.graph.specs.Splitting.{among, moved}
-use Rattle.graph.specs.Value.{arcAt}
-use Rattle.splitting.specs.SplitParts.{Moved}
+use Rattle.graph.specs.Value.{arcAt, Fits}
+use Rattle.order.specs.EdgeKeys.{keyOf, arcOf}
+use Rattle.order.proofs.KeptKeys.{among-kept}
+use Rattle.parting.specs.Parts.{sourceAfter, Moved}
 
 -- ---- moving
 -- h is g, but its sources below i are as f says
@@ -61,43 +63,10 @@ module _ (g : Graph) (f : ℕ → ℕ) (i : ℕ) (h : Graph) (c : Resourced g f 
     left = λ k b. getD-set-other (h .source) i k x 0 (λ q. omega arith) ∙ c .left k (omega arith);
   }
 
-  pub resource-stay : getD (g .source) i 0 ≡ f i → Resourced g f (i + 1) h
-  resource-stay e = record {
-    states = c .states;
-    edges = c .edges;
-    weight = c .weight;
-    word = c .word;
-    target = c .target;
-    long = c .long;
-    done = below-more (λ k. getD (h .source) k 0 ≡ f k) i (c .done) (c .left i (omega arith) ∙ e);
-    left = λ k b. c .left k (omega arith);
-  }
-
 module _ (g : Graph) (s : ℕ) (keep : List Arc) where
   -- the source of edge k after the move
   abbrev pub newSource : ℕ → ℕ
   newSource k = moved s (g .states) keep (arcAt g k) .source
-
-  pub new-off : (k : ℕ) → (getD (g .source) k 0 ≡ s → ⊥) → getD (g .source) k 0 ≡ newSource k
-  new-off k q =
-      sym (ap (λ b. (if b && not (among keep (arcAt g k)) then arc (g .states) (arcAt g k .word) (arcAt g k .target)
-      else arcAt g k) .source) (ne-eqb (getD (g .source) k 0) s q))
-
-  pub new-kept : (k : ℕ) → among keep (arcAt g k) ≡ true → getD (g .source) k 0 ≡ newSource k
-  new-kept k e = go (leaves s (arcAt g k)) (among keep (arcAt g k)) e
-    where
-      go : (a b : Bool) → b ≡ true
-          → getD (g .source) k 0 ≡ (if a && not b then arc (g .states) (arcAt g k .word)
-          (arcAt g k .target) else arcAt g k) .source
-      go true true q = refl
-      go false b q = refl
-      go true false q = absurd (let z : _≡_ {A = ℕ} 0 1 = cc in omega arith)
-
-  pub new-moved : (k : ℕ) → getD (g .source) k 0 ≡ s → among keep (arcAt g k) ≡ false → g .states ≡ newSource k
-  new-moved k q e =
-      sym (ap₂ (λ a b. (if a && not b then arc (g .states) (arcAt g k .word) (arcAt g k .target) else arcAt g k)
-      .source)
-      (eq-eqb (getD (g .source) k 0) s q) e)
 
   pub resource-end : (h : Graph) → Resourced g newSource (g .edges) h → Moved g s keep h
   resource-end h c = record {
@@ -120,3 +89,44 @@ module _ (g : Graph) (s : ℕ) (keep : List Arc) where
           ≡ (if b then arc (g .states) (arcAt g k .word) (arcAt g k .target) else arcAt g k)
       same k true = refl
       same k false = refl
+
+-- the answers of the code's tests
+module _ (s new : ℕ) (K : List ℕ) (x k : ℕ) where
+  pub source-other : (x ≡ s → ⊥) → x ≡ sourceAfter s new K x k
+  source-other q = sym (ap (λ b. if b && not (elem k K) then new else x) (ne-eqb x s q))
+
+  pub source-kept : x ≡ s → elem k K ≡ true → x ≡ sourceAfter s new K x k
+  source-kept q e = sym (ap₂ (λ a b. if a && not b then new else x) (eq-eqb x s q) e)
+
+  pub source-moved : x ≡ s → elem k K ≡ false → new ≡ sourceAfter s new K x k
+  source-moved q e = sym (ap₂ (λ a b. if a && not b then new else x) (eq-eqb x s q) e)
+
+-- the source as the code finds it, by keys
+pub new-source : (g : Graph) (s : ℕ) (K : List ℕ) (k : ℕ) → Fits g → k < g .edges
+    → sourceAfter s (g .states) K (getD (g .source) k 0) (keyOf (arcAt g k)) ≡ newSource g s (map (arcOf s) K) k
+new-source g s K k f h = go (ℕ-discrete (getD (g .source) k 0) s)
+  where
+    x : ℕ
+    x = getD (g .source) k 0
+
+    pick : (b : Bool) → (if b then g .states else x)
+        ≡ (if b then arc (g .states) (arcAt g k .word) (arcAt g k .target) else arcAt g k) .source
+    pick true = refl
+    pick false = refl
+
+    go : Dec (x ≡ s) → sourceAfter s (g .states) K x (keyOf (arcAt g k)) ≡ newSource g s (map (arcOf s) K) k
+    go (yes q) =
+        ap (λ b. if eqb x s && not b then g .states else x) (among-kept g s k K f h q)
+        ∙ pick (eqb x s && not (among (map (arcOf s) K) (arcAt g k)))
+    go (no q) =
+        ap (λ b. if b && not (elem (keyOf (arcAt g k)) K) then g .states else x) (ne-eqb x s q)
+        ∙ sym (sym (pick (eqb x s && not (among (map (arcOf s) K) (arcAt g k))))
+        ∙ ap (λ b. if b && not (among (map (arcOf s) K) (arcAt g k)) then g .states else x) (ne-eqb x s q))
+
+-- one turn of the loop
+pub resource-next : (g : Graph) (s : ℕ) (K : List ℕ) (i : ℕ) (h : Graph) → Fits g → i < g .edges
+    → Resourced g (newSource g s (map (arcOf s) K)) i h → (x : ℕ)
+    → x ≡ sourceAfter s (g .states) K (getD (g .source) i 0) (keyOf (arcAt g i))
+    → Resourced g (newSource g s (map (arcOf s) K)) (i + 1) (withSource h i x)
+resource-next g s K i h f l c x e =
+    resource-put g (newSource g s (map (arcOf s) K)) i h c x (omega (arith, f .room)) (e ∙ new-source g s K i f l)

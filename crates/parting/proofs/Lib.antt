@@ -1,0 +1,3 @@
+pub mod MovedSources
+pub mod Doubling
+pub mod Counts
