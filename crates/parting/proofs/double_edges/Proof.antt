@@ -25,7 +25,8 @@ room-on : (c : tie.At-loop Inv-loop μ-loop)
     → c .loop .m < 2048
 room-on c h q =
     let l = c .loop in
-    omega (arith, grown-room (c .before .args .t1) (c .before .args .s) (l .h) (l .m) (l .i) (l .inv .4) h q, c .before .pre .0)
+    let g = grown-room (c .before .args .t1) (c .before .args .s) (l .h) (l .m) (l .i) (l .inv .4) h q in
+    omega (arith, g, c .before .pre .0)
 
 element-write-h : tie.Need-element-write-h Inv-loop μ-loop
 element-write-h c = room-on (c .before .before .before .before) (omega arith) (c .before .if1 .taken)
