@@ -1,6 +1,7 @@
 -- Compiling stage by stage: what each stage of the code needs, and what compiling comes to at each of its returns.
 -- In order: compile-heavy, compile-crowded, compile-table; crowded-stays; weighed-bad, weighed-good; has-states,
--- held-powers, held-component; begun-splits, begun-crowded, begun-room, begun-short, begun-work, begun-finished.
+-- held-powers, held-tabled, held-weights, held-component; begun-splits, begun-crowded, begun-room, begun-short,
+-- begun-work, begun-finished.
 -- Assumes nothing.
 use Rattle.laws.proofs.All.{_≡_, sym, ap, ap₂, subst, _∙_, Bool, true, false, not, _&&_, List, ℕ, zero, suc, _+_}
 use Rattle.laws.proofs.All.{_*_, _^_, _≤_, _<_, arith, lt-ltb, le-leb, lt-leb, ltb-false, leb, length, getD}
@@ -148,17 +149,19 @@ module _ (j : JobValue) (r : JobReady j) where
       pub held-tabled : tabled P words (j .constraint .states) ≡ graphOf (jobIn j)
       held-tabled = ap₂ (λ X w. tabled X w (j .constraint .states)) e f ∙ job-tabled
 
-      -- THEOREM: the component that the code finds is the job's
-      pub held-component : (n : ℕ) (v : List ℕ) (x : ComponentAnswer) → n ≡ ways (jobIn j)
-          → v ≡ weights n (j .cap) (j .constraint .states) (tabled P words (j .constraint .states))
-          → FoundIn v (tabled P words (j .constraint .states)) x → FoundIn (weightsOf (jobIn j)) (graphOf (jobIn j)) x
-      held-component n v x p q h =
-          let g = tabled P words (j .constraint .states) in
-          let K = length-constraintOf (j .constraint) in
-          let w : v ≡ weightsOf (jobIn j) =
-          q ∙ ap₂ (λ m k. weights m (j .cap) k g) p (sym K)
-          ∙ ap (weights (ways (jobIn j)) (j .cap) (length (jobIn j .constraint))) held-tabled in
-          subst (λ y. FoundIn y (graphOf (jobIn j)) x) w (subst (λ y. FoundIn v y x) held-tabled h)
+      module _ (n : ℕ) (v : List ℕ) (p : n ≡ ways (jobIn j))
+          (q : v ≡ weights n (j .cap) (j .constraint .states) (tabled P words (j .constraint .states))) where
+        pub held-weights : v ≡ weightsOf (jobIn j)
+        held-weights =
+            q ∙ ap₂ (λ m k. weights m (j .cap) k (tabled P words (j .constraint .states))) p
+            (sym (length-constraintOf (j .constraint)))
+            ∙ ap (weights (ways (jobIn j)) (j .cap) (length (jobIn j .constraint))) held-tabled
+
+        -- THEOREM: the component that the code finds is the job's
+        pub held-component : (x : ComponentAnswer) → FoundIn v (tabled P words (j .constraint .states)) x
+            → FoundIn (weightsOf (jobIn j)) (graphOf (jobIn j)) x
+        held-component x h =
+            subst (λ y. FoundIn y (graphOf (jobIn j)) x) held-weights (subst (λ y. FoundIn v y x) held-tabled h)
 
 -- ---- the component, split to the end
 module _ (j : Job) (a : Allowed j) (n : ℕ) (g : Graph) (start : ℕ) (b : Begun j n g start) where

@@ -12,6 +12,8 @@ use Rattle.graph.specs.Value.{weightAt, weightsIn, arcsIn, workIn}
 use Rattle.order.specs.EdgeKeys.{keysIn, keyWeight}
 use Rattle.choice.specs.ChoiceParts.{FirstRun}
 use Rattle.splitting.proofs.SplitState.{Keyed, inside-run, kept-is, kept-total, share-le}
+use Rattle.text.specs.Texts.{Added}
+use Rattle.text.proofs.Adding.{added-same}
 use Rattle.splitlines.specs.declared.choices.Choice.{Choice}
 use Rattle.splitlines.specs.SplitText.{partLine, splitLine}
 use Rattle.splitlines.specs.ChoiceParts.{runArcs, ChosenIn}
@@ -44,14 +46,16 @@ module _ {n : ℕ} {g : Graph} {s M : ℕ} {list : Keys} (k : Keyed n g s M list
   }
 
 -- THEOREM: so its line is that of the split
-pub chosen-line : (q n : ℕ) (x : Work) (c : Choice) → ChosenIn n x c
-    → partLine q (c .state) (c .weight) (runArcs (c .state) (c .keys) (c .from) (c .count)) (c .share) (c .fresh)
-    ≡ splitLine q n x
+pub chosen-line : (q : ℕ) {n : ℕ} {x : Work} {c : Choice} → ChosenIn n x c → {at r : ℕ} {B C : List ℕ}
+    → Added (partLine q (c .state) (c .weight) (runArcs (c .state) (c .keys) (c .from) (c .count)) (c .share)
+    (c .fresh)) at B C r
+    → Added (splitLine q n x) at B C r
 unfolding splitLine
-chosen-line q n x c i =
+chosen-line q {n} {x} {c} i =
     let line : ℕ → ℕ → List ℕ = λ s f. partLine q s (getD (x .weights) s 0) (kept n (x .weights) (x .arcs) s)
     (total (x .weights) (kept n (x .weights) (x .arcs) s) / n) f in
-    ap₂ (λ M K. partLine q (c .state) M K (c .share) (c .fresh)) (i .weight) (i .edges)
+    added-same
+    (ap₂ (λ M K. partLine q (c .state) M K (c .share) (c .fresh)) (i .weight) (i .edges)
     ∙ ap (λ w. partLine q (c .state) (getD (x .weights) (c .state) 0) (kept n (x .weights) (x .arcs) (c .state)) w
     (c .fresh)) (i .share)
-    ∙ ap₂ line (i .state) (i .fresh)
+    ∙ ap₂ line (i .state) (i .fresh))

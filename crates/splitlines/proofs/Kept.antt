@@ -1,13 +1,15 @@
 -- The edges of a run of keys.
--- In order: kept-run, the run in the list; keysText, kept-text, one behind the other.
+-- In order: kept-run, the run in the list; keysText, keys-more, kept-told, one behind the other.
 -- Assumes nothing.
 use Rattle.laws.proofs.All.{_≡_, sym, ap, _∙_, List, map, ℕ, _+_, _-_, _≤_, arith, length, getD, take, drop}
 use Rattle.laws.proofs.All.{length-drop, length-take-le, getD-take, getD-drop, take-take, range, concat, drop-take}
-use Rattle.laws.proofs.All.{is-map, map-map}
+use Rattle.laws.proofs.All.{is-map, map-map, concat-more}
 use Rattle.order.specs.declared.keys.Keys.{Keys}
 use Rattle.choice.specs.declared.find_run.Run.{Run}
 use Rattle.order.specs.EdgeKeys.{arcOf}
 use Rattle.splitting.specs.SplitParts.{keptArcs}
+use Rattle.text.specs.Texts.{Added}
+use Rattle.text.proofs.Adding.{added-same, _then_}
 use Rattle.splitlines.specs.SplitText.{arcText}
 use Rattle.splitlines.specs.ChoiceParts.{keyText, runArcs}
 
@@ -25,14 +27,20 @@ kept-run s list run h =
 abbrev pub keysText : ℕ → List ℕ → ℕ → ℕ → List ℕ
 keysText q l o i = concat (map (λ j. keyText q (getD l (o + j) 0)) (range i))
 
+pub keys-more : (q : ℕ) (l : List ℕ) (o i : ℕ) {at m r : ℕ} {B C D : List ℕ} → Added (keysText q l o i) at B C m
+    → Added (keyText q (getD l (o + i) 0)) m C D r → Added (keysText q l o (i + 1)) at B D r
+keys-more q l o i a b = added-same (sym (concat-more (λ j. keyText q (getD l (o + j) 0)) i)) (a then b)
+
 -- THEOREM: they are those of the run
-pub kept-text : (q s : ℕ) (l : List ℕ) (o c : ℕ) → o + c ≤ length l
-    → keysText q l o c ≡ concat (map (arcText q) (runArcs s l o c))
-kept-text q s l o c h =
+pub kept-told : (q s : ℕ) (l : List ℕ) (o c i : ℕ) → o + c ≤ 16 → length l ≡ 16 → i ≤ c → c ≤ i
+    → {at r : ℕ} {B C : List ℕ} → Added (keysText q l o i) at B C r
+    → Added (concat (map (arcText q) (runArcs s l o c))) at B C r
+kept-told q s l o c i h long a b =
+    let e : i ≡ c = omega arith in
     let rest = length-drop o l in
     let keys : take c (drop o l) ≡ map (λ j. getD l (o + j) 0) (range c) =
     is-map 0 (λ j. getD l (o + j) 0) c (take c (drop o l)) (length-take-le c (drop o l) (omega arith))
     (λ j b. getD-take c (drop o l) j 0 b ∙ getD-drop o l j 0) in
-    sym (ap (λ k. concat (map (arcText q) (map (arcOf s) k))) keys
+    added-same (ap (keysText q l o) e ∙ sym (ap (λ k. concat (map (arcText q) (map (arcOf s) k))) keys
     ∙ ap (λ k. concat (map (arcText q) k)) (map-map (arcOf s) _ (range c))
-    ∙ ap concat (map-map (arcText q) _ (range c)))
+    ∙ ap concat (map-map (arcText q) _ (range c))))

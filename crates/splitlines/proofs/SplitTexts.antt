@@ -1,6 +1,6 @@
 -- The lines of the splits, and what comes of them.
 -- In order: lines-on, lines-off; Told, told-start, told-end, told-ripe, told-crowded, told-more, told-less;
--- split-crowded, split-done.
+-- split-ends, split-crowded, split-done.
 -- Assumes nothing.
 use Rattle.laws.proofs.All.{_≡_, refl, sym, ap, ap₂, _∙_, Bool, true, false, not, _&&_, List, [], _++_, append-assoc}
 use Rattle.laws.proofs.All.{append-nil, ℕ, zero, suc, _+_, _-_, _≤_, _<_, arith, length, sum, length-map-range}
@@ -14,7 +14,8 @@ use Rattle.splitting.specs.SplitParts.{SplitInto, Splits, SplitAllInto}
 use Rattle.splitting.proofs.SplitLoop.{Going, going-start, goesOn-is, more-states, going-room, going-splits, going-on}
 use Rattle.splitting.proofs.SplitLoop.{going-grows}
 use Rattle.finish.specs.declared.finish_table.TableRows.{TableRows}
-use Rattle.finish.specs.Finishing.{TableIn}
+use Rattle.finish.specs.Finishing.{Finished, TableIn}
+use Rattle.finish.proofs.Finishing.{split-finished}
 use Rattle.text.specs.Texts.{Added}
 use Rattle.text.proofs.Adding.{added-same, _then_}
 use Rattle.splitlines.specs.SplitText.{graphLine, splitLine, splitLines, endLines, splitText}
@@ -131,27 +132,38 @@ states-of g = sym (length-map-range (weightAt g) (g .states))
 edges-of : (g : Graph) → g .edges ≡ length (arcsIn g)
 edges-of g = sym (length-map-range (arcAt g) (g .edges))
 
-module _ (q n : ℕ) (g : Graph) (r : NextGraph) (s : SplitAllInto n g r) where
-  abbrev lines : List ℕ
-  lines = splitLines (sum (weightsIn g)) q n (workIn g)
+module _ {n : ℕ} {g : Graph} {r : NextGraph} (s : SplitAllInto n g r) where
+  -- what all splits end with is finished
+  pub split-ends : Splits n g → 0 < sum (weightsIn g) → r .crowded ≡ false → Finished n (r .graph)
+  split-ends p h z =
+      split-finished n (sum (weightsIn g)) (workIn g) (p .some) (p .few) (p .inv) h (r .graph) (s .fits z) (s .work z)
 
-  front : graphLine (g .states) (g .edges) ++ lines ≡ graphLine (length (weightsIn g)) (length (arcsIn g)) ++ lines
-  front = ap₂ (λ k e. graphLine k e ++ lines) (states-of g) (edges-of g)
+  module _ (q : ℕ) {at m : ℕ} {B C : List ℕ}
+      (lines : Added (graphLine (g .states) (g .edges) ++ splitLines (sum (weightsIn g)) q n (workIn g)) at B C m)
+    where
+      abbrev first : List ℕ
+      first = graphLine (length (weightsIn g)) (length (arcsIn g)) ++ splitLines (sum (weightsIn g)) q n (workIn g)
 
-  pub split-crowded : r .crowded ≡ true → graphLine (g .states) (g .edges) ++ lines ≡ splitText q n (workIn g)
-  unfolding splitText
-  split-crowded z = front ∙ rw (sym (s .crowds) ∙ z) (sym (append-nil _))
+      front : Added first at B C m
+      front =
+          added-same (ap₂ (λ k e. graphLine k e ++ splitLines (sum (weightsIn g)) q n (workIn g)) (states-of g)
+          (edges-of g)) lines
 
-  pub split-done : r .crowded ≡ false → (rows : TableRows) → TableIn n (r .graph) rows
-      → (graphLine (g .states) (g .edges) ++ lines) ++ endLines (r .graph .states) (r .graph .edges) (rows .states)
-      ≡ splitText q n (workIn g)
-  unfolding splitText
-  split-done z rows i =
-      let long : rows .states ≡ length (tableOf n (workIn (r .graph))) =
-      sym (length-map-range _ (rows .states)) ∙ ap length (i .rows) in
-      let first = graphLine (length (weightsIn g)) (length (arcsIn g)) ++ lines in
-      ap (λ l. l ++ endLines (r .graph .states) (r .graph .edges) (rows .states)) front
-      ∙ ap₂ (λ k e. first ++ endLines k e (rows .states)) (states-of (r .graph)) (edges-of (r .graph))
-      ∙ ap (λ t. first ++ endLines (length (weightsIn (r .graph))) (length (arcsIn (r .graph))) t) long
-      ∙ ap (λ y. first ++ endLines (length (y .weights)) (length (y .arcs)) (length (tableOf n y))) (s .work z)
-      ∙ rw (sym (s .crowds) ∙ z) refl
+      pub split-crowded : r .crowded ≡ true → Added (splitText q n (workIn g)) at B C m
+      unfolding splitText
+      split-crowded z = added-same (rw (sym (s .crowds) ∙ z) (sym (append-nil _))) front
+
+      -- THEOREM: the graph, its splits, and what they end with
+      pub split-done : r .crowded ≡ false → {rows : TableRows} → TableIn n (r .graph) rows → {D : List ℕ} {e : ℕ}
+          → Added (endLines (r .graph .states) (r .graph .edges) (rows .states)) m C D e
+          → Added (splitText q n (workIn g)) at B D e
+      unfolding splitText
+      split-done z {rows} i l =
+          let long : rows .states ≡ length (tableOf n (workIn (r .graph))) =
+          sym (length-map-range _ (rows .states)) ∙ ap length (i .rows) in
+          added-same
+          (ap₂ (λ k e. first ++ endLines k e (rows .states)) (states-of (r .graph)) (edges-of (r .graph))
+          ∙ ap (λ t. first ++ endLines (length (weightsIn (r .graph))) (length (arcsIn (r .graph))) t) long
+          ∙ ap (λ y. first ++ endLines (length (y .weights)) (length (y .arcs)) (length (tableOf n y))) (s .work z)
+          ∙ rw (sym (s .crowds) ∙ z) refl)
+          (front then l)

@@ -1,18 +1,20 @@
--- What the code finds of a split before it takes it.
--- In order: keyText, runArcs, edges by their keys; Ripe, what a split needs; ChosenIn, the choice of the rule.
+-- What the code needs of a graph, and what it finds of a split before it takes it.
+-- In order: keyText, runArcs, edges by their keys; Begins, Ripe, what all splits need, and what one; ChosenIn, the
+-- choice of the rule.
 -- Assumes nothing.
 use mathlib.Core.Path.{_≡_}
 use mathlib.Core.List.{List, map}
 use Prim.Native.Nat.{ℕ, _+_, _/_, _%_, _≤_, _<_}
 use lib.Dec.{T}
 use lib.ListN.{length, getD, take, drop}
-use Rattle.laws.specs.Lists.{any, range}
+use Rattle.laws.specs.Lists.{any, range, sum}
 use Rattle.graph.specs.declared.Graph.{Graph}
 use Rattle.graph.specs.Arcs.{Arc, Work}
 use Rattle.graph.specs.Weights.{total}
 use Rattle.graph.specs.Splitting.{splittable, chosen, kept}
 use Rattle.graph.specs.Value.{weightsIn, arcsIn, Fits}
 use Rattle.order.specs.EdgeKeys.{arcOf}
+use Rattle.splitting.specs.SplitParts.{Splits}
 use Rattle.splitlines.specs.declared.choices.Choice.{Choice}
 use Rattle.splitlines.specs.SplitText.{edgeText}
 
@@ -23,6 +25,12 @@ keyText q k = edgeText q (k / 128) (k % 128)
 -- the edges of s with c keys from place o on
 abbrev pub runArcs : ℕ → List ℕ → ℕ → ℕ → List Arc
 runArcs s keys o c = map (arcOf s) (take c (drop o keys))
+
+-- a graph that all splits serve, which weighs something, and words of at most 8 bits
+pub record Begins (n q : ℕ) (g : Graph) : Type 0 where
+  pub narrow : q ≤ 8
+  pub splits : Splits n g
+  pub weighs : 0 < sum (weightsIn g)
 
 -- a graph with room for a state more, of which the rule names a state to split
 abbrev pub Ripe : ℕ → Graph → Type 0

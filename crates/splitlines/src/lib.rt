@@ -6,7 +6,7 @@ ghost use Rattle.text.specs.Texts.{Added};
 ghost use Rattle.graph.specs.Value.{weightsIn, workIn};
 ghost use Rattle.splitting.specs.SplitParts.{Splits};
 ghost use Rattle.splitlines.specs.SplitText.{graphLine, keptText, splitLine, splitLines, splitText};
-ghost use Rattle.splitlines.specs.ChoiceParts.{keyText, runArcs, Ripe};
+ghost use Rattle.splitlines.specs.ChoiceParts.{keyText, runArcs, Begins, Ripe};
 use crate::choices::Choice;
 use crate::choices::next_choice;
 use finish::finish_table::finish_table;
@@ -96,7 +96,7 @@ fn put_splits(out: &mut [u8], first: usize, g: Graph, n: usize, q: usize) -> usi
 
 // The graph, its splits, the graph that they end with, and its table.
 pub fn put_splitting(out: &mut [u8], at: usize, g: Graph, n: usize, q: usize) -> usize
-    requires { ⌜ (q ≤ 8) × Splits n g × (0 < sum (weightsIn g)) ⌝ }
+    requires { ⌜ Begins n q g ⌝ }
     ensures written { λ r. ⌜ Added (splitText q n (workIn g)) at (now (out .entry)) (now (out .exit)) r ⌝ }
 {
     let end = put_splits(out, at, g, n, q);

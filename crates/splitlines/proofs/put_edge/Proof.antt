@@ -1,16 +1,14 @@
 -- `put_edge` meets its contract: the word, and behind it the target.
 -- Assumes nothing.
 use Rattle.laws.proofs.All.{needs}
-use Rattle.text.proofs.Adding.{_then_}
+use Rattle.text.proofs.Adding.{added-more}
 use Rattle.splitlines.specs.SplitText.{edgeText}
 use Rattle.splitlines.proofs.put_edge.Statement.{statement}
 use Rattle.splitlines.proofs.put_edge.Tie as tie
 
 returns : tie.Need-returns
 unfolding edgeText
-returns c =
-    let s = c .before .before in
-    s .before .before .before .before .before .before .put-word .ensures then s .put-sentence .ensures
+returns c = search added-more
 
 pub put-edge-spec : {M : Type 1} → statement M
 put-edge-spec =

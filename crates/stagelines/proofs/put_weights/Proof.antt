@@ -1,16 +1,14 @@
 -- `put_weights` meets its contract: the list, and behind it the end of the line.
 -- Assumes nothing.
 use Rattle.laws.proofs.All.{needs}
-use Rattle.text.proofs.Adding.{_then_}
+use Rattle.text.proofs.Adding.{added-more}
 use Rattle.stagelines.specs.StageText.{weightsLine}
 use Rattle.stagelines.proofs.put_weights.Statement.{statement}
 use Rattle.stagelines.proofs.put_weights.Tie as tie
 
 returns : tie.Need-returns
 unfolding weightsLine
-returns c =
-    let e = c .before .before in
-    e .before .before .before .before .before .put-list .ensures then e .put .ensures
+returns c = search added-more
 
 pub put-weights-spec : {M : Type 1} → statement M
 put-weights-spec =

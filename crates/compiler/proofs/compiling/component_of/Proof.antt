@@ -31,8 +31,8 @@ returns : tie.Need-returns
 returns c =
     let b = c .before .before .before .before .before .before in
     held-component (b .args .j) (b .pre .0) _ _ (c .before .before .before .before .before .power-codes .ensures)
-    (c .before .before .before .before .power .ensures) (b .args .n) _ _
-    (b .pre .1) (c .before .before .state-weights .ensures .0) (c .find-component .ensures)
+    (c .before .before .before .before .power .ensures) _ _ (b .pre .1) (c .before .before .state-weights .ensures .0) _
+    (c .find-component .ensures)
 
 pub component-of-spec : {M : Type 1} → statement M
 component-of-spec =

@@ -1,12 +1,12 @@
 -- `begin` meets its contract: the power table holds the words that the constraint allows, so weights and component are
 -- the job's.
 -- Assumes nothing.
-use Rattle.laws.proofs.All.{arith, needs}
+use Rattle.laws.proofs.All.{sym, ap, ap₂, _∙_, arith, getD, needs}
+use Rattle.graph.specs.Component.{componentStates}
 use Rattle.weights.specs.PowerTable.{Powers}
 use Rattle.job.specs.JobValues.{jobIn}
 use Rattle.compiler.proofs.Compile.{ways-pos}
-use Rattle.compiler.proofs.CompileSteps.{has-states, held-powers, held-component}
-use Rattle.trace.proofs.Begun.{held-weights, held-states}
+use Rattle.compiler.proofs.CompileSteps.{has-states, held-powers, held-tabled, held-weights, held-component}
 use Rattle.trace.proofs.beginnings.begin.Statement.{statement}
 use Rattle.trace.proofs.beginnings.begin.Tie as tie
 
@@ -43,14 +43,20 @@ returns c =
     let w = s .before .before in
     let p = w .before .before in
     let b = p .before .before in
+    let j = b .args .j in
+    let r = b .pre .0 in
     let e = p .before .power-codes .ensures in
     let f = p .power .ensures in
     let v = w .state-weights .ensures .0 in
+    let u = held-weights j r _ _ e f _ _ (b .pre .1) v in
+    let g = held-component j r _ _ e f _ _ (b .pre .1) v _ (c .before .find-component .ensures) in
+    let m = s .component-states .ensures .1 ∙ ap₂ componentStates u (held-tabled j r _ _ e f) in
     record {
-      weights = held-weights (b .args .j) (b .pre .0) _ _ e f _ (b .pre .1) _ v;
+      weights = u;
       few = s .component-states .ensures .0;
-      states = held-states (b .args .j) (b .pre .0) _ _ e f _ (b .pre .1) _ v _ (s .component-states .ensures .1);
-      found = held-component (b .args .j) (b .pre .0) _ _ e f _ _ _ (b .pre .1) v (c .before .find-component .ensures);
+      states = m;
+      start = g .start ∙ ap (λ l. getD l 0 0) (sym m);
+      found = g;
     }
 
 pub begin-spec : {M : Type 1} → statement M

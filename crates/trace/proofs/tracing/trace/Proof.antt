@@ -1,10 +1,9 @@
 -- `trace` meets its contract: a refusal of the bytes is told, and a job that was read is traced.
 -- Assumes nothing.
-use Rattle.laws.proofs.All.{sym, ap, needs}
-use Rattle.answer.specs.Outcomes.{verdictOn}
-use Rattle.job.specs.JobValues.{jobIn, JobReady}
-use Rattle.text.proofs.Adding.{added-same, _then_}
-use Rattle.trace.specs.Traced.{ending, traced, tracing}
+use Rattle.laws.proofs.All.{needs}
+use Rattle.text.proofs.Adding.{added-more}
+use Rattle.job.specs.JobValues.{JobReady}
+use Rattle.trace.specs.Traced.{traced, tracing}
 use Rattle.trace.proofs.tracing.trace.Statement.{statement}
 use Rattle.trace.proofs.tracing.trace.Tie as tie
 
@@ -14,20 +13,14 @@ ready c = c .before .before .before .before .pre (c .enum-told .given .1)
 returns : tie.Need-returns
 returns c =
     let p = c .before .before in
-    let v = p .before .before .before in
-    added-same (sym (ap (λ x. tracing (verdictOn x (jobIn (v .before .before .before .before .args .r .job))))
-    (v .v .given .1))) (p .put-refusal-line .ensures)
+    rw (p .before .before .before .v .given .1) (p .put-refusal-line .ensures)
 
 returns-2 : tie.Need-returns-2
 unfolding traced
 returns-2 c =
-    let e = c .before .before in
-    let k = e .before .before in
-    let s = k .before .before .before in
-    let v = s .before .before .before in
-    added-same (sym (ap (λ x. tracing (verdictOn x (jobIn (v .before .before .before .before .args .r .job))))
-    (v .enum-told .given .1)))
-    (s .put-stages .ensures then added-same (ap ending (k .compile .ensures .0)) (e .put-ending .ensures))
+    let k = c .before .before .before .before in
+    rw (k .before .before .before .before .before .before .enum-told .given .1, ← k .compile .ensures .0)
+    (search added-more)
 
 pub trace-spec : {M : Type 1} → statement M
 trace-spec =
