@@ -61,7 +61,6 @@ pub use Rattle.laws.proofs.Ranges.{any-range-no, any-range-same, any-tr
 pub use Rattle.laws.proofs.Ranges.{first-range-none, is-map, length-map-range, length-run, map-places}
 pub use Rattle.laws.proofs.Ranges.{map-range-more, map-range-same, range-more, tot-more}
 pub use Rattle.laws.proofs.Settle.{iterate-fixed, iterate-keeps, iterate-suc, settles}
-pub use Rattle.laws.proofs.Sorted.{ordered-unique, sort-ordered}
 pub use Rattle.laws.proofs.Sums.{any-each, any→count, count→any, each-always, each-any, each-append}
 pub use Rattle.laws.proofs.Sums.{each-back, each-both, each-drop, each-filter, each-front, each-image}
 pub use Rattle.laws.proofs.Sums.{each-map, each-take, filter-each, first-passes, image-each, sum-set}
@@ -75,5 +74,4 @@ pub use Rattle.laws.proofs.Totals.{tot-take-le, tot-take-more, tot-unio
 pub use Rattle.laws.specs.Lists.{all, any, concat, elem, filter, first, from, if_then_else_, indexOf, iterate}
 pub use Rattle.laws.specs.Lists.{range, repeat, sum}
 pub use Rattle.laws.specs.Sets.{Pairs, grid, has, member}
-pub use Rattle.laws.specs.Sorted.{Among, Apart, Ordered, StrictOrder}
 pub use Rattle.laws.specs.Sums.{Below, Each, mask, one, times, tot}
