@@ -1,13 +1,14 @@
--- The refusals of document 01, "When the workshop declines": what the cases of the code's `Refusal` mean.
+-- The refusals of document 01, "When the workshop declines", and of document 02: what the cases of the code's
+-- `Refusal` mean.
 -- In order: numberOf, the number of the table; most, the largest of them; placeOf, the place that the answer names.
 -- Assumes nothing.
 use Prim.Native.Nat.{ℕ}
 use Rattle.answer.specs.declared.Refusal.{Refusal}
 use Rattle.answer.specs.declared.Refusal.the-variants.{Parameters, States, NoCode, TooHeavy, TooManyEdges}
 use Rattle.answer.specs.declared.Refusal.the-variants.{NoWindow, Field, Length, Disobeys, WindowFails}
-use Rattle.answer.specs.declared.Refusal.the-variants.{BadByte, TooFewWords, ShortOutput}
+use Rattle.answer.specs.declared.Refusal.the-variants.{BadByte, TooFewWords, ShortOutput, TooManyPairs}
 
--- the number of a refusal in document 01's table
+-- the number of a refusal in document 01's table, or "14 for more than 16 pairs"
 abbrev pub numberOf : Refusal → ℕ
 numberOf Parameters = 1
 numberOf States = 2
@@ -22,10 +23,11 @@ numberOf WindowFails = 10
 numberOf (BadByte place) = 11
 numberOf TooFewWords = 12
 numberOf ShortOutput = 13
+numberOf TooManyPairs = 14
 
 -- the largest number of a refusal
 abbrev pub most : ℕ
-most = 13
+most = 14
 
 -- "for 11, the place of the first bad byte, counted from 0"; the others name no place, and 0 stands for it
 abbrev pub placeOf : Refusal → ℕ
@@ -42,3 +44,4 @@ placeOf WindowFails = 0
 placeOf (BadByte place) = place
 placeOf TooFewWords = 0
 placeOf ShortOutput = 0
+placeOf TooManyPairs = 0

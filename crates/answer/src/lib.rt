@@ -1,11 +1,11 @@
-// What a call answers: a finished result, or one of document 01's numbered refusals.
+// What a call answers: a finished result, or one of the numbered refusals of documents 01 and 02.
 ghost use mathlib.Core.Path.{_≡_};
 ghost use Rattle.answer.specs.Refusals.{numberOf, placeOf};
 ghost use Rattle.answer.specs.Answers.{answerNumber, answerValue};
 
 pub mod bytes;
 
-// Why a call declines, with a case for each number of document 01's table.
+// Why a call declines, with a case for each number of document 01's table, and behind them those of document 02.
 pub enum Refusal {
     // 1: p, q or cap out of range.
     Parameters,
@@ -33,6 +33,8 @@ pub enum Refusal {
     TooFewWords,
     // 13: the output that was lent is too short.
     ShortOutput,
+    // 14: two constraints give more than 16 pairs of states.
+    TooManyPairs,
 }
 
 // What a check says of a value that stands beside it: the value is good, or why it is declined.
@@ -47,7 +49,7 @@ pub enum Answer {
     Refused(Refusal),
 }
 
-// Document 01's number of a refusal.
+// The number of a refusal.
 pub fn refusal_number(r: Refusal) -> u64
     ensures answer { λ n. ⌜ n ≡ numberOf r ⌝ }
 {
@@ -65,6 +67,7 @@ pub fn refusal_number(r: Refusal) -> u64
         Refusal::BadByte(_) => 11,
         Refusal::TooFewWords => 12,
         Refusal::ShortOutput => 13,
+        Refusal::TooManyPairs => 14,
     }
 }
 

@@ -4,7 +4,7 @@ ghost use Rattle.answer.specs.Outcomes.{answerOf, outputOf};
 ghost use lib.ListN.{length};
 ghost use Rattle.checker.specs.Parse.{checkedOnly};
 ghost use Rattle.codec.specs.Answers.{encodeUnder, decodeUnder, encodeChecked, decodeChecked};
-ghost use Rattle.compiler.specs.Compile.{compileJob, compileRunLength};
+ghost use Rattle.compiler.specs.Compile.{compileJob, compileRunLength, compileJoined};
 ghost use Rattle.info.specs.Info.{infoUnder, phraseInto};
 ghost use Rattle.listings.specs.Listings.{listInto};
 ghost use Rattle.sets.specs.Sets.{readSet};
@@ -117,6 +117,17 @@ pub extern "C" fn sbc_compile_run_length(job: &[u8], out: &mut [u8]) -> u64
         ≡ outputOf (compileRunLength (now (job .entry)) (length (now (out .entry)))) (now (out .entry)) ⌝ }
 {
     word(compiler::bytes::compile_run_length(job, out))
+}
+
+// A job with two constraints compiled to a record for both: 8 below four bytes, 1, for each constraint 8 for a missing K,
+// K by 2, 8, next states by 2; 14, 3, 4, 5, 6, 13; otherwise how many bytes were written.
+#[no_mangle]
+pub extern "C" fn sbc_compile_joined(job: &[u8], out: &mut [u8]) -> u64
+    ensures answer { λ r. ⌜ r ≡ wordOf (answerOf (compileJoined (now (job .entry)) (length (now (out .entry))))) ⌝ }
+    ensures written { λ r. ⌜ now (out .exit)
+        ≡ outputOf (compileJoined (now (job .entry)) (length (now (out .entry)))) (now (out .entry)) ⌝ }
+{
+    word(compiler::bytes::compile_joined(job, out))
 }
 
 // The listing of a run-length job: 8, 1, 2, 3, 4, 5, 6, 13; otherwise how many bytes were written.

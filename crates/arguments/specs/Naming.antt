@@ -7,8 +7,8 @@ use Rattle.laws.specs.Lists.{if_then_else_}
 use Rattle.text.specs.Texts.{bytes}
 use Rattle.text.specs.Words.{same}
 use Rattle.arguments.specs.declared.Action.{Action}
-use Rattle.arguments.specs.declared.Action.the-variants.{Compile, CompileJob, Trace, Collection, Help, Version}
-use Rattle.arguments.specs.declared.Action.the-variants.{Viewing, Coding, Unknown}
+use Rattle.arguments.specs.declared.Action.the-variants.{Compile, CompileJob, CompileJoined, Trace}
+use Rattle.arguments.specs.declared.Action.the-variants.{Collection, Help, Version, Viewing, Coding, Unknown}
 use Rattle.arguments.specs.declared.View.the-variants.{Check, Show, Draw}
 use Rattle.arguments.specs.declared.Way.the-variants.{Encode, Decode}
 
@@ -35,4 +35,5 @@ actionOf w =
     if same w (bytes "compile") then Compile else
     if same w (bytes "compile-job") then CompileJob else
     if same w (bytes "trace") then Trace else
-    if same w (bytes "set") then Collection else recordAction w
+    if same w (bytes "set") then Collection else
+    if same w (bytes "compile-joined") then CompileJoined else recordAction w

@@ -6,8 +6,8 @@ use Prim.Native.Nat.{ℕ}
 use lib.Dec.{leb}
 use Rattle.arguments.specs.declared.Shape.{Shape}
 use Rattle.arguments.specs.declared.Action.{Action}
-use Rattle.arguments.specs.declared.Action.the-variants.{Compile, CompileJob, Trace, Collection, Help, Version}
-use Rattle.arguments.specs.declared.Action.the-variants.{Viewing, Coding, Unknown}
+use Rattle.arguments.specs.declared.Action.the-variants.{Compile, CompileJob, CompileJoined, Trace}
+use Rattle.arguments.specs.declared.Action.the-variants.{Collection, Help, Version, Viewing, Coding, Unknown}
 use Rattle.arguments.specs.declared.Status.{Status}
 use Rattle.arguments.specs.declared.Status.the-variants.{Done, Failed, Misused}
 
@@ -20,6 +20,7 @@ shaped fewest most under read written =
 abbrev pub shapeOf : Action → Shape
 shapeOf Compile = shaped 7 8 0 0 7
 shapeOf CompileJob = shaped 3 4 0 2 3
+shapeOf CompileJoined = shaped 3 4 0 2 3
 shapeOf Trace = shaped 7 7 0 0 0
 shapeOf Collection = shaped 3 3 0 2 0
 shapeOf Help = shaped 2 3 0 0 0

@@ -23,6 +23,7 @@ pub enum Way {
 pub enum Action {
     Compile,
     CompileJob,
+    CompileJoined,
     Trace,
     Collection,
     Help,
@@ -117,6 +118,9 @@ pub fn action_of(word: &[u8]) -> Action
     if is_same(word, b"set") {
         return Action::Collection;
     }
+    if is_same(word, b"compile-joined") {
+        return Action::CompileJoined;
+    }
     record_action(word)
 }
 
@@ -140,6 +144,7 @@ pub fn shape_of(a: Action) -> Shape
     match a {
         Action::Compile => with_places(7, 8, 0, 0, 7),
         Action::CompileJob => with_places(3, 4, 0, 2, 3),
+        Action::CompileJoined => with_places(3, 4, 0, 2, 3),
         Action::Trace => with_places(7, 7, 0, 0, 0),
         Action::Collection => with_places(3, 3, 0, 2, 0),
         Action::Help => with_places(2, 3, 0, 0, 0),

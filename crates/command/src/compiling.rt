@@ -9,6 +9,7 @@ use arguments::Status;
 use arguments::read_place;
 use arguments::written_place;
 use compiler::bytes::compile_job;
+use compiler::bytes::compile_joined;
 use compiler::bytes::compile_run_length;
 use inputs::load;
 use inputs::numbers_said;
@@ -29,6 +30,13 @@ fn compile_bytes(job: &[u8], out: &mut [u8]) -> Status {
     let i = written_place(Action::CompileJob);
     let r = compile_job(job, out);
     finish(Action::CompileJob, i, r, out)
+}
+
+// The record of a job with two constraints.
+fn compile_both(job: &[u8], out: &mut [u8]) -> Status {
+    let i = written_place(Action::CompileJoined);
+    let r = compile_joined(job, out);
+    finish(Action::CompileJoined, i, r, out)
 }
 
 // compile d k p q cap [OUT]
@@ -52,6 +60,18 @@ pub fn compile_file() -> Status {
     let n = l.size;
     let mut out = [0u8; 3864];
     compile_bytes(&job[..n], &mut out)
+}
+
+// compile-joined FILE [OUT]
+pub fn compile_joined_file() -> Status {
+    let mut job = [0u8; 70];
+    let l = load(read_place(Action::CompileJoined), &mut job);
+    if !l.good {
+        return Status::Failed;
+    }
+    let n = l.size;
+    let mut out = [0u8; 3864];
+    compile_both(&job[..n], &mut out)
 }
 
 // How a trace ends: as compiling the job does.

@@ -74,6 +74,7 @@ fn act(a: Action) -> u32
     match a {
         Action::Compile => status_number(compiling::compile()),
         Action::CompileJob => status_number(compiling::compile_file()),
+        Action::CompileJoined => status_number(compiling::compile_joined_file()),
         Action::Trace => status_number(compiling::trace_numbers()),
         Action::Collection => sbc_action_set(),
         Action::Help => status_number(help()),

@@ -1,6 +1,6 @@
 -- "Compiling": a job to a code, and to its record in lent bytes, with refusals "3, 4, 5, 6, 13" in this order.
 -- In order: ways, graphOf; Vector, what the weights are the greatest of; weightsOf, componentOf, startOf, finishedOf,
--- tableFor; code, compile; compileInto; compileJob, compileRunLength, from bytes to bytes.
+-- tableFor; code, compile; compileInto; compileJob, compileRunLength, compileJoined, from bytes to bytes.
 -- Assumes nothing.
 use mathlib.Core.Bool.{not}
 use mathlib.Core.List.{List}
@@ -18,7 +18,7 @@ use Rattle.graph.specs.Weights.{Enough, weights}
 use Rattle.graph.specs.Component.{componentStates, componentGraph}
 use Rattle.graph.specs.Splitting.{crowded, splitAll}
 use Rattle.finish.specs.TableOf.{tableOf}
-use Rattle.job.specs.Jobs.{Job, readJob, readRunLength}
+use Rattle.job.specs.Jobs.{Job, readJob, readRunLength, readJoined}
 
 -- "Let n = 2^p."
 abbrev pub ways : Job → ℕ
@@ -84,3 +84,7 @@ compileJob xs room = onward (readJob xs) (compileInto room)
 -- a run-length job's bytes compiled to a record
 unfoldable pub compileRunLength : List ℕ → ℕ → Outcome (List ℕ)
 compileRunLength xs room = onward (readRunLength xs) (compileInto room)
+
+-- the bytes of a job with two constraints compiled to a record
+unfoldable pub compileJoined : List ℕ → ℕ → Outcome (List ℕ)
+compileJoined xs room = onward (readJoined xs) (compileInto room)

@@ -1,17 +1,20 @@
--- Both kinds of job, from bytes: "Job: 8 below four bytes, 1, K by 2, 8, next states by 2 [..] Run-length job: 8, 1,
--- 2".
--- In order: Job; goodParameters; statesOf, readJob; readRunLength; Allowed, the jobs that pass these checks.
+-- The three kinds of job, from bytes: "Job: 8 below four bytes, 1, K by 2, 8, next states by 2 [..] Run-length job: 8,
+-- 1, 2"; and two constraints in one job, joined.
+-- In order: Job; goodParameters; statesOf, readJob; readRunLength; constraintFrom, one constraint in a row of bytes;
+-- fronted, jobWith, readJoined; Joins, the two constraints of a joined job; Allowed, the jobs that pass these checks.
 -- Assumes nothing.
+use mathlib.Core.Path.{_≡_}
 use mathlib.Core.Bool.{Bool, _&&_}
 use mathlib.Core.List.{List, [], _∷_}
 use Prim.Native.Nat.{ℕ, zero, suc, _+_, _*_, _≤_}
-use lib.Dec.{leb, eqb}
+use lib.Dec.{T, leb, eqb}
 use lib.ListN.{length, getD, drop}
 use Rattle.laws.specs.Lists.{all}
-use Rattle.answer.specs.declared.Refusal.the-variants.{Parameters, States, Length}
-use Rattle.answer.specs.Outcomes.{Outcome, done, unless}
+use Rattle.answer.specs.declared.Refusal.the-variants.{Parameters, States, Length, TooManyPairs}
+use Rattle.answer.specs.Outcomes.{Outcome, done, unless, onward}
 use Rattle.constraint.specs.Walking.{Constraint, runLength, Well}
 use Rattle.table.specs.Formed.{goodNext}
+use Rattle.joining.specs.Joined.{pairs, joined}
 
 -- what a job asks for
 pub record Job : Type 0 where
@@ -54,6 +57,45 @@ readRunLength xs =
     unless Length (eqb (length xs) 5)
     (unless Parameters (goodParameters p q cap)
     (unless States (leb d k && leb k 15) (done (record { p = p; q = q; cap = cap; constraint = runLength d k }))))
+
+-- "each constraint as K and its next-state bytes", in front of a row of bytes: "8 for a missing K, K by 2, 8, next states
+-- by 2", where the bytes that a constraint takes are compared with those that are there by `fits`
+unfoldable pub constraintFrom : (ℕ → ℕ → Bool) → List ℕ → Outcome Constraint
+constraintFrom fits ys =
+    let K = getD ys 0 0 in
+    let c = statesOf K (drop 1 ys) in
+    unless Length (leb 1 (length ys))
+    (unless States (leb 1 K && leb K 16)
+    (unless Length (fits (1 + 2 * K) (length ys)) (unless States (all (goodNext K) c) (done c))))
+
+-- "8 below four bytes, 1", then what comes of the bytes behind cap
+abbrev pub fronted : {A : Type 0} → List ℕ → Outcome A → Outcome A
+fronted xs rest =
+    unless Length (leb 4 (length xs))
+    (unless Parameters (goodParameters (getD xs 0 0) (getD xs 1 0) (getD xs 2 0)) rest)
+
+-- the job with p, q and cap in front of its bytes
+abbrev pub jobWith : List ℕ → Constraint → Job
+jobWith xs c = record { p = getD xs 0 0; q = getD xs 1 0; cap = getD xs 2 0; constraint = c }
+
+-- "14 for more than 16 pairs": the job of both constraints
+abbrev pub joinedJob : List ℕ → Constraint → Constraint → Outcome Job
+joinedJob xs c d = unless TooManyPairs (leb (length (pairs c d)) 16) (done (jobWith xs (joined c d)))
+
+-- "The job is p, q, cap, then each constraint as K and its next-state bytes"; "left-over bytes belong to the second's
+-- later 8"
+unfoldable pub readJoined : List ℕ → Outcome Job
+readJoined xs =
+    fronted xs
+    (onward (constraintFrom leb (drop 3 xs))
+    (λ c. onward (constraintFrom eqb (drop (4 + 2 * length c) xs)) (joinedJob xs c)))
+
+-- c and d are the constraints of a joined job's bytes, and both pass their checks
+pub record Joins (xs : List ℕ) (c d : Constraint) : Type 0 where
+  pub long : 4 ≤ length xs
+  pub parameters : T (goodParameters (getD xs 0 0) (getD xs 1 0) (getD xs 2 0))
+  pub first : constraintFrom leb (drop 3 xs) ≡ done c
+  pub second : constraintFrom eqb (drop (4 + 2 * length c) xs) ≡ done d
 
 -- p, q, cap and K are in range, and every next state is a state or none
 pub record Allowed (j : Job) : Type 0 where

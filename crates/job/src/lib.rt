@@ -1,8 +1,9 @@
-// Jobs of both kinds by value, and their reading from bytes.
+// Jobs of all kinds by value, and their reading from bytes.
 use answer::Verdict;
 use constraint::Constraint;
 
 pub mod reading;
+mod rules;
 
 // A job by value.
 pub struct JobValue {
@@ -16,4 +17,10 @@ pub struct JobValue {
 pub struct JobAnswer {
     pub verdict: Verdict,
     pub job: JobValue,
+}
+
+// What the reading of a constraint answers: the verdict, and where it is `Good` the constraint.
+pub struct ConstraintAnswer {
+    pub verdict: Verdict,
+    pub constraint: Constraint,
 }

@@ -1,23 +1,24 @@
-// Both kinds of job, read from bytes with their refusals.
+// Jobs of all kinds, read from bytes with their refusals.
 ghost use mathlib.Core.Path.{_≡_};
-ghost use mathlib.Core.Bool.{_&&_};
-ghost use mathlib.Core.List.{map};
-ghost use Prim.Native.Nat.{_+_, _*_, _≤_};
-ghost use lib.Dec.{leb};
-ghost use lib.ListN.{length};
-ghost use Rattle.laws.specs.Lists.{all, range};
-ghost use Rattle.answer.specs.Outcomes.{refused};
-ghost use Rattle.constraint.specs.Value.{constraintOf};
-ghost use Rattle.table.specs.Formed.{goodState};
+ghost use Prim.Native.Nat.{_+_, _*_, _≤_, min};
+ghost use lib.ListN.{length, getD};
+ghost use Rattle.answer.specs.Outcomes.{refused, done, onward, verdictOn};
 ghost use Rattle.answer.specs.declared.Verdict.the-variants.{Good};
-ghost use Rattle.job.specs.Jobs.{goodParameters, readJob, readRunLength};
-ghost use Rattle.job.specs.JobValues.{jobOutcome, stateAt, goodStateAt, JobReady};
+ghost use Rattle.constraint.specs.Walking.{Lawful};
+ghost use Rattle.constraint.specs.Value.{constraintOf};
+ghost use Rattle.job.specs.Jobs.{goodParameters, readJob, readRunLength, readJoined};
+ghost use Rattle.job.specs.Jobs.{fronted, jobWith, joinedJob};
+ghost use Rattle.job.specs.JobValues.{jobOutcome, constraintOutcome, JobReady};
+use crate::ConstraintAnswer;
 use crate::JobAnswer;
 use crate::JobValue;
+use crate::rules::between;
+use crate::rules::read_constraint;
 use answer::Refusal;
 use answer::Verdict;
 use constraint::Constraint;
 use constraint::runs::run_length;
+use joining::join;
 
 // A refusal, beside a job that asks for nothing.
 fn declined(r: Refusal) -> JobAnswer
@@ -41,16 +42,6 @@ fn declined(r: Refusal) -> JobAnswer
     }
 }
 
-// Whether x is from low to high.
-fn between(x: usize, low: usize, high: usize) -> bool
-    ensures answer { λ r. ⌜ r ≡ (leb low x && leb x high) ⌝ }
-{
-    if x < low {
-        return false;
-    }
-    x <= high
-}
-
 // Whether p, q and cap are in range: otherwise refusal 1.
 fn good_parameters(p: usize, q: usize, cap: usize) -> bool
     ensures answer { λ r. ⌜ r ≡ goodParameters p q cap ⌝ }
@@ -64,60 +55,47 @@ fn good_parameters(p: usize, q: usize, cap: usize) -> bool
     between(cap, 1, 16)
 }
 
-// Whether s is one of `count` states, or none.
-fn good_state(s: u8, count: usize) -> bool
-    ensures answer { λ r. ⌜ r ≡ goodState count s ⌝ }
+// The front of a job that holds p, q and cap: "8 below four bytes, 1".
+fn front_verdict(bytes: &[u8]) -> Verdict
+    ensures answer { λ r. ⌜ verdictOn r tt ≡ fronted (now (bytes .entry)) (done tt) ⌝ }
 {
-    if s == 255 {
-        return true;
+    if bytes.len() < 4 {
+        return Verdict::Bad(Refusal::Length);
     }
-    (s as usize) < count
+    if !good_parameters(bytes[0] as usize, bytes[1] as usize, bytes[2] as usize) {
+        return Verdict::Bad(Refusal::Parameters);
+    }
+    Verdict::Good
 }
 
-// Whether both next states of state s are states or none.
-fn good_next(bytes: &[u8], s: usize, count: usize) -> bool
-    requires { ⌜ (s ≤ 16) × (6 + s * 2 ≤ length (now bytes)) ⌝ }
-    ensures answer { λ r. ⌜ r ≡ goodStateAt (now (bytes .entry)) count s ⌝ }
+// The job with p, q and cap in front of its bytes.
+fn job_with(bytes: &[u8], c: Constraint) -> JobAnswer
+    requires { ⌜ 4 ≤ length (now bytes) ⌝ }
+    ensures answer { λ r. ⌜ jobOutcome r ≡ done (jobWith (now (bytes .entry)) (constraintOf c)) ⌝ }
 {
-    if !good_state(bytes[4 + s * 2], count) {
-        return false;
+    let job = JobValue {
+        p: bytes[0] as usize,
+        q: bytes[1] as usize,
+        cap: bytes[2] as usize,
+        constraint: c,
+    };
+    JobAnswer {
+        verdict: Verdict::Good,
+        job: job,
     }
-    good_state(bytes[5 + s * 2], count)
 }
 
-// Whether all next states are states or none: otherwise refusal 2.
-fn good_states(bytes: &[u8], count: usize) -> bool
-    requires { ⌜ (count ≤ 16) × (4 + count * 2 ≤ length (now bytes)) ⌝ }
-    ensures answer { λ r. ⌜ r ≡ all (goodStateAt (now (bytes .entry)) count) (range count) ⌝ }
+// The job of a constraint that was read.
+fn job_of(bytes: &[u8], r: ConstraintAnswer) -> JobAnswer
+    requires { ⌜ 4 ≤ length (now bytes) ⌝ }
+    ensures answer { λ x. ⌜ jobOutcome x
+        ≡ onward (constraintOutcome r) (λ c. done (jobWith (now (bytes .entry)) c)) ⌝ }
 {
-    let mut s = 0;
-    while s < count {
-        if !good_next(bytes, s, count) {
-            return false;
-        }
-        s += 1;
-    }
-    true
-}
-
-// The constraint of `count` states.
-fn states_of(bytes: &[u8], count: usize) -> Constraint
-    requires { ⌜ (count ≤ 16) × (4 + count * 2 ≤ length (now bytes)) ⌝ }
-    ensures answer { λ r. ⌜ constraintOf r ≡ map (stateAt (now (bytes .entry))) (range count) ⌝ }
-    ensures kept { λ r. ⌜ r .states ≡ count ⌝ }
-{
-    let mut zero = [255u8; 16];
-    let mut one = [255u8; 16];
-    let mut s = 0;
-    while s < count {
-        zero[s] = bytes[4 + s * 2];
-        one[s] = bytes[5 + s * 2];
-        s += 1;
-    }
-    Constraint {
-        states: count,
-        zero: zero,
-        one: one,
+    let v = r.verdict;
+    let c = r.constraint;
+    match v {
+        Verdict::Bad(x) => declined(x),
+        Verdict::Good => job_with(bytes, c),
     }
 }
 
@@ -126,34 +104,72 @@ pub fn read_job(bytes: &[u8]) -> JobAnswer
     ensures answer { λ r. ⌜ jobOutcome r ≡ readJob (now (bytes .entry)) ⌝ }
     ensures kept { λ r. ⌜ (r .verdict ≡ Good → JobReady (r .job)) ⌝ }
 {
-    if bytes.len() < 4 {
-        return declined(Refusal::Length);
+    match front_verdict(bytes) {
+        Verdict::Bad(r) => declined(r),
+        Verdict::Good => job_of(bytes, read_constraint(&bytes[3..], true)),
     }
-    let p = bytes[0] as usize;
-    let q = bytes[1] as usize;
-    let cap = bytes[2] as usize;
-    if !good_parameters(p, q, cap) {
-        return declined(Refusal::Parameters);
+}
+
+// Where the second constraint of a joined job starts: behind as many states as the first says, within the bytes.
+fn second_start(bytes: &[u8]) -> usize
+    requires { ⌜ 4 ≤ length (now bytes) ⌝ }
+    ensures answer { λ r. ⌜
+        r ≡ min (4 + 2 * getD (now (bytes .entry)) 3 0) (length (now (bytes .entry))) ⌝ }
+{
+    let start = 4 + 2 * (bytes[3] as usize);
+    if start < bytes.len() {
+        return start;
     }
-    let count = bytes[3] as usize;
-    if !between(count, 1, 16) {
-        return declined(Refusal::States);
+    bytes.len()
+}
+
+// The job of two lawful constraints, or 14.
+fn join_job(bytes: &[u8], c: Constraint, d: Constraint) -> JobAnswer
+    requires { ⌜ (4 ≤ length (now bytes)) × Lawful (constraintOf c) × Lawful (constraintOf d) ⌝ }
+    ensures answer { λ r. ⌜ jobOutcome r ≡ joinedJob (now (bytes .entry)) (constraintOf c) (constraintOf d) ⌝ }
+{
+    let j = join(c, d);
+    if !j.few {
+        return declined(Refusal::TooManyPairs);
     }
-    if bytes.len() != 4 + 2 * count {
-        return declined(Refusal::Length);
+    let both = j.constraint;
+    job_with(bytes, both)
+}
+
+// The job of the two constraints that were read: the first one's refusal comes before the second's.
+fn join_read(bytes: &[u8], first: ConstraintAnswer, second: ConstraintAnswer) -> JobAnswer
+    requires { ⌜ (4 ≤ length (now bytes)) × (first .verdict ≡ Good → Lawful (constraintOf (first .constraint)))
+        × (second .verdict ≡ Good → Lawful (constraintOf (second .constraint))) ⌝ }
+    ensures answer { λ r. ⌜ jobOutcome r ≡ onward (constraintOutcome first)
+        (λ c. onward (constraintOutcome second) (joinedJob (now (bytes .entry)) c)) ⌝ }
+{
+    let v = first.verdict;
+    let w = second.verdict;
+    let c = first.constraint;
+    let d = second.constraint;
+    match v {
+        Verdict::Bad(r) => declined(r),
+        Verdict::Good => match w {
+            Verdict::Bad(r) => declined(r),
+            Verdict::Good => join_job(bytes, c, d),
+        },
     }
-    if !good_states(bytes, count) {
-        return declined(Refusal::States);
-    }
-    let job = JobValue {
-        p: p,
-        q: q,
-        cap: cap,
-        constraint: states_of(bytes, count),
-    };
-    JobAnswer {
-        verdict: Verdict::Good,
-        job: job,
+}
+
+// The job of two constraints that bytes hold, or the refusal: "8 below four bytes, 1, then for each constraint 8 for a
+// missing K, K by 2, 8, next states by 2", and 14.
+pub fn read_joined(bytes: &[u8]) -> JobAnswer
+    ensures answer { λ r. ⌜ jobOutcome r ≡ readJoined (now (bytes .entry)) ⌝ }
+    ensures kept { λ r. ⌜ (r .verdict ≡ Good → JobReady (r .job)) ⌝ }
+{
+    match front_verdict(bytes) {
+        Verdict::Bad(r) => declined(r),
+        Verdict::Good => {
+            let first = read_constraint(&bytes[3..], false);
+            let start = second_start(bytes);
+            let second = read_constraint(&bytes[start..], true);
+            join_read(bytes, first, second)
+        }
     }
 }
 

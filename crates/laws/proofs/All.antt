@@ -54,7 +54,7 @@ pub use Rattle.laws.proofs.Maps.{all-filter, filter-append, filter-both
 pub use Rattle.laws.proofs.Maps.{filter-fuse, filter-map, filter-never, filter-same, first-filter}
 pub use Rattle.laws.proofs.Maps.{map-append, map-concat, map-drop, map-each, map-map, map-take}
 pub use Rattle.laws.proofs.Members.{member-blank, member-lt, put-member}
-pub use Rattle.laws.proofs.Pigeon.{Twice, pigeon}
+pub use Rattle.laws.proofs.Pigeon.{Twice, once-fits, pigeon}
 pub use Rattle.laws.proofs.Places.{mod-diff, place-lt, quotient-of, remainder-of}
 pub use Rattle.laws.proofs.Ranges.{all-range-false, all-range-true, any-each-same, any-false, any-range-more}
 pub use Rattle.laws.proofs.Ranges.{any-range-no, any-range-same, any-true, concat-more, drop-map-range}
@@ -74,4 +74,4 @@ pub use Rattle.laws.proofs.Totals.{tot-take-le, tot-take-more, tot-unio
 pub use Rattle.laws.specs.Lists.{all, any, concat, elem, filter, first, from, if_then_else_, indexOf, iterate}
 pub use Rattle.laws.specs.Lists.{range, repeat, sum}
 pub use Rattle.laws.specs.Sets.{Pairs, grid, has, member}
-pub use Rattle.laws.specs.Sums.{Below, Each, mask, one, times, tot}
+pub use Rattle.laws.specs.Sums.{Below, Each, Once, mask, one, times, tot}

@@ -20,6 +20,7 @@ fn tell_all(file: i32) -> bool {
         b"usage: sbc ACTION [ARGUMENT]...
   compile d k p q cap [OUT]  compile a run-length job to a record
   compile-job FILE [OUT]     compile a job to a record
+  compile-joined FILE [OUT]  compile a job with two constraints to a record for both
   trace d k p q cap          print how a run-length job is compiled
   check FILE                 say whether a record is accepted
   show FILE                  print the code of a record
@@ -42,6 +43,14 @@ fn tell_compiling(file: i32, a: Action) -> bool {
             b"usage: sbc compile-job FILE [OUT]
 Compiles the job in FILE to a code, and writes its record to OUT, or to standard output. A job is the bytes p, q, cap,
 K, then for each of K states the next states for channel bits 0 and 1, with 255 for none.
+",
+        ),
+        Action::CompileJoined => io::write_all(
+            file,
+            b"usage: sbc compile-joined FILE [OUT]
+Compiles the job in FILE to a code that obeys two constraints at once, and writes its record to OUT, or to standard
+output. The job is the bytes p, q, cap, then each constraint: K, and for each of its K states the next states for
+channel bits 0 and 1, with 255 for none. A bit is allowed when both constraints allow it; both start in state 0.
 ",
         ),
         Action::Trace => io::write_all(
@@ -111,6 +120,7 @@ fn tell(file: i32, a: Action) -> bool {
     match a {
         Action::Compile => tell_compiling(file, a),
         Action::CompileJob => tell_compiling(file, a),
+        Action::CompileJoined => tell_compiling(file, a),
         Action::Trace => tell_compiling(file, a),
         Action::Viewing(v) => tell_record(file, v),
         Action::Coding(w) => tell_coding(file, w),

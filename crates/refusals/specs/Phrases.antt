@@ -28,6 +28,7 @@ phrases =
     ∷ bytes "block of 2^p or more, or word of 2^q or more, at place "
     ∷ bytes "fewer than a words"
     ∷ bytes "the output is too short"
+    ∷ bytes "two constraints give more than 16 pairs of states"
     ∷ []
 
 -- the words of a number

@@ -5,6 +5,7 @@ use answer::answer_value;
 use answer::refusal_number;
 use checker::check;
 use compiler::bytes::compile_job;
+use compiler::bytes::compile_joined;
 use compiler::bytes::compile_run_length;
 use judging::Told;
 use listings::list_run_length;
@@ -45,13 +46,17 @@ fn list_or_tell(job: &[u8], out: &mut [u8]) -> Answer {
     }
 }
 
-// The call of a kind that takes a job: 1 compiles a job, 2 a run-length job, and any other lists.
+// The call of a kind that takes a job: 1 compiles a job, 2 a run-length job, 8 one with two constraints, and any other
+// lists.
 fn call_job(kind: usize, job: &[u8], out: &mut [u8]) -> Answer {
     if kind == 1 {
         return compile_job(job, out);
     }
     if kind == 2 {
         return compile_run_length(job, out);
+    }
+    if kind == 8 {
+        return compile_joined(job, out);
     }
     list_or_tell(job, out)
 }

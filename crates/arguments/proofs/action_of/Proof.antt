@@ -60,7 +60,7 @@ returns-4 c =
 returns-5 : tie.Need-returns-5
 unfolding actionOf
 returns-5 c =
-    let c4 = c .before in
+    let c4 = c .before .before .before in
     let c3 = c4 .before .before .before in
     let c2 = c3 .before .before .before in
     let c1 = c2 .before .before .before in
@@ -73,7 +73,30 @@ returns-5 c =
     sym (c3 .before .is-same3 .ensures) ∙ c3 .if3 .left in
     let e4 : same w (bytes "set") ≡ false =
     sym (c4 .before .is-same4 .ensures) ∙ c4 .if4 .left in
-    c .record-action .ensures ∙ sym (simp (e1, e2, e3, e4))
+    let e5 : same w (bytes "compile-joined") ≡ true =
+    sym (c .before .is-same5 .ensures) ∙ c .if5 .taken in
+    simp (e1, e2, e3, e4, e5)
+
+returns-6 : tie.Need-returns-6
+unfolding actionOf
+returns-6 c =
+    let c5 = c .before in
+    let c4 = c5 .before .before .before in
+    let c3 = c4 .before .before .before in
+    let c2 = c3 .before .before .before in
+    let c1 = c2 .before .before .before in
+    let w = now (c1 .before .before .before .before .args .word) in
+    let e1 : same w (bytes "compile") ≡ false =
+    sym (c1 .before .is-same .ensures) ∙ c1 .if1 .left in
+    let e2 : same w (bytes "compile-job") ≡ false =
+    sym (c2 .before .is-same2 .ensures) ∙ c2 .if2 .left in
+    let e3 : same w (bytes "trace") ≡ false =
+    sym (c3 .before .is-same3 .ensures) ∙ c3 .if3 .left in
+    let e4 : same w (bytes "set") ≡ false =
+    sym (c4 .before .is-same4 .ensures) ∙ c4 .if4 .left in
+    let e5 : same w (bytes "compile-joined") ≡ false =
+    sym (c5 .before .is-same5 .ensures) ∙ c5 .if5 .left in
+    c .record-action .ensures ∙ sym (simp (e1, e2, e3, e4, e5))
 
 pub action-of-spec : {M : Type 1} → statement M
 action-of-spec =
@@ -81,4 +104,4 @@ action-of-spec =
     (tie.spec
     (λ c. search needs) (λ c κs. search needs) returns (λ c. search needs) (λ c κs. search needs) returns-2
     (λ c. search needs) (λ c κs. search needs) returns-3 (λ c. search needs) (λ c κs. search needs) returns-4
-    (λ c κs. search needs) returns-5)
+    (λ c. search needs) (λ c κs. search needs) returns-5 (λ c κs. search needs) returns-6)

@@ -32,10 +32,15 @@ returns-8 c = c .with-places8 .ensures ∙ sym (ap shapeOf (c .before .enum-told
 returns-9 : tie.Need-returns-9
 returns-9 c = c .with-places9 .ensures ∙ sym (ap shapeOf (c .before .enum-told9 .given .1))
 
+returns-10 : tie.Need-returns-10
+returns-10 c = c .with-places10 .ensures ∙ sym (ap shapeOf (c .before .enum-told10 .given .1))
+
 pub shape-of-spec : {M : Type 1} → statement M
 shape-of-spec =
     tie.close
     (tie.spec
+    (λ c. search needs)
+    (λ c κs. search needs)
     (λ c. search needs)
     (λ c κs. search needs)
     (λ c. search needs)
@@ -62,4 +67,5 @@ shape-of-spec =
     returns-6
     returns-7
     returns-8
-    returns-9)
+    returns-9
+    returns-10)
