@@ -9,13 +9,10 @@ use Rattle.constraint.specs.Walking.{none, NextStates, Constraint, nowhere, aft
 use Rattle.constraint.specs.Follow.{follow, Finds}
 use Rattle.joining.specs.Joined.{pairOf, allowed, leadsTo, pairs, nextPair, joinedState, joined, Reachable}
 use Rattle.joining.proofs.Lists.{grows-elem, grows-at, grows-long}
-use Rattle.joining.proofs.Pairs.{pair-back, allowed-both, both-allowed, allowed-bit, leads-bit, after-small}
+use Rattle.joining.proofs.Pairs.{pair-back, allowed-both, both-allowed, after-small}
 use Rattle.joining.proofs.Pairs.{pairs-walks, pairs-closed, pairs-all}
 
 module _ (c d : Constraint) where
-  next-bit : (b z : ℕ) → (b ≡ 0 → ⊥) → nextPair c d (pairs c d) 1 z ≡ nextPair c d (pairs c d) b z
-  next-bit b z h = rw (allowed-bit c d b z h, leads-bit c d b z h)
-
   -- a bit leads from pair number i to the number of the pair to which it leads
   pub joined-after : (i b : ℕ) → i < length (pairs c d)
       → after (joined c d) i b ≡ nextPair c d (pairs c d) b (getD (pairs c d) i 0)
@@ -31,8 +28,8 @@ module _ (c d : Constraint) where
       go : Dec (b ≡ 0)
           → (if eqb b 0 then nextPair c d (pairs c d) 0 z else nextPair c d (pairs c d) 1 z)
           ≡ nextPair c d (pairs c d) b z
-      go (yes e) = rw (eq-eqb b 0 e, e)
-      go (no n) = rw (ne-eqb b 0 n) (next-bit b z n)
+      go (yes e) = rw (eq-eqb b 0 e)
+      go (no n) = rw (ne-eqb b 0 n)
 
   module _ (lc : Lawful c) (ld : Lawful d) (few : length (pairs c d) ≤ 16) where
     abbrev ps : List ℕ
@@ -60,20 +57,22 @@ module _ (c d : Constraint) where
     there : (bs : List ℕ) (i : ℕ) → i < length ps → Finds (joined c d) i bs
         → Finds c (getD ps i 0 / 16) bs × Finds d (getD ps i 0 % 16) bs
     there [] i h f = (tt, tt)
-    there (b ∷ bs) i h (n, f) = go (allowed c d b z) refl
+    there (b ∷ bs) i h (n, f) = go (allowed c d b z) refl (there bs)
       where
         z : ℕ
         z = getD ps i 0
 
-        go : (t : Bool) → allowed c d b z ≡ t → Finds c (z / 16) (b ∷ bs) × Finds d (z % 16) (b ∷ bs)
-        go true e =
+        go : (t : Bool) → allowed c d b z ≡ t → ((j : ℕ) → j < length ps → Finds (joined c d) j bs
+            → Finds c (getD ps j 0 / 16) bs × Finds d (getD ps j 0 % 16) bs)
+            → Finds c (z / 16) (b ∷ bs) × Finds d (z % 16) (b ∷ bs)
+        go true e on =
             let t : T (allowed c d b z) = subst T (sym e) tt in
             let (p, q) = allowed-both c d b z t in
             let (k, l) = leads z b (at i h) t in
-            let (f′, g) = there bs (nextPair c d ps b z) (goes z b (at i h) t)
+            let (f′, g) = on (nextPair c d ps b z) (goes z b (at i h) t)
             (subst (λ j. Finds (joined c d) j bs) (joined-after i b h) f) in
             ((p, rw k at f′), (q, rw l at g))
-        go false e = absurd (n (joined-after i b h ∙ rw e))
+        go false e on = absurd (n (joined-after i b h ∙ rw e))
 
     back : (bs : List ℕ) (i : ℕ) → i < length ps → Finds c (getD ps i 0 / 16) bs → Finds d (getD ps i 0 % 16) bs
         → Finds (joined c d) i bs
@@ -109,10 +108,10 @@ module _ (c d : Constraint) where
         go false e = inr (rw e)
 
     pub joined-lawful : Lawful (joined c d)
+    unfolding joined
     joined-lawful = record { some = rw length-joined pos; few = rw length-joined few; well = well }
       where
         well : Well (joined c d)
-        unfolding joined
         well =
             rw length-joined
             (each-image (λ r. Target (length ps) (r .zero) × Target (length ps) (r .one)) (joinedState c d ps) ps

@@ -44,7 +44,7 @@ module _ (z : ℕ) (ps : List ℕ) where
       go true e = subst T (sym e) tt
       go false e =
           rw (any-append (eqb z) ps (z ∷ []))
-          (→orR (elem z ps) (elem z (z ∷ [])) (→orL (eqb z z) false (subst T (sym (eqb-refl z)) tt)))
+          (→orR (elem z ps) (elem z (z ∷ [])) (→orL (eqb z z) false (eqb-refl z)))
 
   pub adjoin-each : (P : ℕ → Type 0) → Each P ps → P z → Each P (adjoin z ps)
   adjoin-each P h p = go (elem z ps)
@@ -61,7 +61,7 @@ module _ (z : ℕ) (ps : List ℕ) where
         | yes k ↦ absurd (subst T (ap (λ y. elem y ps) q ∙ e) (count→any (eqb x) ps k))
         | no k ↦ rw f (omega arith)
       ]
-      last e x (nay q f) = rw f (h x)
+      last e x (nay q f) = rw f (omega (arith, h x))
 
       go : (b : Bool) → elem z ps ≡ b → Once (if b then ps else ps ++ z ∷ [])
       go true e = h

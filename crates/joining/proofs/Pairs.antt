@@ -20,7 +20,7 @@ pair-back x y h = (digits-div x h, digits-mod x h)
 
 -- ---- one bit
 not-none : (s : ℕ) → T (not (eqb s none)) → s ≡ none → ⊥
-not-none s t e = subst T (ap not (ap (λ k. eqb k none) e ∙ eqb-refl none)) t
+not-none s t e = subst (λ k. T (not (eqb k none))) e t
 
 none-not : (s : ℕ) → (s ≡ none → ⊥) → T (not (eqb s none))
 none-not s h = go (eqb s none) refl
