@@ -1,14 +1,15 @@
 -- Two constraints joined allow what both allow, and are a lawful constraint.
--- In order: joined-after; goes, leads; there, back, joint; joined-lawful; joined-pairs, more-pairs.
+-- In order: joined-after; goes, leads; there, back, joined-finds, joint; length-joined, joined-lawful; joined-pairs,
+-- more-pairs.
 -- Assumes nothing.
-use Rattle.laws.proofs.All.{_≡_, refl, sym, ap, ap₂, subst, _∙_, _↔_, inl, inr, Bool, true, false, List, [], _∷_, map}
-use Rattle.laws.proofs.All.{ℕ, _+_, _*_, _/_, _%_, _≤_, _<_, arith, T, eqb, length, getD, length-map, getD-map-lt}
-use Rattle.laws.proofs.All.{if_then_else_, elem, indexOf, T→true, Each, Once, each-map, each-elem, each-image, index-lt}
+use Rattle.laws.proofs.All.{_≡_, refl, sym, ap, subst, _∙_, _↔_, inl, inr, Bool, true, false, List, _∷_}
+use Rattle.laws.proofs.All.{ℕ, _/_, _%_, _≤_, _<_, arith, T, eqb, length, getD, length-map, getD-map-lt}
+use Rattle.laws.proofs.All.{if_then_else_, elem, T→true, Each, Once, each-map, each-elem, each-image, index-lt}
 use Rattle.laws.proofs.All.{at-index, each-at, div-add-mod', decLt, ℕ-discrete, eq-eqb, ne-eqb, once-fits}
-use Rattle.constraint.specs.Walking.{none, NextStates, Constraint, nowhere, after, Target, Well, Lawful}
-use Rattle.constraint.specs.Follow.{follow, Finds}
+use Rattle.constraint.specs.Walking.{Constraint, nowhere, after, Target, Well, Lawful}
+use Rattle.constraint.specs.Follow.{Finds}
 use Rattle.joining.specs.Joined.{pairOf, allowed, leadsTo, pairs, nextPair, joinedState, joined, Reachable}
-use Rattle.joining.proofs.Lists.{grows-elem, grows-at, grows-long}
+use Rattle.joining.proofs.Lists.{grows-at, grows-long}
 use Rattle.joining.proofs.Pairs.{pair-back, allowed-both, both-allowed, after-small}
 use Rattle.joining.proofs.Pairs.{pairs-walks, pairs-closed, pairs-all}
 
@@ -84,19 +85,22 @@ module _ (c d : Constraint) where
         let m = goes z b (at i h) t in
         rw (joined-after i b h) ((λ e. omega arith), back bs (nextPair c d ps b z) m (rw k f) (rw l g))
 
+    -- a string is allowed from a pair exactly when both constraints allow it from their states of the pair
+    pub joined-finds : (i : ℕ) → i < length ps → (bs : List ℕ)
+        → Finds (joined c d) i bs ↔ (Finds c (getD ps i 0 / 16) bs × Finds d (getD ps i 0 % 16) bs)
+    joined-finds i h bs = (there bs i h, (λ (f, g). back bs i h f g))
+
     pos : 0 < length ps
     pos = grows-long (0 ∷ []) ps (pairs-walks c d lc ld .start)
 
     -- THEOREM: a string is allowed from the joint start exactly when both allow it from their states 0
     pub joint : (bs : List ℕ) → Finds (joined c d) 0 bs ↔ (Finds c 0 bs × Finds d 0 bs)
     joint bs =
-        let e : getD ps 0 0 ≡ 0 = grows-at (0 ∷ []) ps (pairs-walks c d lc ld .start) 0 0 (omega arith) in (
-          (λ f. rw e at (there bs 0 pos f)),
-          (λ (f, g). back bs 0 pos (rw e f) (rw e g)),
-        )
+        let e : getD ps 0 0 ≡ 0 = grows-at (0 ∷ []) ps (pairs-walks c d lc ld .start) 0 0 (omega arith) in
+        rw e at (joined-finds 0 pos bs)
 
     -- ---- the joined constraint
-    length-joined : length (joined c d) ≡ length ps
+    pub length-joined : length (joined c d) ≡ length ps
     unfolding joined
     length-joined = length-map ps (joinedState c d ps)
 
@@ -134,8 +138,8 @@ module _ (c d : Constraint) where
       (λ (zs, o, r, h). elim (decLt 16 (length (pairs c d))) [
         | yes k ↦ k
         | no k ↦
-          let few : length (pairs c d) ≤ 16 = omega arith in
-          absurd (omega (arith, once-fits zs (pairs c d) o (each-map _ (λ z. T (elem z (pairs c d))) (found few) zs r)))
+            let few : length (pairs c d) ≤ 16 = omega arith in
+            absurd (omega (arith, once-fits zs (pairs c d) o (each-map _ (λ z. T (elem z (pairs c d))) (found few) zs r)))
       ]),
     )
       where

@@ -2,16 +2,16 @@
 -- In order: pair-back; allowed-both, both-allowed, allowed-bit, leads-bit; reach-start, reach-step, reach-state;
 -- after-small; Walks, walk-one, walk-more, walks, pairs-walks; pairs-closed, pairs-all.
 -- Assumes nothing.
-use Rattle.laws.proofs.All.{_≡_, refl, sym, ap, ap₂, subst, subst₂, _∙_, inl, inr, Bool, true, false, not, _&&_, List, [], _∷_}
-use Rattle.laws.proofs.All.{_++_, ℕ, zero, suc, _+_, _*_, _/_, _%_, _≤_, _<_, zero-add, arith, decLt, ℕ-discrete, digits-div}
-use Rattle.laws.proofs.All.{digits-mod, T, ltb, eqb, eqb-refl, eqb→eq, ltb-true, ltb-false, length, getD}
+use Rattle.laws.proofs.All.{_≡_, refl, sym, ap, ap₂, subst, subst₂, _∙_, inl, inr, Bool, true, false, not, List, _∷_}
+use Rattle.laws.proofs.All.{_++_, ℕ, zero, suc, _+_, _/_, _%_, _≤_, _<_, zero-add, arith, decLt, ℕ-discrete, digits-div}
+use Rattle.laws.proofs.All.{digits-mod, T, ltb, eqb, eqb→eq, ltb-true, ltb-false, length, getD}
 use Rattle.laws.proofs.All.{if_then_else_, elem, indexOf, T→true, and→, →and, Each, Once, each-at, index-lt, at-index}
 use Rattle.constraint.specs.Walking.{none, Constraint, after, Target, Lawful}
 use Rattle.constraint.specs.Follow.{follow, Finds}
 use Rattle.constraint.proofs.Walking.{after-bit, after-target}
 use Rattle.constraint.proofs.Follow.{follow-state, finds-join, follow-append}
 use Rattle.joining.specs.Joined.{pairOf, allowed, leadsTo, adjoin, met, walked, walkedFrom, pairs, Reachable}
-use Rattle.joining.proofs.Lists.{Grows, grown, grows-trans, grows-elem, grows-at, grows-long, adjoin-grows}
+use Rattle.joining.proofs.Lists.{Grows, grown, grows-trans, grows-elem, grows-at, adjoin-grows}
 use Rattle.joining.proofs.Lists.{adjoin-elem, adjoin-each, adjoin-once}
 
 -- ---- a pair as one number
@@ -155,11 +155,11 @@ module _ (c d : Constraint) (lc : Lawful c) (ld : Lawful d) where
           → T (elem (leadsTo c d b (getD rs k 0)) rs)
       closed k b l _ = elim (decLt k i) [
         | yes u ↦
-          let s : k < length ps = omega arith in
-          rw (grows-at ps rs more k 0 s) (λ t. grows-elem ps rs more _ (w .closed k b u s t))
+            let s : k < length ps = omega arith in
+            rw (grows-at ps rs more k 0 s) (λ t. grows-elem ps rs more _ (w .closed k b u s t))
         | no u ↦
-          let e : k ≡ i = omega arith in
-          rw (e, grows-at ps rs more i 0 h) (new b (ℕ-discrete b 0))
+            let e : k ≡ i = omega arith in
+            rw (e, grows-at ps rs more i 0 h) (new b (ℕ-discrete b 0))
       ]
 
   walk-more : (i : ℕ) (ps : List ℕ) → Walks i ps → Walks (suc i) (walked c d i ps)
