@@ -2,7 +2,7 @@
 -- In order: joined-after; goes, leads; there, back, joined-finds, joint; length-joined, joined-lawful; joined-pairs,
 -- more-pairs.
 -- Assumes nothing.
-use Rattle.laws.proofs.All.{_≡_, refl, sym, ap, subst, _∙_, _↔_, inl, inr, Bool, true, false, List, _∷_}
+use Rattle.laws.proofs.All.{_≡_, refl, sym, ap, subst, _∙_, _↔_, inl, inr, Bool, true, false, List, [], _∷_}
 use Rattle.laws.proofs.All.{ℕ, _/_, _%_, _≤_, _<_, arith, T, eqb, length, getD, length-map, getD-map-lt}
 use Rattle.laws.proofs.All.{if_then_else_, elem, T→true, Each, Once, each-map, each-elem, each-image, index-lt}
 use Rattle.laws.proofs.All.{at-index, each-at, div-add-mod', decLt, ℕ-discrete, eq-eqb, ne-eqb, once-fits}

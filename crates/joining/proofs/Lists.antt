@@ -2,7 +2,7 @@
 -- In order: Grows, grown, grows-trans, grows-elem, grows-at, grows-long; adjoin-grows, adjoin-elem, adjoin-each,
 -- adjoin-once.
 -- Assumes nothing.
-use Rattle.laws.proofs.All.{_≡_, refl, sym, ap, subst, _∙_, Bool, true, false, List, _∷_, _++_, append-assoc}
+use Rattle.laws.proofs.All.{_≡_, refl, sym, ap, subst, _∙_, Bool, true, false, List, [], _∷_, _++_, append-assoc}
 use Rattle.laws.proofs.All.{append-nil, ℕ, _+_, _≤_, _<_, arith, decLt, T, eqb, eqb-refl, length, getD, length-append}
 use Rattle.laws.proofs.All.{List·getD-append, if_then_else_, elem, any-append, →orL, →orR, Each, each-append, Once}
 use Rattle.laws.proofs.All.{one, times, tot-append, count→any, Whether, so, nay, eqb-is}

@@ -2,7 +2,7 @@
 -- In order: pair-back; allowed-both, both-allowed, allowed-bit, leads-bit; reach-start, reach-step, reach-state;
 -- after-small; Walks, walk-one, walk-more, walks, pairs-walks; pairs-closed, pairs-all.
 -- Assumes nothing.
-use Rattle.laws.proofs.All.{_≡_, refl, sym, ap, ap₂, subst, subst₂, _∙_, inl, inr, Bool, true, false, not, List, _∷_}
+use Rattle.laws.proofs.All.{_≡_, refl, sym, ap, ap₂, subst, subst₂, _∙_, inl, inr, Bool, true, false, not, List, [], _∷_}
 use Rattle.laws.proofs.All.{_++_, ℕ, zero, suc, _+_, _/_, _%_, _≤_, _<_, zero-add, arith, decLt, ℕ-discrete, digits-div}
 use Rattle.laws.proofs.All.{digits-mod, T, ltb, eqb, eqb→eq, ltb-true, ltb-false, length, getD}
 use Rattle.laws.proofs.All.{if_then_else_, elem, indexOf, T→true, and→, →and, Each, Once, each-at, index-lt, at-index}
