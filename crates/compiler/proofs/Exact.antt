@@ -1,11 +1,11 @@
 -- When compiling a job is done, and exactly when it is refused with 4, 5 and 6.
--- In order: weighs-some; window-small, compile-done; not-none; heavy-exact, crowded-exact, window-exact; not-short;
--- refusals.
+-- In order: weighs-some; window-small, compile-done; not-none; heavy-exact, crowded-exact, window-exact;
+-- compile-refused; refusals.
 -- Assumes nothing.
 use Rattle.laws.proofs.All.{_≡_, sym, ap, subst, _∙_, inl, inr, _↔_, List, ℕ, _≤_, _<_, arith, decLt, le-leb}
 use Rattle.laws.proofs.All.{le-ltb, lt-ltb, length, getD, sum}
 use Rattle.answer.specs.declared.Refusal.{Refusal}
-use Rattle.answer.specs.declared.Refusal.the-variants.{NoCode, TooHeavy, TooManyEdges, NoWindow, ShortOutput}
+use Rattle.answer.specs.declared.Refusal.the-variants.{NoCode, TooHeavy, TooManyEdges, NoWindow}
 use Rattle.answer.specs.Refusals.{numberOf}
 use Rattle.answer.specs.Outcomes.{Outcome, done, refused}
 use Rattle.table.specs.Rows.{Size, Code}
@@ -91,20 +91,20 @@ module _ (j : Job) where
           → (sum (componentOf j .weights) ≤ 128) × (length (finishedOf j .arcs) ≤ 2048)
       there (windowless l few _) = (l, few)
 
-  -- compiling alone is never refused with 13
-  pub not-short : compile j ≡ refused ShortOutput → ⊥
-  not-short e = go (compile j) (reason j) (ap number e)
+  -- compiling alone is refused with 3 to 6 only
+  pub compile-refused : (r : Refusal) → compile j ≡ refused r → (3 ≤ numberOf r) × (numberOf r ≤ 6)
+  compile-refused r e = go (refused r) (subst (Reason j) e (reason j))
     where
       number : Outcome Code → ℕ
-      number (done c) = 0
+      number (done c) = 3
       number (refused r) = numberOf r
 
-      go : (o : Outcome Code) → Reason j o → number o ≡ 13 → ⊥
-      go _ (nothing _) q = omega arith
-      go _ (heavy _) q = omega arith
-      go _ (crowding _ _) q = omega arith
-      go _ (windowless _ _ _) q = omega arith
-      go _ (coded _ _ _ _) q = omega arith
+      go : (o : Outcome Code) → Reason j o → (3 ≤ number o) × (number o ≤ 6)
+      go _ (nothing _) = (omega arith, omega arith)
+      go _ (heavy _) = (omega arith, omega arith)
+      go _ (crowding _ _) = (omega arith, omega arith)
+      go _ (windowless _ _ _) = (omega arith, omega arith)
+      go _ (coded _ _ _ _) = (omega arith, omega arith)
 
   -- 4, 5 and 6, each exactly where it is due
   pub refusals : Allowed j → let w = sum (componentOf j .weights) in let e = length (finishedOf j .arcs) in

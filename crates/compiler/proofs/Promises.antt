@@ -1,5 +1,5 @@
 -- What compiling promises of its outcomes: where splitting ends, the least window, and records from bytes to bytes.
--- In order: split-ends; made-closed; least-window; no-window-exact; packed; job-passes, run-length-passes.
+-- In order: split-ends; made-closed; least-window; no-window-exact; packed.
 -- Assumes nothing.
 use Rattle.laws.proofs.All.{_≡_, refl, sym, ap, subst, _∙_, inl, inr, _↔_, List, [], ℕ, _≤_, _<_, arith, decLt}
 use Rattle.laws.proofs.All.{length, List·getD-eq-default, sum}
@@ -18,11 +18,9 @@ use Rattle.checker.specs.Parse.{parse}
 use Rattle.graph.specs.Arcs.{out}
 use Rattle.graph.proofs.Loop.{states-le, splitted-end, splitted-full}
 use Rattle.windowing.proofs.Windowed.{window-found}
-use Rattle.job.specs.Jobs.{Job, readJob, readRunLength, Allowed}
+use Rattle.job.specs.Jobs.{Job, Allowed}
 use Rattle.compiler.specs.Compile.{ways, componentOf, finishedOf, tableFor, code, compile, compileInto}
-use Rattle.compiler.specs.Compile.{compileJob, compileRunLength}
 use Rattle.compiler.proofs.Compiled.{live-some, first-inv}
-use Rattle.job.proofs.Jobs.{readJob-allowed, readRunLength-allowed}
 use Rattle.compiler.proofs.Compile.{ways-pos, Reason, reason, nothing, heavy, crowding, windowless, coded}
 use Rattle.compiler.proofs.Accepted.{Made, made, compile-parses}
 
@@ -119,27 +117,10 @@ no-window-exact j a h light few = (there, here)
     here f = pick (compile j) (reason j) f
 
 -- ---- from bytes to bytes
-packed : (j : Job) → Allowed j → (room : ℕ) (r : List ℕ) → compileInto room j ≡ done r
+pub packed : (j : Job) → Allowed j → (room : ℕ) (r : List ℕ) → compileInto room j ≡ done r
     → (c : Code) × (compile j ≡ done c) × (pack c ≡ r) × (parse r ≡ done c)
 unfolding packInto
 packed j a room r e =
     let (c, q, f) = onward→ (compile j) (λ c. packInto c room) r e in
     let (_, p) = fitting→ room (pack c) r f in
     (c, q, p, ap parse (sym p) ∙ compile-parses j a c q)
-
--- the record of a job passes the checker, and is read as the code that was compiled
-pub job-passes : (xs : List ℕ) (room : ℕ) (r : List ℕ) → compileJob xs room ≡ done r
-    → (j : Job) × (c : Code) × (readJob xs ≡ done j) × (compile j ≡ done c) × (pack c ≡ r) × (parse r ≡ done c)
-unfolding compileJob
-job-passes xs room r e =
-    let (j, q, f) = onward→ (readJob xs) (compileInto room) r e in
-    let (c, k, p, s) = packed j (readJob-allowed xs j q) room r f in
-    (j, c, q, k, p, s)
-
-pub run-length-passes : (xs : List ℕ) (room : ℕ) (r : List ℕ) → compileRunLength xs room ≡ done r
-    → (j : Job) × (c : Code) × (readRunLength xs ≡ done j) × (compile j ≡ done c) × (pack c ≡ r) × (parse r ≡ done c)
-unfolding compileRunLength
-run-length-passes xs room r e =
-    let (j, q, f) = onward→ (readRunLength xs) (compileInto room) r e in
-    let (c, k, p, s) = packed j (readRunLength-allowed xs j q) room r f in
-    (j, c, q, k, p, s)

@@ -1,14 +1,14 @@
--- When compiling ends in a record, and exactly when it is refused with 3 to 6 and 13, from bytes to bytes.
--- In order: written-from, refused-from, short-from, none-from; as-onward, as-early, as-allowed; written, calls, none,
--- short, never-short; passes.
+-- When compiling ends in a record, and exactly when it is refused with 3 to 6, 13 and 14, from bytes to bytes.
+-- In order: written-from, refused-from, short-from, pairs-from, none-from; as-onward, as-early, as-allowed; written,
+-- calls, none, short, too-many, never-short; passes.
 -- Assumes nothing.
 use Rattle.laws.proofs.All.{_≡_, refl, sym, ap, _∙_, _⊎_, inl, inr, _↔_, List, ℕ, _≤_, _<_, arith, lt-leb, length}
 use Rattle.laws.proofs.All.{getD, sum}
 use Rattle.answer.specs.declared.Refusal.{Refusal}
-use Rattle.answer.specs.declared.Refusal.the-variants.{NoCode, ShortOutput}
+use Rattle.answer.specs.declared.Refusal.the-variants.{NoCode, ShortOutput, TooManyPairs}
 use Rattle.answer.specs.Refusals.{numberOf}
 use Rattle.answer.specs.Outcomes.{Outcome, done, refused, onward, fitting}
-use Rattle.answer.proofs.Outcomes.{fitting-true}
+use Rattle.answer.proofs.Outcomes.{onward→, fitting-true}
 use Rattle.table.specs.Rows.{Size, Code}
 use Rattle.table.proofs.Formed.{formed→}
 use Rattle.windows.specs.Window.{Window}
@@ -18,15 +18,15 @@ use Rattle.checker.specs.Parse.{parse}
 use Rattle.record.proofs.RecordBytes.{pack-short}
 use Rattle.job.specs.Jobs.{Job, Allowed}
 use Rattle.compiler.specs.Compile.{Vector, componentOf, finishedOf, tableFor, code, compile, compileInto}
-use Rattle.compiler.specs.Compile.{compileJob, compileRunLength}
-use Rattle.compiler.specs.Kinds.{Kind, general, run-length, readAs, compileAs}
-use Rattle.job.proofs.Jobs.{readJob-allowed, readRunLength-allowed}
+use Rattle.compiler.specs.Compile.{compileJob, compileRunLength, compileJoined}
+use Rattle.compiler.specs.Kinds.{Kind, general, run-length, joined, readAs, compileAs}
+use Rattle.job.proofs.Jobs.{readJob-allowed, readRunLength-allowed, readJoined-allowed}
 use Rattle.compiler.proofs.Compile.{no-code-exact}
 use Rattle.compiler.proofs.Accepted.{compiled-passes}
-use Rattle.compiler.proofs.Promises.{job-passes, run-length-passes}
+use Rattle.compiler.proofs.Promises.{packed}
 use Rattle.answer.proofs.RefusedOutcomes.{onward-refused, fitting-refused}
-use Rattle.compiler.proofs.Early.{Early, read-early, run-length-early}
-use Rattle.compiler.proofs.Exact.{weighs-some, compile-done, not-short}
+use Rattle.compiler.proofs.Early.{Early, early-not, read-early, run-length-early, joined-early}
+use Rattle.compiler.proofs.Exact.{weighs-some, compile-done, compile-refused}
 
 -- o is the reading of a job
 module _ (o : Outcome Job) (early : (r : Refusal) → o ≡ refused r → Early r) (room : ℕ) where
@@ -61,7 +61,7 @@ module _ (o : Outcome Job) (early : (r : Refusal) → o ≡ refused r → Early 
     where
       there : onward o (compileInto room) ≡ refused r → (j : Job) × (o ≡ done j) × (compile j ≡ refused r)
       there e =
-          let (j, p, s) = from-refused r (λ k. elim k [ inl u ↦ omega arith | inr u ↦ omega arith ]) e in elim s [
+          let (j, p, s) = from-refused r (λ k. omega (arith, early-not r k .0 l)) e in elim s [
             | inl q ↦ (j, p, q)
             | inr (c, _, q) ↦ absurd (let n = ap numberOf (fitting-refused room (pack c) r q .0) in omega arith)
           ]
@@ -75,11 +75,26 @@ module _ (o : Outcome Job) (early : (r : Refusal) → o ≡ refused r → Early 
       there : onward o (compileInto room) ≡ refused ShortOutput
           → (j : Job) × (c : Code) × (o ≡ done j) × (compile j ≡ done c) × (room < length (pack c))
       there e =
-          let (j, p, s) = from-refused ShortOutput (λ k. elim k [ inl u ↦ omega arith | inr u ↦ omega arith ]) e in
+          let (j, p, s) = from-refused ShortOutput (λ k. early-not ShortOutput k .1 refl) e in
           elim s [
-            | inl q ↦ absurd (not-short j q)
+            | inl q ↦ absurd (omega (arith, compile-refused j ShortOutput q))
             | inr (c, q, k) ↦ (j, c, p, q, fitting-refused room (pack c) ShortOutput k .1)
           ]
+
+  -- 14 comes from reading
+  pairs-from : (onward o (compileInto room) ≡ refused TooManyPairs) ↔ (o ≡ refused TooManyPairs)
+  unfolding packInto
+  pairs-from = (there, (λ e. rw e))
+    where
+      there : onward o (compileInto room) ≡ refused TooManyPairs → o ≡ refused TooManyPairs
+      there e = elim (onward-refused o (compileInto room) TooManyPairs e) [
+        | inl q ↦ q
+        | inr (j, p, q) ↦ elim (onward-refused (compile j) (λ c. packInto c room) TooManyPairs q) [
+          | inl u ↦ absurd (omega (arith, compile-refused j TooManyPairs u))
+          | inr (c, _, u) ↦
+            absurd (let n = ap numberOf (fitting-refused room (pack c) TooManyPairs u .0) in omega arith)
+        ]
+      ]
 
   module _ (allowed : (j : Job) → o ≡ done j → Allowed j) where
     none-from : (onward o (compileInto room) ≡ refused NoCode)
@@ -90,20 +105,23 @@ module _ (o : Outcome Job) (early : (r : Refusal) → o ≡ refused r → Early 
           (λ (j, p, q). g (j, p, no-code-exact j (allowed j p) .1 q)),
         )
 
--- ---- both kinds of job
+-- ---- all kinds of job
 as-onward : (k : Kind) (xs : List ℕ) (room : ℕ) → onward (readAs k xs) (compileInto room) ≡ compileAs k xs room
-unfolding compileJob compileRunLength
+unfolding compileJob compileRunLength compileJoined
 as-onward general xs room = refl
 as-onward run-length xs room = refl
+as-onward joined xs room = refl
 
 as-early : (k : Kind) (xs : List ℕ) (r : Refusal) → readAs k xs ≡ refused r → Early r
 as-early general xs = read-early xs
 as-early run-length xs = run-length-early xs
+as-early joined xs = joined-early xs
 
 -- a job that is read is allowed
 pub as-allowed : (k : Kind) (xs : List ℕ) (j : Job) → readAs k xs ≡ done j → Allowed j
 as-allowed general xs = readJob-allowed xs
 as-allowed run-length xs = readRunLength-allowed xs
+as-allowed joined xs = readJoined-allowed xs
 
 module _ (k : Kind) (xs : List ℕ) (room : ℕ) where
   -- the record is written where none of the refusals is due
@@ -129,6 +147,10 @@ module _ (k : Kind) (xs : List ℕ) (room : ℕ) where
       ↔ ((j : Job) × (c : Code) × (readAs k xs ≡ done j) × (compile j ≡ done c) × (room < length (pack c)))
   short = rw (as-onward k xs room) at (short-from (readAs k xs) (as-early k xs) room)
 
+  -- 14 is that of reading the job
+  pub too-many : (compileAs k xs room ≡ refused TooManyPairs) ↔ (readAs k xs ≡ refused TooManyPairs)
+  too-many = rw (as-onward k xs room) at (pairs-from (readAs k xs) (as-early k xs) room)
+
   -- with room for the longest record 13 never comes
   pub never-short : 3864 ≤ room → compileAs k xs room ≡ refused ShortOutput → ⊥
   never-short h e =
@@ -136,8 +158,10 @@ module _ (k : Kind) (xs : List ℕ) (room : ℕ) where
       let f = formed→ c (compiled-passes j (as-allowed k xs j p) c q .formed) in
       omega (arith, pack-short c f)
 
--- the record of a job of either kind passes the checker, and is read as the code that was compiled
+-- the record of a job passes the checker, and is read as the code that was compiled
 pub passes : (k : Kind) (xs : List ℕ) (room : ℕ) (r : List ℕ) → compileAs k xs room ≡ done r
     → (j : Job) × (c : Code) × (readAs k xs ≡ done j) × (compile j ≡ done c) × (pack c ≡ r) × (parse r ≡ done c)
-passes general = job-passes
-passes run-length = run-length-passes
+passes k xs room r e =
+    let (j, q, f) = onward→ (readAs k xs) (compileInto room) r (as-onward k xs room ∙ e) in
+    let (c, p, s, t) = packed j (as-allowed k xs j q) room r f in
+    (j, c, q, p, s, t)
