@@ -1,3 +1,1 @@
-pub mod Lists
-pub mod Pairs
-pub mod Joined
+pub mod PairLists

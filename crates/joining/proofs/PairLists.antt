@@ -1,0 +1,114 @@
+-- Laws of the list of pairs that the struct holds, and of its walks.
+-- In order: index-here, index-later, index-end, a pair looked for; adjoin-old, adjoin-new; pairs-long, pairs-at,
+-- pairs-more, pairs-map; allowed-no, allowed-second, leads-small; met-no, met-yes; walked-past, walked-at; walked-step,
+-- walked-start, walked-end.
+-- Assumes nothing.
+use Rattle.laws.proofs.All.{_≡_, refl, sym, ap, subst, _∙_, inl, inr, Bool, true, false, not, _&&_, _||_, List, []}
+use Rattle.laws.proofs.All.{_∷_, _++_, map, ℕ, suc, _+_, _*_, _-_, _/_, _%_, _≤_, _<_, add-one, zero-le, suc-le-suc}
+use Rattle.laws.proofs.All.{le-of-suc-le-suc, arith, lt-ltb, le-ltb, eq-eqb, ne-eqb, T, eqb, length, getD, take, drop}
+use Rattle.laws.proofs.All.{set, drop-of-length-le, drop-cons, length-take-le, getD-take, take-suc-set}
+use Rattle.laws.proofs.All.{if_then_else_, elem, indexOf, range, index-lt, and→, map-places, map-range-same}
+use Rattle.constraint.specs.Walking.{none, Constraint, after, Target, Lawful}
+use Rattle.constraint.proofs.Walking.{after-target}
+use Rattle.joining.specs.declared.PairList.{PairList}
+use Rattle.joining.specs.Joined.{allowed, leadsTo, adjoin, met, walked, walkedFrom, pairs}
+use Rattle.joining.specs.PairLists.{pairsIn}
+
+-- ---- a number looked for from place i on
+module _ (z : ℕ) (l : List ℕ) (i : ℕ) where
+  pub index-here : i < length l → getD l i 0 ≡ z → indexOf z (drop i l) ≡ 0
+  index-here h e = rw (drop-cons l i 0, eq-eqb z (getD l i 0) (sym e))
+
+  pub index-later : i < length l → (getD l i 0 ≡ z → ⊥) → indexOf z (drop i l) ≡ suc (indexOf z (drop (i + 1) l))
+  index-later h n = rw (drop-cons l i 0, ne-eqb z (getD l i 0) (λ e. n (sym e)), add-one)
+
+  pub index-end : length l ≤ i → indexOf z (drop i l) ≡ 0
+  index-end h = rw (drop-of-length-le l h)
+
+-- ---- a number adjoined
+index-elem : (z : ℕ) (l : List ℕ) → indexOf z l < length l → elem z l ≡ true
+index-elem z [] h = absurd (omega arith)
+index-elem z (y ∷ l) h = go (eqb z y) h (index-elem z l)
+  where
+    go : (b : Bool) → (if b then 0 else suc (indexOf z l)) < suc (length l)
+        → (indexOf z l < length l → elem z l ≡ true) → (b || elem z l) ≡ true
+    go true h f = refl
+    go false h f = f (le-of-suc-le-suc h)
+
+module _ (z : ℕ) (l : List ℕ) where
+  pub adjoin-old : indexOf z l < length l → adjoin z l ≡ l
+  adjoin-old h = rw (index-elem z l h)
+
+  pub adjoin-new : length l ≤ indexOf z l → adjoin z l ≡ l ++ z ∷ []
+  adjoin-new h = go (elem z l) refl
+    where
+      go : (b : Bool) → elem z l ≡ b → (if b then l else l ++ z ∷ []) ≡ l ++ z ∷ []
+      go true e = absurd (omega (arith, index-lt z l (subst T (sym e) tt)))
+      go false e = refl
+
+-- ---- the pairs of the struct
+module _ (ps : PairList) where
+  pub pairs-long : ps .count ≤ length (ps .pair) → length (pairsIn ps) ≡ ps .count
+  pairs-long h = length-take-le (ps .count) (ps .pair) h
+
+  pub pairs-at : (i : ℕ) → i < ps .count → getD (pairsIn ps) i 0 ≡ getD (ps .pair) i 0
+  pairs-at i h = getD-take (ps .count) (ps .pair) i 0 h
+
+  -- one pair more
+  pub pairs-more : (z : ℕ) → ps .count < length (ps .pair)
+      → take (ps .count + 1) (set (ps .pair) (ps .count) z) ≡ pairsIn ps ++ z ∷ []
+  pairs-more z h = rw add-one (take-suc-set (ps .pair) (ps .count) z h)
+
+  pub pairs-map : {A : Type 0} (d : A) (f : ℕ → A) → ps .count ≤ length (ps .pair)
+      → map f (pairsIn ps) ≡ map (λ k. f (getD (ps .pair) k 0)) (range (ps .count))
+  pairs-map d f h =
+      map-places 0 d f (pairsIn ps)
+      ∙ ap (λ n. map (λ k. f (getD (pairsIn ps) k 0)) (range n)) (pairs-long h)
+      ∙ map-range-same _ _ (ps .count) (λ i l. ap f (pairs-at i l))
+
+-- ---- one bit from a pair
+-- a state to which a bit leads is below 16
+small : (c : Constraint) → Lawful c → (s b : ℕ) → T (not (eqb (after c s b) none)) → after c s b < 16
+small c l s b t = go (after-target c (l .well) s b)
+  where
+    go : Target (length c) (after c s b) → after c s b < 16
+    go (inl h) = let f = l .few in omega arith
+    go (inr e) = absurd (subst T (ap (λ k. not (eqb k none)) e) t)
+
+module _ (c d : Constraint) (b z : ℕ) where
+  pub allowed-no : after c (z / 16) b ≡ none → allowed c d b z ≡ false
+  allowed-no e = ap (λ t. not t && not (eqb (after d (z % 16) b) none)) (eq-eqb (after c (z / 16) b) none e)
+
+  pub allowed-second : (after c (z / 16) b ≡ none → ⊥) → allowed c d b z ≡ not (eqb (after d (z % 16) b) none)
+  allowed-second n = ap (λ t. not t && not (eqb (after d (z % 16) b) none)) (ne-eqb (after c (z / 16) b) none n)
+
+  pub leads-small : Lawful c → Lawful d → allowed c d b z ≡ true
+      → (after c (z / 16) b < 16) × (after d (z % 16) b < 16)
+  leads-small lc ld e =
+      let (p, q) = and→ (not (eqb (after c (z / 16) b) none)) (not (eqb (after d (z % 16) b) none))
+      (subst T (sym e) tt) in
+      (small c lc (z / 16) b p, small d ld (z % 16) b q)
+
+  -- ---- the list after one bit
+  pub met-no : (l : List ℕ) → allowed c d b z ≡ false → met c d b z l ≡ l
+  met-no l e = ap (λ t. if t then adjoin (leadsTo c d b z) l else l) e
+
+  pub met-yes : (l : List ℕ) → allowed c d b z ≡ true → met c d b z l ≡ adjoin (leadsTo c d b z) l
+  met-yes l e = ap (λ t. if t then adjoin (leadsTo c d b z) l else l) e
+
+-- ---- the list after one pair, and after more
+module _ (c d : Constraint) (l : List ℕ) (i : ℕ) where
+  pub walked-past : length l ≤ i → walked c d i l ≡ l
+  walked-past h =
+      let z = getD l i 0 in ap (λ t. if t then met c d 1 z (met c d 0 z l) else l) (le-ltb i (length l) h)
+
+  pub walked-at : i < length l → walked c d i l ≡ met c d 1 (getD l i 0) (met c d 0 (getD l i 0) l)
+  walked-at h =
+      let z = getD l i 0 in ap (λ t. if t then met c d 1 z (met c d 0 z l) else l) (lt-ltb i (length l) h)
+
+  pub walked-step : (n : ℕ) → i < n
+      → walkedFrom c d (n - i) i l ≡ walkedFrom c d (n - (i + 1)) (i + 1) (walked c d i l)
+  walked-step n h =
+      let e : n - i ≡ suc (n - (i + 1)) = omega arith in
+      ap (λ k. walkedFrom c d k i l) e
+      ∙ ap (λ k. walkedFrom c d (n - (i + 1)) k (walked c d i l)) (sym (add-one i))
