@@ -11,7 +11,8 @@ use Rattle.laws.proofs.All.{if_then_else_, elem, indexOf, range, index-lt, and�
 use Rattle.constraint.specs.Walking.{none, Constraint, after, Target, Lawful}
 use Rattle.constraint.proofs.Walking.{after-target}
 use Rattle.joining.specs.declared.PairList.{PairList}
-use Rattle.joining.specs.Joined.{allowed, leadsTo, adjoin, met, walked, walkedFrom, pairs}
+use Rattle.joining.specs.Joined.{allowed, leadsTo, adjoin, met, walked, walkedFrom}
+use Rattle.joining.specs.Joined.{pairs, nextPair}
 use Rattle.joining.specs.PairLists.{pairsIn}
 
 -- ---- a number looked for from place i on
@@ -95,6 +96,13 @@ module _ (c d : Constraint) (b z : ℕ) where
 
   pub met-yes : (l : List ℕ) → allowed c d b z ≡ true → met c d b z l ≡ adjoin (leadsTo c d b z) l
   met-yes l e = ap (λ t. if t then adjoin (leadsTo c d b z) l else l) e
+
+  -- ---- the number of the pair behind one bit
+  pub next-no : (l : List ℕ) → allowed c d b z ≡ false → nextPair c d l b z ≡ none
+  next-no l e = ap (λ t. if t then indexOf (leadsTo c d b z) l else none) e
+
+  pub next-yes : (l : List ℕ) → allowed c d b z ≡ true → nextPair c d l b z ≡ indexOf (leadsTo c d b z) l
+  next-yes l e = ap (λ t. if t then indexOf (leadsTo c d b z) l else none) e
 
 -- ---- the list after one pair, and after more
 module _ (c d : Constraint) (l : List ℕ) (i : ℕ) where
