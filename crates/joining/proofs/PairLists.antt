@@ -110,13 +110,26 @@ module _ (c d : Constraint) (l : List ℕ) (i : ℕ) where
   walked-past h =
       let z = getD l i 0 in ap (λ t. if t then met c d 1 z (met c d 0 z l) else l) (le-ltb i (length l) h)
 
-  pub walked-at : i < length l → walked c d i l ≡ met c d 1 (getD l i 0) (met c d 0 (getD l i 0) l)
-  walked-at h =
-      let z = getD l i 0 in ap (λ t. if t then met c d 1 z (met c d 0 z l) else l) (lt-ltb i (length l) h)
+  pub walked-at : (z : ℕ) (q r : List ℕ) → i < length l → getD l i 0 ≡ z → q ≡ met c d 0 z l → r ≡ met c d 1 z q
+      → r ≡ walked c d i l
+  walked-at z q r h e f g =
+      let y = getD l i 0 in
+      g ∙ ap (met c d 1 z) f
+      ∙ sym (ap (λ t. if t then met c d 1 y (met c d 0 y l) else l) (lt-ltb i (length l) h)
+      ∙ ap (λ x. met c d 1 x (met c d 0 x l)) e)
 
-  pub walked-step : (n : ℕ) → i < n
-      → walkedFrom c d (n - i) i l ≡ walkedFrom c d (n - (i + 1)) (i + 1) (walked c d i l)
-  walked-step n h =
-      let e : n - i ≡ suc (n - (i + 1)) = omega arith in
-      ap (λ k. walkedFrom c d k i l) e
-      ∙ ap (λ k. walkedFrom c d (n - (i + 1)) k (walked c d i l)) (sym (add-one i))
+  -- the walks that are left lead to the same list
+  pub walked-on : (n : ℕ) (q all : List ℕ) → i < n → q ≡ walked c d i l → walkedFrom c d (n - i) i l ≡ all
+      → walkedFrom c d (n - (i + 1)) (i + 1) q ≡ all
+  walked-on n q all h e f =
+      let k : suc (n - (i + 1)) ≡ n - i = omega arith in
+      ap (walkedFrom c d (n - (i + 1)) (i + 1)) e
+      ∙ ap (λ j. walkedFrom c d (n - (i + 1)) j (walked c d i l)) (add-one i)
+      ∙ ap (λ k. walkedFrom c d k i l) k ∙ f
+
+  pub walked-end : (n : ℕ) → n ≤ i → walkedFrom c d (n - i) i l ≡ l
+  walked-end n h = let k : n - i ≡ 0 = omega arith in ap (λ k. walkedFrom c d k i l) k
+
+pub pairs-start : (c d : Constraint) → walkedFrom c d (16 - 0) 0 (0 ∷ []) ≡ pairs c d
+unfolding pairs
+pairs-start c d = refl
