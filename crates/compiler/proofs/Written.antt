@@ -92,7 +92,7 @@ module _ (o : Outcome Job) (early : (r : Refusal) → o ≡ refused r → Early 
         | inr (j, p, q) ↦ elim (onward-refused (compile j) (λ c. packInto c room) TooManyPairs q) [
           | inl u ↦ absurd (omega (arith, compile-refused j TooManyPairs u))
           | inr (c, _, u) ↦
-            absurd (let n = ap numberOf (fitting-refused room (pack c) TooManyPairs u .0) in omega arith)
+              absurd (let n = ap numberOf (fitting-refused room (pack c) TooManyPairs u .0) in omega arith)
         ]
       ]
 

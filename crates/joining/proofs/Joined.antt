@@ -8,9 +8,10 @@ use Rattle.laws.proofs.All.{if_then_else_, elem, T→true, Each, Once, each-map
 use Rattle.laws.proofs.All.{at-index, each-at, div-add-mod', decLt, ℕ-discrete, eq-eqb, ne-eqb, once-fits}
 use Rattle.constraint.specs.Walking.{Constraint, nowhere, after, Target, Well, Lawful}
 use Rattle.constraint.specs.Follow.{Finds}
+use Rattle.constraint.proofs.Walking.{after-small}
 use Rattle.joining.specs.Joined.{pairOf, allowed, leadsTo, pairs, nextPair, joinedState, joined, Reachable}
 use Rattle.joining.proofs.Lists.{grows-at, grows-long}
-use Rattle.joining.proofs.Pairs.{pair-back, allowed-both, both-allowed, after-small}
+use Rattle.joining.proofs.Pairs.{pair-back, allowed-both, both-allowed}
 use Rattle.joining.proofs.Pairs.{pairs-walks, pairs-closed, pairs-all}
 
 module _ (c d : Constraint) where
@@ -49,7 +50,7 @@ module _ (c d : Constraint) where
         let e = at-index (leadsTo c d b z) ps (pairs-closed c d lc ld few z b u t) in
         rw (T→true (allowed c d b z) t, e)
         (pair-back (after c (z / 16) b) (after d (z % 16) b)
-        (after-small c d lc ld (z % 16) b (allowed-both c d b z t .1)))
+        (after-small d ld (z % 16) b (allowed-both c d b z t .1)))
 
     -- ---- strings from pair number i
     at : (i : ℕ) → i < length ps → T (elem (getD ps i 0) ps)

@@ -1,1 +1,4 @@
+pub mod Lists
+pub mod Pairs
+pub mod Joined
 pub mod PairLists

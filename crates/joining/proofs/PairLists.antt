@@ -1,19 +1,19 @@
 -- Laws of the list of pairs that the struct holds, and of its walks.
 -- In order: index-here, index-later, index-end, a pair looked for; adjoin-old, adjoin-new; pairs-long, pairs-at,
--- pairs-more, pairs-map; allowed-no, allowed-second, leads-small; met-no, met-yes; walked-past, walked-at; walked-step,
--- walked-start, walked-end.
+-- pairs-more, pairs-map; allowed-no, allowed-second, leads-small; met-no, met-yes; next-no, next-yes; walked-past,
+-- walked-at; walked-on, walked-end; pairs-start.
 -- Assumes nothing.
-use Rattle.laws.proofs.All.{_≡_, refl, sym, ap, subst, _∙_, inl, inr, Bool, true, false, not, _&&_, _||_, List, []}
-use Rattle.laws.proofs.All.{_∷_, _++_, map, ℕ, suc, _+_, _*_, _-_, _/_, _%_, _≤_, _<_, add-one, zero-le, suc-le-suc}
+use Rattle.laws.proofs.All.{_≡_, refl, sym, ap, subst, _∙_, Bool, true, false, not, _&&_, _||_, List, []}
+use Rattle.laws.proofs.All.{_∷_, _++_, map, ℕ, suc, _+_, _-_, _/_, _%_, _≤_, _<_, add-one}
 use Rattle.laws.proofs.All.{le-of-suc-le-suc, arith, lt-ltb, le-ltb, eq-eqb, ne-eqb, T, eqb, length, getD, take, drop}
 use Rattle.laws.proofs.All.{set, drop-of-length-le, drop-cons, length-take-le, getD-take, take-suc-set}
-use Rattle.laws.proofs.All.{if_then_else_, elem, indexOf, range, index-lt, and→, map-places, map-range-same}
-use Rattle.constraint.specs.Walking.{none, Constraint, after, Target, Lawful}
-use Rattle.constraint.proofs.Walking.{after-target}
+use Rattle.laws.proofs.All.{if_then_else_, elem, indexOf, range, index-lt, map-places, map-range-same}
+use Rattle.constraint.specs.Walking.{none, Constraint, after, Lawful}
+use Rattle.constraint.proofs.Walking.{after-small}
 use Rattle.joining.specs.declared.PairList.{PairList}
-use Rattle.joining.specs.Joined.{allowed, leadsTo, adjoin, met, walked, walkedFrom}
-use Rattle.joining.specs.Joined.{pairs, nextPair}
+use Rattle.joining.specs.Joined.{allowed, leadsTo, adjoin, met, walked, walkedFrom, pairs, nextPair}
 use Rattle.joining.specs.PairLists.{pairsIn}
+use Rattle.joining.proofs.Pairs.{allowed-both}
 
 -- ---- a number looked for from place i on
 module _ (z : ℕ) (l : List ℕ) (i : ℕ) where
@@ -68,14 +68,6 @@ module _ (ps : PairList) where
       ∙ map-range-same _ _ (ps .count) (λ i l. ap f (pairs-at i l))
 
 -- ---- one bit from a pair
--- a state to which a bit leads is below 16
-small : (c : Constraint) → Lawful c → (s b : ℕ) → T (not (eqb (after c s b) none)) → after c s b < 16
-small c l s b t = go (after-target c (l .well) s b)
-  where
-    go : Target (length c) (after c s b) → after c s b < 16
-    go (inl h) = let f = l .few in omega arith
-    go (inr e) = absurd (subst T (ap (λ k. not (eqb k none)) e) t)
-
 module _ (c d : Constraint) (b z : ℕ) where
   pub allowed-no : after c (z / 16) b ≡ none → allowed c d b z ≡ false
   allowed-no e = ap (λ t. not t && not (eqb (after d (z % 16) b) none)) (eq-eqb (after c (z / 16) b) none e)
@@ -86,9 +78,8 @@ module _ (c d : Constraint) (b z : ℕ) where
   pub leads-small : Lawful c → Lawful d → allowed c d b z ≡ true
       → (after c (z / 16) b < 16) × (after d (z % 16) b < 16)
   leads-small lc ld e =
-      let (p, q) = and→ (not (eqb (after c (z / 16) b) none)) (not (eqb (after d (z % 16) b) none))
-      (subst T (sym e) tt) in
-      (small c lc (z / 16) b p, small d ld (z % 16) b q)
+      let (p, q) = allowed-both c d b z (subst T (sym e) tt) in
+      (after-small c lc (z / 16) b p, after-small d ld (z % 16) b q)
 
   -- ---- the list after one bit
   pub met-no : (l : List ℕ) → allowed c d b z ≡ false → met c d b z l ≡ l

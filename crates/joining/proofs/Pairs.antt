@@ -1,14 +1,14 @@
 -- The pairs of two constraints are exactly the reachable ones, each once.
 -- In order: pair-back; allowed-both, both-allowed, allowed-bit, leads-bit; reach-start, reach-step, reach-state;
--- after-small; Walks, walk-one, walk-more, walks, pairs-walks; pairs-closed, pairs-all.
+-- Walks, walk-one, walk-more, walks, pairs-walks; pairs-closed, pairs-all.
 -- Assumes nothing.
-use Rattle.laws.proofs.All.{_≡_, refl, sym, ap, ap₂, subst, subst₂, _∙_, inl, inr, Bool, true, false, not, List, [], _∷_}
+use Rattle.laws.proofs.All.{_≡_, refl, sym, ap, ap₂, subst, subst₂, _∙_, Bool, true, false, not, List, [], _∷_}
 use Rattle.laws.proofs.All.{_++_, ℕ, zero, suc, _+_, _/_, _%_, _≤_, _<_, zero-add, arith, decLt, ℕ-discrete, digits-div}
 use Rattle.laws.proofs.All.{digits-mod, T, ltb, eqb, eqb→eq, ltb-true, ltb-false, length, getD}
 use Rattle.laws.proofs.All.{if_then_else_, elem, indexOf, T→true, and→, →and, Each, Once, each-at, index-lt, at-index}
-use Rattle.constraint.specs.Walking.{none, Constraint, after, Target, Lawful}
+use Rattle.constraint.specs.Walking.{none, Constraint, after, Lawful}
 use Rattle.constraint.specs.Follow.{follow, Finds}
-use Rattle.constraint.proofs.Walking.{after-bit, after-target}
+use Rattle.constraint.proofs.Walking.{after-bit, after-small}
 use Rattle.constraint.proofs.Follow.{follow-state, finds-join, follow-append}
 use Rattle.joining.specs.Joined.{pairOf, allowed, leadsTo, adjoin, met, walked, walkedFrom, pairs, Reachable}
 use Rattle.joining.proofs.Lists.{Grows, grown, grows-trans, grows-elem, grows-at, adjoin-grows}
@@ -68,14 +68,6 @@ module _ (c d : Constraint) (lc : Lawful c) (ld : Lawful d) where
     subst (λ k. k < length d) (r .y-is) (follow-state d (ld .well) (r .bits) 0 (ld .some) (r .second)),
   )
 
-  -- a state to which a bit leads is below 16
-  pub after-small : (s b : ℕ) → (after d s b ≡ none → ⊥) → after d s b < 16
-  after-small s b n = go (after-target d (ld .well) s b)
-    where
-      go : Target (length d) (after d s b) → after d s b < 16
-      go (inl h) = let l = ld .few in omega arith
-      go (inr e) = absurd (n e)
-
   -- what holds of the list when the pairs numbered below i are walked
   pub record Walks (i : ℕ) (ps : List ℕ) : Type 0 where
     pub once : Once ps
@@ -89,7 +81,7 @@ module _ (c d : Constraint) (lc : Lawful c) (ld : Lawful d) where
       → Reachable c d (leadsTo c d b z / 16) (leadsTo c d b z % 16)
   leads-reach b z t r =
       let (p, q) = allowed-both c d b z t in
-      let (e, f) = pair-back (after c (z / 16) b) (after d (z % 16) b) (after-small (z % 16) b q) in
+      let (e, f) = pair-back (after c (z / 16) b) (after d (z % 16) b) (after-small d ld (z % 16) b q) in
       rw (e, f) (reach-step c d (z / 16) (z % 16) b r p q)
 
   -- ---- one bit met
@@ -208,7 +200,7 @@ module _ (c d : Constraint) (lc : Lawful c) (ld : Lawful d) where
         → T (elem (pairOf (follow c x bs) (follow d y bs)) (pairs c d))
     follow-elem [] x y h t f g = t
     follow-elem (b ∷ bs) x y h t (n, f) (m, g) =
-        follow-elem bs (after c x b) (after d y b) (after-small y b m) (step (pair-back x y h)) f g
+        follow-elem bs (after c x b) (after d y b) (after-small d ld y b m) (step (pair-back x y h)) f g
       where
         step : (pairOf x y / 16 ≡ x) × (pairOf x y % 16 ≡ y)
             → T (elem (pairOf (after c x b) (after d y b)) (pairs c d))

@@ -1,6 +1,6 @@
 -- `is_allowed` meets its contract: the first constraint's test decides where it fails, and else the second's.
 -- Assumes nothing.
-use Rattle.laws.proofs.All.{sym, ap, _∙_, _%_, _/_, not, eqb, needs}
+use Rattle.laws.proofs.All.{sym, ap, _∙_, not, eqb, needs}
 use Rattle.constraint.specs.Walking.{none}
 use Rattle.constraint.specs.Value.{constraintOf}
 use Rattle.joining.proofs.PairLists.{allowed-no, allowed-second}

@@ -1,7 +1,7 @@
 -- `join_states` meets its contract. The loop's invariant: the arrays hold the next pairs of every pair passed. The
 -- measure is what is left.
 -- Assumes nothing.
-use Rattle.laws.proofs.All.{_≡_, refl, sym, ap₂, _∙_, _+_, _-_, _≤_, arith, length, getD, map-range-same, needs}
+use Rattle.laws.proofs.All.{_≡_, sym, ap₂, _∙_, _-_, _≤_, arith, length, getD, map-range-same, needs}
 use Rattle.constraint.specs.Walking.{none, NextStates, nowhere}
 use Rattle.constraint.specs.Value.{constraintOf}
 use Rattle.constraint.specs.PowerTable.{Filled}

@@ -1,6 +1,6 @@
 -- `meet` meets its contract: a bit that is not allowed leaves the list, and an allowed one adjoins the pair behind it.
 -- Assumes nothing.
-use Rattle.laws.proofs.All.{_≡_, sym, ap, _∙_, arith, not-true, not-false, needs}
+use Rattle.laws.proofs.All.{sym, ap, _∙_, arith, not-true, not-false, needs}
 use Rattle.constraint.specs.Value.{constraintOf}
 use Rattle.joining.specs.Joined.{adjoin}
 use Rattle.joining.specs.PairLists.{pairsIn}

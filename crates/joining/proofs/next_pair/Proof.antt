@@ -1,6 +1,6 @@
 -- `next_pair` meets its contract: a bit that is not allowed leads nowhere, and an allowed one to a number of the list.
 -- Assumes nothing.
-use Rattle.laws.proofs.All.{_≡_, sym, ap, _∙_, false, true, not-true, not-false, indexOf, needs}
+use Rattle.laws.proofs.All.{sym, ap, _∙_, not-true, not-false, indexOf, needs}
 use Rattle.constraint.specs.Value.{constraintOf}
 use Rattle.joining.specs.PairLists.{pairsIn}
 use Rattle.joining.proofs.PairLists.{next-no, next-yes}

@@ -1,6 +1,6 @@
 -- `number_of` meets its contract. The loop's invariant: the pair is none of those passed. The measure is what is left.
 -- Assumes nothing.
-use Rattle.laws.proofs.All.{_≡_, sym, ap, _∙_, _+_, _-_, _≤_, _<_, add-zero, arith, length, getD, drop, indexOf, needs}
+use Rattle.laws.proofs.All.{_≡_, sym, ap, _∙_, _+_, _-_, _≤_, add-zero, arith, length, drop, indexOf, needs}
 use Rattle.joining.specs.PairLists.{pairsIn}
 use Rattle.joining.proofs.PairLists.{index-here, index-later, index-end, pairs-long, pairs-at}
 use Rattle.joining.proofs.number_of.Statement.{statement}
@@ -38,8 +38,12 @@ loop-again c =
       omega arith,
       omega arith,
       l .inv .2,
-      omega (arith, l .inv .3, index-later (a .z) (pairsIn (a .t1)) (l .i) (omega arith)
-          (λ q. c .if1 .left (sym e ∙ q))),
+      omega (
+        arith,
+        l .inv .3,
+        index-later (a .z) (pairsIn (a .t1)) (l .i) (omega arith)
+            (λ q. c .if1 .left (sym e ∙ q)),
+      ),
     )
 
 returns-2 : tie.Need-returns-2 Inv-loop μ-loop

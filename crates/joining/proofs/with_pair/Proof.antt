@@ -1,6 +1,6 @@
 -- `with_pair` meets its contract: a pair with a number below the count is in the list, and else it is stored behind it.
 -- Assumes nothing.
-use Rattle.laws.proofs.All.{_≡_, sym, ap, _∙_, arith, length, needs}
+use Rattle.laws.proofs.All.{_≡_, sym, _∙_, arith, length, needs}
 use Rattle.joining.specs.PairLists.{pairsIn}
 use Rattle.joining.proofs.PairLists.{adjoin-old, adjoin-new, pairs-long, pairs-more}
 use Rattle.joining.proofs.with_pair.Statement.{statement}
