@@ -18,12 +18,15 @@ static void expect(const char *what, uint64_t answer, unsigned refusal, uint64_t
 int main(void)
 {
     const uint8_t job[] = {0, 1, 2, 3, 2};
+    const uint8_t joined[] = {1, 2, 1, 1, 0, 0, 1, 0, 0};
     const uint8_t word[] = {3};
     uint8_t record[SBC_RECORD_MAX], out[SBC_PHRASE_MAX];
     uint64_t r = sbc_value(sbc_compile_run_length(job, sizeof job, record, sizeof record));
     expect("compile, no job", sbc_compile(NULL, 0, out, sizeof out), SBC_LENGTH, 0);
     expect("run-length, no job", sbc_compile_run_length(NULL, 0, out, sizeof out), SBC_LENGTH, 0);
     expect("run-length, no room", sbc_compile_run_length(job, sizeof job, NULL, 0), SBC_SHORT_OUTPUT, 0);
+    expect("joined, no job", sbc_compile_joined(NULL, 0, out, sizeof out), SBC_LENGTH, 0);
+    expect("joined, no room", sbc_compile_joined(joined, sizeof joined, NULL, 0), SBC_SHORT_OUTPUT, 0);
     expect("listing, no job", sbc_listing(NULL, 0, out, sizeof out), SBC_LENGTH, 0);
     expect("listing, no room", sbc_listing(job, sizeof job, NULL, 0), SBC_SHORT_OUTPUT, 0);
     expect("check", sbc_check(NULL, 0), SBC_LENGTH, 0);

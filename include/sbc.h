@@ -38,7 +38,8 @@ enum {
     SBC_WINDOW_FAILS = 10,   /* the window fails */
     SBC_BAD_BYTE = 11,       /* block of 2^p or more, or word of 2^q or more, at place N: the value */
     SBC_TOO_FEW_WORDS = 12,  /* fewer than a words */
-    SBC_SHORT_OUTPUT = 13    /* the output is too short */
+    SBC_SHORT_OUTPUT = 13,   /* the output is too short */
+    SBC_TOO_MANY_PAIRS = 14  /* two constraints give more than 16 pairs of states */
 };
 
 /* Sizes, in bytes. */
@@ -53,6 +54,8 @@ enum {
     SBC_JOB_MAX = 4 + 2 * 16,
     /* A run-length job: d, k, p, q, cap. */
     SBC_RUN_LENGTH_JOB = 5,
+    /* The longest job with two constraints, 69: p, q, cap, and for each K and two bytes for each of 16 states. */
+    SBC_JOINED_JOB_MAX = 3 + 2 * (1 + 2 * 16),
     /* The longest record, 3,864: a header of 3 + 4 + 7 + 4 + 4 + 4 + 4 bits, two next states of 1 + 4 bits for each of
      * 16 constraint states, and a word of 8 bits with a next state of 7 for each of 128 states and 16 data. */
     SBC_RECORD_MAX = (30 + 16 * 2 * (1 + 4) + 128 * 16 * (8 + 7) + 7) / 8,
@@ -92,6 +95,18 @@ uint64_t sbc_compile(const uint8_t *job, uint64_t job_length, uint8_t *out, uint
  * Answers how many bytes were written.
  * Refusals in order: 8 for any length but five; 1; 2; 3; 4; 5; 6; 13. */
 uint64_t sbc_compile_run_length(const uint8_t *job, uint64_t job_length, uint8_t *out, uint64_t out_length);
+
+/* Compiles a job with two constraints to a record for both: a channel bit is allowed when both constraints allow it.
+ * job: p (1 to 4), q (1 to 8), cap (1 to 16), then each constraint: K (1 to 16), and for each of its K states the next
+ * states for channel bits 0 and 1, with 255 for none. A run-length rule is written out that way.
+ * The states of the record's constraint are the pairs of states that are reachable from both states 0, numbered as
+ * first met, pairs walked in the order of their numbers, bit 0 before bit 1: the pair of both states 0 is state 0.
+ * out: the packed record; SBC_RECORD_MAX bytes are always enough. It lies apart from job.
+ * Answers how many bytes were written.
+ * Refusals in order: 8 below four bytes; 1; for the first constraint 2 for K, 8 for bytes that run out, 2 for a next
+ * state; for the second 8 for a missing K, 2 for K, 8 for bytes that run out or are left over, 2 for a next state; 14;
+ * 3; 4; 5; 6; 13. */
+uint64_t sbc_compile_joined(const uint8_t *job, uint64_t job_length, uint8_t *out, uint64_t out_length);
 
 /* Checks a record: it is accepted when every recording under its table obeys its constraint, and its window does what
  * a window must.

@@ -151,16 +151,44 @@ fn compile(numbers: &mut Numbers) -> u64 {
     ours.0
 }
 
+/// A constraint in a joined job: K and its next states, random, or a run-length constraint written out.
+fn rule(numbers: &mut Numbers) -> Vec<u8> {
+    let mut below = |bound| numbers.below(bound) as u8;
+    if below(2) == 0 {
+        let k = below(9);
+        let d = below(usize::from(k.min(3)) + 1);
+        let next = |i: u8| [if i < k { i + 1 } else { 255 }, if i >= d { 0 } else { 255 }];
+        return [k + 1].into_iter().chain((0..=k).flat_map(next)).collect();
+    }
+    let states = below(6) + 1;
+    let mut rule = vec![states];
+    (0..2 * states).for_each(|_| rule.push(if below(5) == 0 { 255 } else { below(usize::from(states)) }));
+    rule
+}
+
+/// The bytes of a job with two constraints, sometimes damaged, compiled.
+fn compile_joined(numbers: &mut Numbers) -> u64 {
+    let mut job: Vec<u8> = [3, 4, 6].map(|bound| numbers.below(bound) as u8 + 1).to_vec();
+    job.extend(rule(numbers));
+    job.extend(rule(numbers));
+    let job = if numbers.below(4) == 0 { damaged(numbers, &job) } else { job };
+    let mut out = vec![0xa5; numbers.below(300)];
+    let ours = library::compile_joined(&job, &mut out);
+    agree("joined", &job, ours, &out, &reference::calls::compile_joined(&job, out.len()));
+    ours.0
+}
+
 /// Compares for as long as it is told, and says how many calls agreed.
 pub fn for_seconds(seconds: u64) {
     let records = records();
     let mut numbers = Numbers::new();
     let end = Instant::now() + Duration::from_secs(seconds);
-    let mut answers = [0u64; 14];
+    let mut answers = [0u64; 15];
     while Instant::now() < end {
         let (record, p, q) = &records[numbers.below(records.len())];
         let bytes = if numbers.below(8) == 0 { damaged(&mut numbers, record) } else { record.clone() };
-        let refusal = match numbers.below(5) {
+        let refusal = match numbers.below(6) {
+            5 => compile_joined(&mut numbers),
             4 => set(&mut numbers, &records),
             3 => compile(&mut numbers),
             0 => check(&damaged(&mut numbers, record)),

@@ -10,6 +10,7 @@ extern "C" {
     fn sbc_phrase(refusal: u64, out: *mut u8, ol: u64) -> u64;
     fn sbc_compile(job: *const u8, jl: u64, out: *mut u8, ol: u64) -> u64;
     fn sbc_compile_run_length(job: *const u8, jl: u64, out: *mut u8, ol: u64) -> u64;
+    fn sbc_compile_joined(job: *const u8, jl: u64, out: *mut u8, ol: u64) -> u64;
     fn sbc_listing(job: *const u8, jl: u64, out: *mut u8, ol: u64) -> u64;
 }
 
@@ -72,6 +73,11 @@ pub fn compile(job: &[u8], out: &mut [u8]) -> (u64, u64) {
 /// A run-length job compiled to a record.
 pub fn compile_run_length(job: &[u8], out: &mut [u8]) -> (u64, u64) {
     parts(unsafe { sbc_compile_run_length(job.as_ptr(), job.len() as u64, out.as_mut_ptr(), out.len() as u64) })
+}
+
+/// A job with two constraints compiled to a record for both.
+pub fn compile_joined(job: &[u8], out: &mut [u8]) -> (u64, u64) {
+    parts(unsafe { sbc_compile_joined(job.as_ptr(), job.len() as u64, out.as_mut_ptr(), out.len() as u64) })
 }
 
 /// The listing of a run-length job.

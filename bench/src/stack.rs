@@ -2,7 +2,7 @@
 use crate::library;
 use std::process::{Command, Stdio};
 
-const CALLS: [&str; 11] = [
+const CALLS: [&str; 12] = [
     "check",
     "encode",
     "decode",
@@ -12,6 +12,7 @@ const CALLS: [&str; 11] = [
     "phrase",
     "compile",
     "compile_run_length",
+    "compile_joined",
     "listing",
     "set",
 ];
@@ -33,6 +34,7 @@ fn call(name: &str) -> (u64, u64) {
         "phrase" => library::phrase(7, &mut out),
         "compile" => library::compile(&general(JOB), &mut out),
         "compile_run_length" => library::compile_run_length(&JOB, &mut out),
+        "compile_joined" => library::compile_joined(&joined(JOB), &mut out),
         "listing" => library::listing(&JOB, &mut out),
         _ => library::set(&reference::sets::pack(&[record])),
     }
@@ -42,6 +44,11 @@ fn call(name: &str) -> (u64, u64) {
 fn general([d, k, p, q, cap]: [u8; 5]) -> Vec<u8> {
     let next = |i: u8| [if i < k { i + 1 } else { 255 }, if i >= d { 0 } else { 255 }];
     [p, q, cap, k + 1].into_iter().chain((0..=k).flat_map(next)).collect()
+}
+
+/// A run-length job joined with a constraint that allows all.
+fn joined(job: [u8; 5]) -> Vec<u8> {
+    [general(job), vec![1, 0, 0]].concat()
 }
 
 /// Makes one call in a thread of so many KiB, and ends badly if that is too few.

@@ -9,3 +9,4 @@ pub mod Exact
 pub mod Early
 pub mod Written
 pub mod ByRule
+pub mod Joined
