@@ -1,13 +1,13 @@
 -- Laws of the list of pairs that the struct holds, and of its walks.
 -- In order: index-here, index-later, index-end, a pair looked for; adjoin-old, adjoin-new; pairs-long, pairs-at,
--- pairs-more, pairs-map; allowed-no, allowed-second, leads-small; met-no, met-yes; next-no, next-yes; walked-past,
--- walked-at; walked-on, walked-end; pairs-start.
+-- pairs-more, pairs-map; allowed-no, allowed-second, leads-small, met-when, next-when; walked-past, walked-at;
+-- walked-on, walked-end, pairs-start, the walks of all pairs.
 -- Assumes nothing.
 use Rattle.laws.proofs.All.{_≡_, refl, sym, ap, subst, _∙_, Bool, true, false, not, _&&_, _||_, List, []}
-use Rattle.laws.proofs.All.{_∷_, _++_, map, ℕ, suc, _+_, _-_, _/_, _%_, _≤_, _<_, add-one}
-use Rattle.laws.proofs.All.{le-of-suc-le-suc, arith, lt-ltb, le-ltb, eq-eqb, ne-eqb, T, eqb, length, getD, take, drop}
-use Rattle.laws.proofs.All.{set, drop-of-length-le, drop-cons, length-take-le, getD-take, take-suc-set}
-use Rattle.laws.proofs.All.{if_then_else_, elem, indexOf, range, index-lt, map-places, map-range-same}
+use Rattle.laws.proofs.All.{_∷_, _++_, map, ℕ, suc, _+_, _-_, _/_, _%_, _≤_, _<_, add-one, le-of-suc-le-suc, arith}
+use Rattle.laws.proofs.All.{lt-ltb, le-ltb, eq-eqb, ne-eqb, T, eqb, length, getD, take, drop, set, drop-of-length-le}
+use Rattle.laws.proofs.All.{drop-cons, length-take-le, getD-take, take-suc-set, if_then_else_, elem, indexOf, range}
+use Rattle.laws.proofs.All.{index-lt, map-places, map-range-same}
 use Rattle.constraint.specs.Walking.{none, Constraint, after, Lawful}
 use Rattle.constraint.proofs.Walking.{after-small}
 use Rattle.joining.specs.declared.PairList.{PairList}
@@ -81,19 +81,14 @@ module _ (c d : Constraint) (b z : ℕ) where
       let (p, q) = allowed-both c d b z (subst T (sym e) tt) in
       (after-small c lc (z / 16) b p, after-small d ld (z % 16) b q)
 
-  -- ---- the list after one bit
-  pub met-no : (l : List ℕ) → allowed c d b z ≡ false → met c d b z l ≡ l
-  met-no l e = ap (λ t. if t then adjoin (leadsTo c d b z) l else l) e
+  -- the list after the bit, and the number of the pair behind it, once it is known whether the bit is allowed
+  pub met-when : (t : Bool) (l : List ℕ) → allowed c d b z ≡ t
+      → met c d b z l ≡ if t then adjoin (leadsTo c d b z) l else l
+  met-when t l e = ap (λ t. if t then adjoin (leadsTo c d b z) l else l) e
 
-  pub met-yes : (l : List ℕ) → allowed c d b z ≡ true → met c d b z l ≡ adjoin (leadsTo c d b z) l
-  met-yes l e = ap (λ t. if t then adjoin (leadsTo c d b z) l else l) e
-
-  -- ---- the number of the pair behind one bit
-  pub next-no : (l : List ℕ) → allowed c d b z ≡ false → nextPair c d l b z ≡ none
-  next-no l e = ap (λ t. if t then indexOf (leadsTo c d b z) l else none) e
-
-  pub next-yes : (l : List ℕ) → allowed c d b z ≡ true → nextPair c d l b z ≡ indexOf (leadsTo c d b z) l
-  next-yes l e = ap (λ t. if t then indexOf (leadsTo c d b z) l else none) e
+  pub next-when : (t : Bool) (l : List ℕ) → allowed c d b z ≡ t
+      → nextPair c d l b z ≡ if t then indexOf (leadsTo c d b z) l else none
+  next-when t l e = ap (λ t. if t then indexOf (leadsTo c d b z) l else none) e
 
 -- ---- the list after one pair, and after more
 module _ (c d : Constraint) (l : List ℕ) (i : ℕ) where

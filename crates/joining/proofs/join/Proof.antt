@@ -1,4 +1,4 @@
--- `join` meets its contract: the pairs are those of the definition, so their count decides, and the states are its own.
+-- `join` meets its contract: the pairs are those of the definition, and so are their count and the states.
 -- Assumes nothing.
 use Rattle.laws.proofs.All.{_≡_, sym, ap, subst, _∙_, map, arith, le-leb, lt-leb, T, length, needs}
 use Rattle.constraint.specs.Value.{constraintOf}

@@ -1,17 +1,17 @@
 -- `meet` meets its contract: a bit that is not allowed leaves the list, and an allowed one adjoins the pair behind it.
 -- Assumes nothing.
-use Rattle.laws.proofs.All.{sym, ap, _∙_, arith, not-true, not-false, needs}
+use Rattle.laws.proofs.All.{sym, ap, _∙_, true, false, arith, not-true, not-false, needs}
 use Rattle.constraint.specs.Value.{constraintOf}
 use Rattle.joining.specs.Joined.{adjoin}
 use Rattle.joining.specs.PairLists.{pairsIn}
-use Rattle.joining.proofs.PairLists.{met-no, met-yes}
+use Rattle.joining.proofs.PairLists.{met-when}
 use Rattle.joining.proofs.meet.Statement.{statement}
 use Rattle.joining.proofs.meet.Tie as tie
 
 returns : tie.Need-returns
 returns c =
     let a = c .before .before .args in (
-      sym (met-no (constraintOf (a .c)) (constraintOf (a .d)) (a .b) (a .z) (pairsIn (a .ps))
+      sym (met-when (constraintOf (a .c)) (constraintOf (a .d)) (a .b) (a .z) false (pairsIn (a .ps))
           (sym (c .before .is-allowed .ensures) ∙ not-true _ (c .if1 .taken))),
       omega arith,
     )
@@ -27,7 +27,7 @@ returns-2 c =
     let a = k .before .before .args in (
       c .with-pair .ensures .0
           ∙ ap (λ z. adjoin z (pairsIn (a .ps))) (c .before .leads-to .ensures)
-          ∙ sym (met-yes (constraintOf (a .c)) (constraintOf (a .d)) (a .b) (a .z) (pairsIn (a .ps))
+          ∙ sym (met-when (constraintOf (a .c)) (constraintOf (a .d)) (a .b) (a .z) true (pairsIn (a .ps))
           (sym (k .before .is-allowed .ensures) ∙ not-false _ (k .if1 .left))),
       c .with-pair .ensures .1,
     )

@@ -1,16 +1,16 @@
 -- `next_pair` meets its contract: a bit that is not allowed leads nowhere, and an allowed one to a number of the list.
 -- Assumes nothing.
-use Rattle.laws.proofs.All.{sym, ap, _∙_, not-true, not-false, indexOf, needs}
+use Rattle.laws.proofs.All.{sym, ap, _∙_, true, false, not-true, not-false, indexOf, needs}
 use Rattle.constraint.specs.Value.{constraintOf}
 use Rattle.joining.specs.PairLists.{pairsIn}
-use Rattle.joining.proofs.PairLists.{next-no, next-yes}
+use Rattle.joining.proofs.PairLists.{next-when}
 use Rattle.joining.proofs.next_pair.Statement.{statement}
 use Rattle.joining.proofs.next_pair.Tie as tie
 
 returns : tie.Need-returns
 returns c =
     let a = c .before .before .args in
-    sym (next-no (constraintOf (a .c)) (constraintOf (a .d)) (a .b) (a .z) (pairsIn (a .ps))
+    sym (next-when (constraintOf (a .c)) (constraintOf (a .d)) (a .b) (a .z) false (pairsIn (a .ps))
     (sym (c .before .is-allowed .ensures) ∙ not-true _ (c .if1 .taken)))
 
 leads-to-requires : tie.Need-leads-to-requires
@@ -24,7 +24,7 @@ returns-2 c =
     let a = k .before .before .args in
     c .number-of .ensures .0
     ∙ ap (λ z. indexOf z (pairsIn (a .ps))) (c .before .leads-to .ensures)
-    ∙ sym (next-yes (constraintOf (a .c)) (constraintOf (a .d)) (a .b) (a .z) (pairsIn (a .ps))
+    ∙ sym (next-when (constraintOf (a .c)) (constraintOf (a .d)) (a .b) (a .z) true (pairsIn (a .ps))
     (sym (k .before .is-allowed .ensures) ∙ not-false _ (k .if1 .left)))
 
 pub next-pair-spec : {M : Type 1} → statement M

@@ -1,6 +1,6 @@
 -- `number_of` meets its contract. The loop's invariant: the pair is none of those passed. The measure is what is left.
 -- Assumes nothing.
-use Rattle.laws.proofs.All.{_≡_, sym, ap, _∙_, _+_, _-_, _≤_, add-zero, arith, length, drop, indexOf, needs}
+use Rattle.laws.proofs.All.{_≡_, sym, _∙_, _+_, _-_, _≤_, arith, length, drop, indexOf, needs}
 use Rattle.joining.specs.PairLists.{pairsIn}
 use Rattle.joining.proofs.PairLists.{index-here, index-later, index-end, pairs-long, pairs-at}
 use Rattle.joining.proofs.number_of.Statement.{statement}
@@ -24,35 +24,24 @@ returns : tie.Need-returns Inv-loop μ-loop
 returns c =
     let a = c .before .before .before .before .args in
     let l = c .before .before .before .loop in
-    let e = pairs-at (a .t1) (l .i) (omega arith) in (
-      sym (l .inv .3 ∙ ap (λ k. l .i + k) (index-here (a .z) (pairsIn (a .t1)) (l .i) (omega arith)
-          (e ∙ c .if1 .taken)) ∙ add-zero (l .i)),
-      omega arith,
-    )
+    let e = pairs-at (a .t1) (l .i) (omega arith) in
+    let k = index-here (a .z) (pairsIn (a .t1)) (l .i) (omega arith) (e ∙ c .if1 .taken) in
+    (omega arith, omega arith)
 
 loop-again : tie.Need-loop-again Inv-loop μ-loop
 loop-again c =
     let a = c .before .before .before .before .args in
     let l = c .before .before .before .loop in
-    let e = pairs-at (a .t1) (l .i) (omega arith) in (
-      omega arith,
-      omega arith,
-      l .inv .2,
-      omega (
-        arith,
-        l .inv .3,
-        index-later (a .z) (pairsIn (a .t1)) (l .i) (omega arith)
-            (λ q. c .if1 .left (sym e ∙ q)),
-      ),
-    )
+    let e = pairs-at (a .t1) (l .i) (omega arith) in
+    let k = index-later (a .z) (pairsIn (a .t1)) (l .i) (omega arith) (λ q. c .if1 .left (sym e ∙ q)) in
+    (omega arith, omega arith, l .inv .2, omega arith)
 
 returns-2 : tie.Need-returns-2 Inv-loop μ-loop
 returns-2 c =
     let a = c .before .before .args in
-    let l = c .before .loop in (
-      omega (arith, l .inv .3, index-end (a .z) (pairsIn (a .t1)) (l .i) (omega arith)),
-      omega arith,
-    )
+    let l = c .before .loop in
+    let k = index-end (a .z) (pairsIn (a .t1)) (l .i) (omega arith) in
+    (omega arith, omega arith)
 
 pub number-of-spec : {M : Type 1} → statement M
 number-of-spec =
