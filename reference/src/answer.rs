@@ -1,6 +1,6 @@
-//! The refusals of "When the workshop declines", by their numbers, and the answer of a call.
+//! The refusals of "When the workshop declines" and of request (a), by their numbers, and the answer of a call.
 
-/// A refusal's number in the document's table.
+/// A refusal's number in the document's table, or in the request that adds it.
 pub type Refusal = u8;
 
 /// p, q or cap out of range.
@@ -29,6 +29,8 @@ pub const BAD_BYTE: Refusal = 11;
 pub const FEW_WORDS: Refusal = 12;
 /// Lent output too short.
 pub const ROOM: Refusal = 13;
+/// More than 16 pairs (request (a)).
+pub const PAIRS: Refusal = 14;
 
 /// What a call answers.
 ///

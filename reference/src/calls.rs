@@ -17,6 +17,12 @@ pub fn compile_run_length(job: &[u8], room: usize) -> Answer {
     compiled(Job::run_length(job), room)
 }
 
+/// Compiles a joined job to a record (request (a)). Order: 8 below four bytes, 1, for each constraint 8 for a missing
+/// K, K by 2, 8, next states by 2; then 14, 3, 4, 5, 6, 13.
+pub fn compile_joined(job: &[u8], room: usize) -> Answer {
+    compiled(Job::joined(job), room)
+}
+
 fn compiled(job: Result<Job, Refusal>, room: usize) -> Answer {
     match job.and_then(|job| compile(&job)) {
         Ok(record) => Answer::fitted(record.pack(), room),

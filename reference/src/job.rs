@@ -1,7 +1,8 @@
-//! "Constraint and job": both kinds of job from bytes, with refusals in the document's order.
+//! "Constraint and job" and request (a): all three kinds of job from bytes, with refusals in the document's order.
 
 use crate::answer::{Refusal, CONSTRAINT, LENGTH, PARAMETER};
 use crate::constraint::{Constraint, MOST_STATES};
+use crate::joined::join;
 
 /// A job that may be compiled.
 #[derive(Clone, Debug, PartialEq, Eq)]
@@ -16,19 +17,18 @@ impl Job {
     /// A job: p, q, cap, K, then two bytes a state.
     /// Order: 8 below four bytes, 1, K by 2, 8, next states by 2.
     pub fn general(bytes: &[u8]) -> Result<Job, Refusal> {
-        if bytes.len() < 4 {
-            return Err(LENGTH);
-        }
-        in_range(bytes[0], bytes[1], bytes[2])?;
-        let states = usize::from(bytes[3]);
-        if states < 1 || states > MOST_STATES {
-            return Err(CONSTRAINT);
-        }
-        if bytes.len() != 4 + 2 * states {
-            return Err(LENGTH);
-        }
-        let constraint = Constraint::from_bytes(&bytes[4..])?;
-        Ok(Job::of(bytes[0], bytes[1], bytes[2], constraint))
+        let ([p, q, cap], rest) = parameters(bytes)?;
+        Ok(Job::of(p, q, cap, last_constraint(rest)?))
+    }
+
+    /// A joined job (request (a)): p, q, cap, "then each constraint as K and its next-state bytes".
+    /// Order: "8 below four bytes, 1, then for each constraint 8 for a missing K, K by 2, 8, next states by 2", and 14
+    /// "after both inputs pass 2".
+    pub fn joined(bytes: &[u8]) -> Result<Job, Refusal> {
+        let ([p, q, cap], rest) = parameters(bytes)?;
+        let (first, rest) = first_constraint(rest)?;
+        let second = last_constraint(rest)?;
+        Ok(Job::of(p, q, cap, join(&first, &second)?))
     }
 
     /// A run-length job: the five bytes d, k, p, q, cap.
@@ -52,6 +52,42 @@ impl Job {
     pub fn n(&self) -> usize {
         1 << self.p
     }
+}
+
+/// p, q and cap, and the bytes from K on: 8 below four bytes, then 1.
+fn parameters(bytes: &[u8]) -> Result<([u8; 3], &[u8]), Refusal> {
+    let &[p, q, cap, _, ..] = bytes else {
+        return Err(LENGTH);
+    };
+    in_range(p, q, cap)?;
+    Ok(([p, q, cap], &bytes[3..]))
+}
+
+/// A constraint that others follow, and the bytes behind it: 8 for a missing K, K by 2, 8 for "bytes that run out",
+/// next states by 2.
+fn first_constraint(bytes: &[u8]) -> Result<(Constraint, &[u8]), Refusal> {
+    let (states, rest) = number_of_states(bytes)?;
+    let (next, rest) = rest.split_at_checked(2 * states).ok_or(LENGTH)?;
+    Ok((Constraint::from_bytes(next)?, rest))
+}
+
+/// The last constraint of a job: the same, and bytes left over after it belong to the later 8.
+fn last_constraint(bytes: &[u8]) -> Result<Constraint, Refusal> {
+    let (states, next) = number_of_states(bytes)?;
+    if next.len() != 2 * states {
+        return Err(LENGTH);
+    }
+    Constraint::from_bytes(next)
+}
+
+/// K and the bytes behind it: 8 for a missing K, then 2 if it is not 1 to 16.
+fn number_of_states(bytes: &[u8]) -> Result<(usize, &[u8]), Refusal> {
+    let (k, rest) = bytes.split_first().ok_or(LENGTH)?;
+    let states = usize::from(*k);
+    if !(1..=MOST_STATES).contains(&states) {
+        return Err(CONSTRAINT);
+    }
+    Ok((states, rest))
 }
 
 /// p 1 to 4, q 1 to 8, cap 1 to 16; refusal 1 otherwise.

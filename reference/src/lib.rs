@@ -1,8 +1,9 @@
 //! An outside implementation of the sliding-block code workshop.
 //!
-//! It is written from the scope document ("the document" in all comments) and from the table of readings of its
-//! unclear places ("the readings"). It shares no code with the proved crates. `calls` holds every call as a
-//! function from bytes to an answer; the other modules follow the sections of the document.
+//! It is written from the scope document ("the document" in all comments), from the list of later change requests
+//! (so far "request (a)") and from the table of readings of their unclear places ("the readings"). It shares no code
+//! with the proved crates. `calls` holds every call as a function from bytes to an answer; the other modules follow
+//! the sections of the document and the requests.
 
 #![forbid(unsafe_code)]
 
@@ -18,6 +19,7 @@ pub mod decode;
 pub mod edges;
 pub mod encode;
 pub mod job;
+pub mod joined;
 pub mod listing;
 pub mod record;
 pub mod sets;

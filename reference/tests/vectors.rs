@@ -1,8 +1,9 @@
 //! The file of test vectors: its format, its contents, its size.
 
 use reference::checksum::Checksum;
-use reference::vectors::file::{call, Walk, KINDS};
-use reference::vectors::generate;
+use reference::vectors::file::{call, Case, Walk, COMPILE_JOINED, KINDS, RECORD_ROOM};
+use reference::vectors::fixed::TELLING;
+use reference::vectors::{generate, hex};
 use std::collections::HashSet;
 
 #[test]
@@ -10,7 +11,7 @@ fn the_file_walks_and_every_case_answers_again() {
     let bytes = generate(1);
     assert!(bytes.len() < 800_000);
     assert_eq!(bytes.last(), Some(&0));
-    let mut seen = [[false; 14]; KINDS.len()];
+    let mut seen = [[false; 15]; KINDS.len()];
     let mut inputs = HashSet::new();
     let mut walk = Walk(&bytes);
     for (place, case) in walk.by_ref().enumerate() {
@@ -21,7 +22,7 @@ fn the_file_walks_and_every_case_answers_again() {
         }
     }
     assert!(walk.0.is_empty());
-    let refusals = |kind: usize| (0..14).filter(|refusal| seen[kind][*refusal]).collect::<Vec<_>>();
+    let refusals = |kind: usize| (0..15).filter(|refusal| seen[kind][*refusal]).collect::<Vec<_>>();
     assert_eq!(refusals(1), [0, 1, 2, 3, 4, 5, 6, 8, 13]);
     assert_eq!(refusals(2), [0, 1, 2, 3, 4, 5, 6, 8, 13]);
     assert_eq!(refusals(3), [0, 7, 8, 9, 10]);
@@ -29,6 +30,23 @@ fn the_file_walks_and_every_case_answers_again() {
     assert_eq!(refusals(5), [0, 7, 8, 9, 10, 11, 12, 13]);
     assert_eq!(refusals(6), [0, 7, 8, 9, 10]);
     assert_eq!(refusals(7), [0, 13]);
+    assert_eq!(refusals(8), [0, 1, 2, 3, 4, 5, 6, 8, 13, 14]);
+}
+
+/// Every input that tells for request (a) stands in the file, and where it compiles also with the exact room and with
+/// one byte less.
+#[test]
+fn the_file_has_the_inputs_that_tell() {
+    let bytes = generate(1);
+    let rooms = |job: &str| {
+        let same = |case: &Case| case.kind == COMPILE_JOINED && case.first == hex(job);
+        Walk(&bytes).filter(same).map(|case| case.room).collect::<Vec<_>>()
+    };
+    for job in TELLING {
+        let length = call(COMPILE_JOINED, RECORD_ROOM, &hex(job), &[]).output.len();
+        let expected = if length > 0 { vec![RECORD_ROOM, length, length - 1] } else { vec![RECORD_ROOM, 0] };
+        assert_eq!(rooms(job), expected, "{job}");
+    }
 }
 
 /// The numbers that the README states.
@@ -37,6 +55,6 @@ fn the_file_is_the_one_described() {
     let bytes = generate(1);
     let mut checksum = Checksum::default();
     checksum.add(&bytes);
-    assert_eq!((Walk(&bytes).count(), bytes.len()), (10_301, 788_201));
-    assert_eq!(checksum.value(), 0x5c0e_1982_eb68_5410);
+    assert_eq!((Walk(&bytes).count(), bytes.len()), (10_457, 795_091));
+    assert_eq!(checksum.value(), 0xee4b_4cae_388d_df98);
 }

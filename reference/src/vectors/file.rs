@@ -11,9 +11,11 @@ pub const ENCODE: u8 = 4;
 pub const DECODE: u8 = 5;
 pub const SET: u8 = 6;
 pub const LISTING: u8 = 7;
+pub const COMPILE_JOINED: u8 = 8;
 
 /// The kinds by number; those from their count up to 23 are kept for calls to come, and a file has none from 24 on.
-pub const KINDS: [&str; 8] = ["", "compile_job", "compile_run_length", "check", "encode", "decode", "set", "listing"];
+pub const KINDS: [&str; 9] =
+    ["", "compile_job", "compile_run_length", "check", "encode", "decode", "set", "listing", "compile_joined"];
 
 /// Room enough for every record.
 pub const RECORD_ROOM: usize = 4096;
@@ -28,6 +30,7 @@ pub fn call(kind: u8, room: usize, first: &[u8], second: &[u8]) -> Answer {
         DECODE => calls::decode(first, second, room),
         SET => calls::set(first),
         LISTING => calls::listing(first, room),
+        COMPILE_JOINED => calls::compile_joined(first, room),
         _ => panic!("no such kind"),
     }
 }

@@ -1,7 +1,11 @@
-//! Inputs named in the documents: E1 to E10, the rows of the refusal table, the inputs of the readings.
+//! Inputs named in the documents: E1 to E10, the rows of the refusal table, the inputs of the readings, the inputs
+//! that tell for request (a).
 
-use super::file::{File, CHECK, COMPILE_JOB, COMPILE_RUN_LENGTH, DECODE, ENCODE, LISTING, RECORD_ROOM, SET};
+use super::file::{
+    File, CHECK, COMPILE_JOB, COMPILE_JOINED, COMPILE_RUN_LENGTH, DECODE, ENCODE, LISTING, RECORD_ROOM, SET,
+};
 use super::hex;
+use super::joined;
 use crate::calls::compile_run_length;
 use crate::constraint::Constraint;
 use crate::record::Record;
@@ -94,6 +98,42 @@ const GENERAL: [&str; 24] = [
     "00 00 00 00",
 ];
 
+/// Joined jobs: the inputs that tell, in the order of their table.
+pub const TELLING: [&str; 19] = [
+    // Below four bytes.
+    "01 02 01",
+    // 1 before the first constraint's 8.
+    "05 02 01 01 00",
+    // K 17 and K 0, before their 8.
+    "01 02 01 11",
+    "01 02 01 00 00",
+    // The second K is missing.
+    "01 02 01 01 00 ff",
+    // A next state of the first, before the missing second K and before the second's cut-off bytes.
+    "02 03 04 01 07 00",
+    "01 02 01 01 05 00 01 00",
+    // The second K is 17, before its 8.
+    "01 02 01 01 00 00 11",
+    // The second is cut off.
+    "01 02 01 01 00 00 01 00",
+    // A left-over byte, before the second's bad next state; then without it.
+    "01 02 01 01 00 00 01 09 00 00",
+    "01 02 01 01 00 00 01 09 00",
+    // 20 pairs, before 3; exactly 17 pairs; exactly 16 pairs.
+    "04 01 01 04 00 01 01 02 02 03 03 00 05 01 00 02 01 03 02 04 03 00 04",
+    "01 02 01 10 01 00 02 00 03 00 04 00 05 00 06 00 07 00 08 00 09 00 0a 00 0b 00 0c 00 0d 00 0e 00 0f 00 0f 00
+     02 00 01 00 00",
+    "01 02 01 04 00 01 01 02 02 03 03 00 04 01 00 02 01 03 02 00 03",
+    // Bit 0 before bit 1.
+    "01 01 01 03 01 02 00 00 00 00 02 00 01 00 01",
+    // (1,7) with (0,3), with a rule that allows all, and with "every second bit is 0".
+    "01 02 01 08 01 ff 02 00 03 00 04 00 05 00 06 00 07 00 ff 00 04 01 00 02 00 03 00 ff 00",
+    "02 03 03 08 01 ff 02 00 03 00 04 00 05 00 06 00 07 00 ff 00 01 00 00",
+    "01 03 01 08 01 ff 02 00 03 00 04 00 05 00 06 00 07 00 ff 00 02 01 01 00 ff",
+    // No bit is allowed by both.
+    "01 01 01 01 ff 00 01 00 ff",
+];
+
 /// Records of the refusal table and the readings, and some with two faults.
 const RECORDS: [&str; 16] = [
     E2,
@@ -149,6 +189,10 @@ pub fn add(file: &mut File) {
         file.add_exact(COMPILE_JOB, &job, &[]);
     }
     (1..=16).for_each(|cap| drop(file.add(COMPILE_RUN_LENGTH, RECORD_ROOM, &[1, 8, 1, 2, cap], &[])));
+    for job in TELLING.iter().map(|job| hex(job)).chain(joined::borders()) {
+        file.add(COMPILE_JOINED, RECORD_ROOM, &job, &[]);
+        file.add_exact(COMPILE_JOINED, &job, &[]);
+    }
     add_records(file);
     add_coding(file);
     add_sets(file);

@@ -45,22 +45,37 @@ pub fn compiling_run_length(random: &mut Random) -> ([u8; 5], Vec<u8>) {
     }
 }
 
-/// A general job: random next states, states in classes, or a run-length constraint renumbered or altered.
+/// A general job.
 pub fn general(random: &mut Random) -> Vec<u8> {
-    let next = match random.below(5) {
+    let next = next_states(random);
+    let mut job = parameters(random).to_vec();
+    write(&mut job, &next);
+    job
+}
+
+/// Next states: random, in classes, or a run-length constraint renumbered or altered.
+pub fn next_states(random: &mut Random) -> Vec<[u8; 2]> {
+    match random.below(5) {
         0 => scattered(random, 4),
         1 => scattered(random, 2),
         2 => renumbered(random),
         3 => periodic(random),
         _ => altered(random),
-    };
+    }
+}
+
+/// p, q and cap, mostly such that a code may exist.
+pub fn parameters(random: &mut Random) -> [u8; 3] {
     let p = 1 + random.below(4) * random.below(2);
     let q = if random.once_in(8) { 8 } else { random.within(p, if p == 1 { 4 } else { 7 }) };
     let most = *random.pick(&[4, 7, 16]);
-    let cap = random.within(1, most);
-    let mut job = vec![p as u8, q as u8, cap as u8, next.len() as u8];
+    [p, q, random.within(1, most)].map(|byte| byte as u8)
+}
+
+/// Adds K and the next-state bytes to a job.
+pub fn write(job: &mut Vec<u8>, next: &[[u8; 2]]) {
+    job.push(next.len() as u8);
     next.iter().for_each(|pair| job.extend(pair));
-    job
 }
 
 /// Next states at random, none once in so many times.
@@ -87,7 +102,8 @@ fn periodic(random: &mut Random) -> Vec<[u8; 2]> {
     (0..period * each).map(|s| [one(s), one(s)]).collect()
 }
 
-fn bytes_of(constraint: &Constraint) -> Vec<[u8; 2]> {
+/// The next-state bytes of a constraint.
+pub fn bytes_of(constraint: &Constraint) -> Vec<[u8; 2]> {
     constraint.next.iter().map(|pair| pair.map(|next| next.unwrap_or(NONE))).collect()
 }
 

@@ -7,6 +7,7 @@ pub mod fixed;
 pub mod foreign;
 pub mod groups;
 pub mod jobs;
+pub mod joined;
 pub mod pool;
 pub mod random;
 pub mod records;
@@ -14,16 +15,18 @@ pub mod records;
 use file::File;
 use random::Random;
 
-/// The bytes of the whole file. Scale 1 is the default size; the random parts grow with the scale.
+/// The bytes of the whole file. Scale 1 is the default size; the random parts grow with the scale. Each part after the
+/// pool has a generator of its own, so that a part that grows or shrinks leaves the others as they are.
 pub fn generate(scale: usize) -> Vec<u8> {
     let mut file = File::default();
     let mut random = Random::seeded(1);
     fixed::add(&mut file);
     jobs::add(&mut file, &mut random, scale);
     let pool = pool::Pool::gather(&mut random, scale);
-    records::add(&mut file, &mut random, &pool, scale);
-    coding::add(&mut file, &mut random, &pool, scale);
-    groups::add(&mut file, &mut random, &pool, scale);
+    records::add(&mut file, &mut Random::seeded(2), &pool, scale);
+    coding::add(&mut file, &mut Random::seeded(3), &pool, scale);
+    groups::add(&mut file, &mut Random::seeded(4), &pool, scale);
+    joined::add(&mut file, &mut Random::seeded(5), scale);
     file.ended()
 }
 
