@@ -1,28 +1,24 @@
 -- Jobs that are read are allowed: their numbers are in range and their next states are states or none.
--- In order: parameters; length-statesOf; states-well; readJob-allowed; readRunLength-allowed.
+-- In order: allowed-of; fronted→, fronted-onward; readJob-from, a job is a front and one constraint; readJob-allowed;
+-- readRunLength-allowed.
 -- Assumes nothing.
-use Rattle.laws.proofs.All.{_≡_, refl, ap, subst, inl, inr, _&&_, List, ℕ, zero, suc, _+_, _*_, _≤_, arith, T, ltb}
-use Rattle.laws.proofs.All.{leb, eqb, ltb→lt, leb→le, eqb→eq, length, getD, drop, all, and→, or→, each-map}
-use Rattle.laws.proofs.All.{all-each}
+use Rattle.laws.proofs.All.{_≡_, refl, sym, ap, ap₂, subst, _∙_, Bool, true, false, _&&_, List, ℕ, _+_, _*_, _-_, _≤_}
+use Rattle.laws.proofs.All.{arith, ℕ-discrete, T, leb, eqb, leb→le, le→leb, leb-true, eq-eqb, ne-eqb, length, getD, drop}
+use Rattle.laws.proofs.All.{length-drop, getD-drop, drop-drop, all, and→}
 use Rattle.answer.specs.declared.Refusal.the-variants.{Parameters, States, Length}
-use Rattle.answer.specs.Outcomes.{done, unless}
-use Rattle.answer.proofs.Outcomes.{done-inj, unless→}
-use Rattle.constraint.specs.Walking.{NextStates, Constraint, none, runLength, Target, Well}
+use Rattle.answer.specs.Outcomes.{Outcome, done, unless, onward}
+use Rattle.answer.proofs.Outcomes.{done-inj, unless-true, unless→, onward→}
+use Rattle.constraint.specs.Walking.{Constraint, runLength, Lawful}
 use Rattle.constraint.proofs.Walking.{length-runLength, runLength-well}
-use Rattle.table.specs.Formed.{goodState, goodNext}
-use Rattle.job.specs.Jobs.{Job, goodParameters, statesOf, readJob, readRunLength, Allowed}
+use Rattle.table.specs.Formed.{goodNext}
+use Rattle.job.specs.Jobs.{Job, goodParameters, statesOf, constraintFrom, fronted, jobWith, readJob}
+use Rattle.job.specs.Jobs.{readRunLength, Allowed}
+use Rattle.job.proofs.Constraints.{checked, from-checked, constraintFrom-lawful}
 
--- ---- what the tests say
-record Parameter (p q cap : ℕ) : Type 0 where
-  p₁ : 1 ≤ p
-  p₂ : p ≤ 4
-  q₁ : 1 ≤ q
-  q₂ : q ≤ 8
-  cap₁ : 1 ≤ cap
-  cap₂ : cap ≤ 16
-
-parameters : (p q cap : ℕ) → T (goodParameters p q cap) → Parameter p q cap
-parameters p q cap t =
+-- ---- parameters in range and a lawful constraint
+pub allowed-of : (p q cap : ℕ) (c : Constraint) → T (goodParameters p q cap) → Lawful c
+    → Allowed (record { p = p; q = q; cap = cap; constraint = c })
+allowed-of p q cap c t l =
     let (tp, u) = and→ (leb 1 p && leb p 4) ((leb 1 q && leb q 8) && (leb 1 cap && leb cap 16)) t in
     let (tq, tc) = and→ (leb 1 q && leb q 8) (leb 1 cap && leb cap 16) u in
     let (p₁, p₂) = and→ (leb 1 p) (leb p 4) tp in
@@ -35,53 +31,96 @@ parameters p q cap t =
       q₂ = leb→le q 8 q₂;
       cap₁ = leb→le 1 cap c₁;
       cap₂ = leb→le cap 16 c₂;
+      k₁ = l .some;
+      k₂ = l .few;
+      well = l .well;
     }
 
-target : (K s : ℕ) → T (goodState K s) → Target K s
-target K s t = elim (or→ (eqb s none) (ltb s K) t) [ inl a ↦ inr (eqb→eq s none a) | inr b ↦ inl (ltb→lt s K b) ]
+-- ---- the front of a job's bytes
+pub fronted→ : {A : Type 0} (xs : List ℕ) (o : Outcome A) (a : A) → fronted xs o ≡ done a
+    → (4 ≤ length xs) × T (goodParameters (getD xs 0 0) (getD xs 1 0) (getD xs 2 0)) × (o ≡ done a)
+fronted→ xs o a e =
+    let (tl, e₁) = unless→ Length (leb 4 (length xs)) _ a e in
+    let (tp, e₂) = unless→ Parameters (goodParameters (getD xs 0 0) (getD xs 1 0) (getD xs 2 0)) o a e₁ in
+    (leb→le 4 (length xs) tl, tp, e₂)
 
-pub states-well : (K : ℕ) (c : Constraint) → length c ≡ K → T (all (goodNext K) c) → Well c
-states-well K c l t =
-    each-map (λ r. T (goodNext K r)) (λ r. Target (length c) (r .zero) × Target (length c) (r .one)) both c
-    (all-each (goodNext K) c t)
+-- its checks do not look at what follows
+pub fronted-onward : {A B : Type 0} (xs : List ℕ) (b : B) (o : Outcome A)
+    → fronted xs o ≡ onward (fronted xs (done b)) (λ _. o)
+fronted-onward {A} {B} xs b o = go (leb 4 (length xs)) (goodParameters (getD xs 0 0) (getD xs 1 0) (getD xs 2 0))
   where
-    both : (r : NextStates) → T (goodNext K r) → Target (length c) (r .zero) × Target (length c) (r .one)
-    both r u =
-        let (a, b) = and→ (goodState K (r .zero)) (goodState K (r .one)) u in
-        rw l (target K (r .zero) a, target K (r .one) b)
+    go : (s t : Bool) → unless Length s (unless Parameters t o)
+        ≡ onward (unless Length s (unless Parameters t (done b))) (λ _. o)
+    go true true = refl
+    go true false = refl
+    go false t = refl
 
-pub length-statesOf : (K : ℕ) (xs : List ℕ) → length (statesOf K xs) ≡ K
-length-statesOf zero xs = refl
-length-statesOf (suc K) xs = ap suc (length-statesOf K (drop 2 xs))
+-- ---- a job is a front and one constraint
+-- the length that K says, behind cap and of all bytes
+same-size : (n m K : ℕ) → n ≡ m - 3 → 4 ≤ m → eqb (1 + 2 * K) n ≡ eqb m (4 + 2 * K)
+same-size n m K e h = elim (ℕ-discrete m (4 + 2 * K)) [
+  | yes q ↦ eq-eqb _ n (omega arith) ∙ sym (eq-eqb m _ q)
+  | no q ↦ ne-eqb _ n (λ k. q (omega arith)) ∙ sym (ne-eqb m _ q)
+]
+
+-- the constraint behind cap
+behind : (xs : List ℕ) → 4 ≤ length xs → constraintFrom eqb (drop 3 xs)
+    ≡ checked (eqb (length xs) (4 + 2 * getD xs 3 0)) (getD xs 3 0) (statesOf (getD xs 3 0) (drop 4 xs))
+behind xs h =
+    let ys = drop 3 xs in
+    let l : length ys ≡ length xs - 3 = length-drop 3 xs in
+    from-checked eqb ys
+    ∙ unless-true Length (leb 1 (length ys)) _ (le→leb 1 (length ys) (omega arith))
+    ∙ ap (λ K. checked (eqb (1 + 2 * K) (length ys)) K (statesOf K (drop 1 ys))) (getD-drop 3 xs 0 0)
+    ∙ ap₂ (λ fit zs. checked fit (getD xs 3 0) (statesOf (getD xs 3 0) zs))
+    (same-size (length ys) (length xs) (getD xs 3 0) l h) (drop-drop 1 3 xs)
+
+checked-onward : {A : Type 0} (fit : Bool) (K : ℕ) (c : Constraint) (f : Constraint → Outcome A)
+    → onward (checked fit K c) f
+    ≡ unless States (leb 1 K && leb K 16) (unless Length fit (unless States (all (goodNext K) c) (f c)))
+checked-onward {A} fit K c f = go (leb 1 K && leb K 16) fit (all (goodNext K) c)
+  where
+    go : (s t u : Bool) → onward (unless States s (unless Length t (unless States u (done c)))) f
+        ≡ unless States s (unless Length t (unless States u (f c)))
+    go true true true = refl
+    go true true false = refl
+    go true false u = refl
+    go false t u = refl
+
+-- THEOREM: a job's bytes are read as p, q and cap and then one constraint, which takes all the rest
+pub readJob-from : (xs : List ℕ) → readJob xs
+    ≡ fronted xs (onward (constraintFrom eqb (drop 3 xs)) (λ c. done (jobWith xs c)))
+unfolding readJob
+readJob-from xs = go (leb 4 (length xs)) refl
+  where
+    K : ℕ
+    K = getD xs 3 0
+
+    go : (b : Bool) → leb 4 (length xs) ≡ b
+        → unless Length b (unless Parameters (goodParameters (getD xs 0 0) (getD xs 1 0) (getD xs 2 0))
+        (unless States (leb 1 K && leb K 16)
+        (unless Length (eqb (length xs) (4 + 2 * K))
+        (unless States (all (goodNext K) (statesOf K (drop 4 xs))) (done (jobWith xs (statesOf K (drop 4 xs))))))))
+        ≡ unless Length b (unless Parameters (goodParameters (getD xs 0 0) (getD xs 1 0) (getD xs 2 0))
+        (onward (constraintFrom eqb (drop 3 xs)) (λ c. done (jobWith xs c))))
+    go true e =
+        ap (unless Parameters (goodParameters (getD xs 0 0) (getD xs 1 0) (getD xs 2 0)))
+        (sym (ap (λ o. onward o (λ c. done (jobWith xs c))) (behind xs (leb-true 4 (length xs) e))
+        ∙ checked-onward (eqb (length xs) (4 + 2 * K)) K (statesOf K (drop 4 xs)) (λ c. done (jobWith xs c))))
+    go false e = refl
 
 -- ---- the jobs that are read
 pub readJob-allowed : (xs : List ℕ) (j : Job) → readJob xs ≡ done j → Allowed j
-unfolding readJob
 readJob-allowed xs j e =
-    let K = getD xs 3 0 in
-    let c = statesOf K (drop 4 xs) in
-    let found : Job = record { p = getD xs 0 0; q = getD xs 1 0; cap = getD xs 2 0; constraint = c } in
-    let (_, e₁) = unless→ Length (leb 4 (length xs)) _ j e in
-    let (tp, e₂) = unless→ Parameters (goodParameters (getD xs 0 0) (getD xs 1 0) (getD xs 2 0)) _ j e₁ in
-    let (tk, e₃) = unless→ States (leb 1 K && leb K 16) _ j e₂ in
-    let (_, e₄) = unless→ Length (eqb (length xs) (4 + 2 * K)) _ j e₃ in
-    let (ts, e₅) = unless→ States (all (goodNext K) c) _ j e₄ in
-    let r = parameters (getD xs 0 0) (getD xs 1 0) (getD xs 2 0) tp in
-    let (k₁, k₂) = and→ (leb 1 K) (leb K 16) tk in
-    let l : length c ≡ K = length-statesOf K (drop 4 xs) in
-    let n₁ : 1 ≤ K = leb→le 1 K k₁ in
-    let n₂ : K ≤ 16 = leb→le K 16 k₂ in
-    subst Allowed (done-inj found j e₅) (record {
-      p₁ = r .p₁;
-      p₂ = r .p₂;
-      q₁ = r .q₁;
-      q₂ = r .q₂;
-      cap₁ = r .cap₁;
-      cap₂ = r .cap₂;
-      k₁ = rw l n₁;
-      k₂ = rw l n₂;
-      well = states-well K c l ts;
-    })
+    let (_, t, e₁) = fronted→ xs _ j (sym (readJob-from xs) ∙ e) in
+    let (c, q, e₂) = onward→ (constraintFrom eqb (drop 3 xs)) (λ c. done (jobWith xs c)) j e₁ in
+    subst Allowed (done-inj (jobWith xs c) j e₂)
+    (allowed-of _ _ _ c t (constraintFrom-lawful eqb (drop 3 xs) c q))
+
+runLength-lawful : (d k : ℕ) → k ≤ 15 → Lawful (runLength d k)
+runLength-lawful d k h =
+    let l : length (runLength d k) ≡ k + 1 = length-runLength d k in
+    record { some = omega arith; few = omega arith; well = runLength-well d k }
 
 pub readRunLength-allowed : (xs : List ℕ) (j : Job) → readRunLength xs ≡ done j → Allowed j
 unfolding readRunLength
@@ -92,19 +131,5 @@ readRunLength-allowed xs j e =
     let (_, e₁) = unless→ Length (eqb (length xs) 5) _ j e in
     let (tp, e₂) = unless→ Parameters (goodParameters (getD xs 2 0) (getD xs 3 0) (getD xs 4 0)) _ j e₁ in
     let (tk, e₃) = unless→ States (leb d k && leb k 15) _ j e₂ in
-    let r = parameters (getD xs 2 0) (getD xs 3 0) (getD xs 4 0) tp in
-    let h : k ≤ 15 = leb→le k 15 (and→ (leb d k) (leb k 15) tk .1) in
-    let l : length (runLength d k) ≡ k + 1 = length-runLength d k in
-    let n₁ : 1 ≤ k + 1 = omega arith in
-    let n₂ : k + 1 ≤ 16 = omega arith in
-    subst Allowed (done-inj found j e₃) (record {
-      p₁ = r .p₁;
-      p₂ = r .p₂;
-      q₁ = r .q₁;
-      q₂ = r .q₂;
-      cap₁ = r .cap₁;
-      cap₂ = r .cap₂;
-      k₁ = rw l n₁;
-      k₂ = rw l n₂;
-      well = runLength-well d k;
-    })
+    subst Allowed (done-inj found j e₃)
+    (allowed-of _ _ _ (runLength d k) tp (runLength-lawful d k (leb→le k 15 (and→ (leb d k) (leb k 15) tk .1))))

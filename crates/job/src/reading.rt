@@ -23,7 +23,6 @@ use joining::join;
 // A refusal, beside a job that asks for nothing.
 fn declined(r: Refusal) -> JobAnswer
     ensures answer { λ x. ⌜ jobOutcome x ≡ refused r ⌝ }
-    ensures past { λ x. ⌜ (x .verdict ≡ Good → ⊥) ⌝ }
 {
     let constraint = Constraint {
         states: 0,
@@ -57,7 +56,8 @@ fn good_parameters(p: usize, q: usize, cap: usize) -> bool
 
 // The front of a job that holds p, q and cap: "8 below four bytes, 1".
 fn front_verdict(bytes: &[u8]) -> Verdict
-    ensures answer { λ r. ⌜ verdictOn r tt ≡ fronted (now (bytes .entry)) (done tt) ⌝ }
+    ensures answer { λ r. ⌜
+        verdictOn r (now (bytes .entry)) ≡ fronted (now (bytes .entry)) (done (now (bytes .entry))) ⌝ }
 {
     if bytes.len() < 4 {
         return Verdict::Bad(Refusal::Length);

@@ -88,7 +88,6 @@ fn states_of(bytes: &[u8], count: usize) -> Constraint
 // A refusal, beside a constraint with no states.
 fn no_constraint(r: Refusal) -> ConstraintAnswer
     ensures answer { λ x. ⌜ constraintOutcome x ≡ refused r ⌝ }
-    ensures past { λ x. ⌜ (x .verdict ≡ Good → ⊥) ⌝ }
 {
     let constraint = Constraint {
         states: 0,

@@ -1,6 +1,6 @@
 -- `good_parameters` meets its contract: each return follows the first test that fails, or the last test.
 -- Assumes nothing.
-use Rattle.laws.proofs.All.{not-true, not-false, needs, needs}
+use Rattle.laws.proofs.All.{not-true, not-false, needs}
 use Rattle.job.proofs.reading.good_parameters.Statement.{statement}
 use Rattle.job.proofs.reading.good_parameters.Tie as tie
 

@@ -1,10 +1,12 @@
 -- `read_run_length` meets its contract: each return follows the checks before it, in document 01's order.
 -- Assumes nothing.
 use Rattle.laws.proofs.All.{_≡_, sym, _∙_, _&&_, true, List, ℕ, arith, not-true, not-false, eq-eqb, ne-eqb, now}
-use Rattle.laws.proofs.All.{leb, eqb, length, getD, needs, needs}
+use Rattle.laws.proofs.All.{leb, eqb, length, getD, needs}
+use Rattle.answer.specs.declared.Verdict.the-variants.{Good}
 use Rattle.job.specs.Jobs.{goodParameters}
 use Rattle.job.proofs.JobSteps.{in-range, jobOf, run-length-size, run-length-parameters, run-length-range}
-use Rattle.job.proofs.JobSteps.{run-length-good, run-length-ready}
+use Rattle.job.proofs.JobSteps.{run-length-good, ready-kept}
+use Rattle.job.proofs.Jobs.{readRunLength-allowed}
 use Rattle.job.proofs.reading.read_run_length.Statement.{statement}
 use Rattle.job.proofs.reading.read_run_length.Tie as tie
 
@@ -30,40 +32,40 @@ ranged : (c : tie.Else3) → (leb (getD (in₃ c) 0 0) (getD (in₃ c) 1 0) && l
 ranged c = sym (c .before .between .ensures) ∙ not-false (c .before .between .result) (c .if3 .left)
 
 returns : tie.Need-returns
-returns c = (
-  c .declined .ensures .0 ∙ sym (run-length-size (now (c .before .before .before .args .bytes))
-      (ne-eqb _ _ (c .before .if1 .taken))),
-  λ e. absurd (c .declined .ensures .1 e),
-)
+returns c =
+    let xs = now (c .before .before .before .args .bytes) in
+    ready-kept _ _ (c .declined .ensures ∙ sym (run-length-size xs (ne-eqb _ _ (c .before .if1 .taken))))
+    (readRunLength-allowed xs)
 
 returns-2 : tie.Need-returns-2
 returns-2 c =
     let g = c .before .before in
-    let b = g .before .before .before .before in (
-      c .declined2 .ensures .0
-          ∙ sym (run-length-parameters (in₁ b) (sized b)
-          (sym (g .good-parameters .ensures) ∙ not-true (g .good-parameters .result) (c .before .if2 .taken))),
-      λ e. absurd (c .declined2 .ensures .1 e),
-    )
+    let b = g .before .before .before .before in
+    ready-kept _ _
+    (c .declined2 .ensures
+    ∙ sym (run-length-parameters (in₁ b) (sized b)
+    (sym (g .good-parameters .ensures) ∙ not-true (g .good-parameters .result) (c .before .if2 .taken))))
+    (readRunLength-allowed (in₁ b))
 
 returns-3 : tie.Need-returns-3
 returns-3 c =
     let g = c .before .before in
-    let p = g .before .before .before in (
-      c .declined3 .ensures .0
-          ∙ sym (run-length-range (in₂ p) (sized (p .before .before .before .before .before)) (good p)
-          (sym (g .between .ensures) ∙ not-true (g .between .result) (c .before .if3 .taken))),
-      λ e. absurd (c .declined3 .ensures .1 e),
-    )
+    let p = g .before .before .before in
+    ready-kept _ _
+    (c .declined3 .ensures
+    ∙ sym (run-length-range (in₂ p) (sized (p .before .before .before .before .before)) (good p)
+    (sym (g .between .ensures) ∙ not-true (g .between .result) (c .before .if3 .taken))))
+    (readRunLength-allowed (in₂ p))
 
 returns-4 : tie.Need-returns-4
 returns-4 c =
     let p = c .before .before .before .before .before in
     let xs = in₂ p in
     let k = c .run-length .result in
-    let r = run-length-good xs (sized (p .before .before .before .before .before)) (good p) (ranged (c .before)) k
-    (c .run-length .ensures) in
-    (sym r, λ e. run-length-ready xs (jobOf (getD xs 2 0) (getD xs 3 0) (getD xs 4 0) k) r)
+    ready-kept (record { verdict = Good; job = jobOf (getD xs 2 0) (getD xs 3 0) (getD xs 4 0) k }) _
+    (sym (run-length-good xs (sized (p .before .before .before .before .before)) (good p) (ranged (c .before)) k
+    (c .run-length .ensures)))
+    (readRunLength-allowed xs)
 
 pub read-run-length-spec : {M : Type 1} → statement M
 read-run-length-spec =

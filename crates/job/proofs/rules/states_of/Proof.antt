@@ -6,13 +6,13 @@ use Rattle.constraint.specs.Walking.{none, NextStates}
 use Rattle.constraint.specs.PowerTable.{Filled}
 use Rattle.constraint.proofs.Values.{fill-none, fill-more, filled-read}
 use Rattle.job.specs.JobValues.{stateAt}
-use Rattle.job.proofs.reading.states_of.Statement.{statement}
-use Rattle.job.proofs.reading.states_of.Tie as tie
+use Rattle.job.proofs.rules.states_of.Statement.{statement}
+use Rattle.job.proofs.rules.states_of.Tie as tie
 
 abbrev Inv-loop : tie.InvT-loop
 Inv-loop bytes count zero₀ one₀ s₀ zero one s =
-    (s ≤ count) × (count ≤ 16) × Filled (λ k. getD bytes (4 + k * 2) 0) none 16 s zero
-    × Filled (λ k. getD bytes (5 + k * 2) 0) none 16 s one
+    (s ≤ count) × (count ≤ 16) × Filled (λ k. getD bytes (1 + k * 2) 0) none 16 s zero
+    × Filled (λ k. getD bytes (2 + k * 2) 0) none 16 s one
 
 abbrev μ-loop : tie.MeasureT-loop
 μ-loop bytes count zero₀ one₀ s₀ zero one s = count - s

@@ -1,8 +1,8 @@
 -- `good_state` meets its contract: 255 stands for none, and any other number is compared.
 -- Assumes nothing.
 use Rattle.laws.proofs.All.{eq-eqb, ne-eqb}
-use Rattle.job.proofs.reading.good_state.Statement.{statement}
-use Rattle.job.proofs.reading.good_state.Tie as tie
+use Rattle.job.proofs.rules.good_state.Statement.{statement}
+use Rattle.job.proofs.rules.good_state.Tie as tie
 
 returns : tie.Need-returns
 returns c = simp (eq-eqb _ _ (c .if1 .taken))

@@ -1,8 +1,8 @@
 -- `good_next` meets its contract: the first next state decides where it is bad, otherwise the second does.
 -- Assumes nothing.
-use Rattle.laws.proofs.All.{not-true, not-false, needs, needs}
-use Rattle.job.proofs.reading.good_next.Statement.{statement}
-use Rattle.job.proofs.reading.good_next.Tie as tie
+use Rattle.laws.proofs.All.{not-true, not-false, needs}
+use Rattle.job.proofs.rules.good_next.Statement.{statement}
+use Rattle.job.proofs.rules.good_next.Tie as tie
 
 returns : tie.Need-returns
 returns c =

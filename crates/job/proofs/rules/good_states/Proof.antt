@@ -5,8 +5,8 @@ use Rattle.laws.proofs.All.{_≡_, sym, subst, _∙_, true, ℕ, _-_, _≤_, _<
 use Rattle.laws.proofs.All.{now, T, needs}
 use Rattle.table.proofs.LoopTests.{all-passed, all-failed}
 use Rattle.job.specs.JobValues.{goodStateAt}
-use Rattle.job.proofs.reading.good_states.Statement.{statement}
-use Rattle.job.proofs.reading.good_states.Tie as tie
+use Rattle.job.proofs.rules.good_states.Statement.{statement}
+use Rattle.job.proofs.rules.good_states.Tie as tie
 
 abbrev Inv-loop : tie.InvT-loop
 Inv-loop bytes count s₀ s = (s ≤ count) × ((k : ℕ) → k < s → goodStateAt bytes count k ≡ true)
