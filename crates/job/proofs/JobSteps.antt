@@ -1,7 +1,7 @@
 -- A job read check by check: what reading comes to at each return of the code, and what holds of what is read.
--- In order: in-range, sized-fits; unless-yes; onward-bad, onward-good; jobOf; statesOf-is; missing-count, bad-count, bad-size, bad-states, good-constraint;
--- lawful-kept; front-short, front-parameters, front-passed; front-bad, front-good, front-long; run-length-size,
--- run-length-parameters, run-length-range, run-length-good; ready-kept.
+-- In order: in-range, sized-fits; unless-yes; onward-bad, onward-good; jobOf; missing-count, bad-count, bad-size,
+-- bad-states, good-constraint; lawful-kept; run-length-size, run-length-parameters, run-length-range,
+-- run-length-good; ready-kept.
 -- Assumes nothing.
 use Rattle.laws.proofs.All.{_≡_, refl, sym, ap, ap₂, subst, _∙_, Bool, true, false, _&&_, List, _∷_, map, ℕ, zero}
 use Rattle.laws.proofs.All.{suc, _+_, _*_, _≤_, arith, T, leb, eqb, leb→le, leb-true, eqb-true, length, getD, drop}
@@ -11,7 +11,7 @@ use Rattle.answer.specs.declared.Refusal.the-variants.{Parameters, States, Leng
 use Rattle.answer.specs.declared.Verdict.{Verdict}
 use Rattle.answer.specs.declared.Verdict.the-variants.{Good, Bad}
 use Rattle.answer.specs.Outcomes.{Outcome, done, refused, unless, onward, verdictOn}
-use Rattle.answer.proofs.Outcomes.{unless-false, said-good, said-bad}
+use Rattle.answer.proofs.Outcomes.{unless-false, said-good}
 use Rattle.constraint.specs.Walking.{NextStates, runLength, Lawful}
 use Rattle.constraint.specs.declared.Constraint.{Constraint}
 use Rattle.constraint.specs.Value.{constraintOf}
@@ -21,11 +21,9 @@ use Rattle.table.proofs.ReadyTables.{all-map}
 use Rattle.job.specs.declared.JobValue.{JobValue}
 use Rattle.job.specs.declared.JobAnswer.{JobAnswer}
 use Rattle.job.specs.declared.ConstraintAnswer.{ConstraintAnswer}
-use Rattle.job.specs.Jobs.{Job, goodParameters, statesOf, constraintFrom, fronted, readRunLength, Allowed}
-use Rattle.job.specs.JobValues.{jobIn, JobReady, jobOutcome, stateAt, goodStateAt, sized}
-use Rattle.job.specs.JobValues.{constraintOutcome}
+use Rattle.job.specs.Jobs.{Job, goodParameters, statesOf, constraintFrom, readRunLength, Allowed}
+use Rattle.job.specs.JobValues.{jobIn, JobReady, jobOutcome, stateAt, goodStateAt, sized, constraintOutcome}
 use Rattle.job.proofs.Constraints.{checked, from-checked, constraintFrom-lawful}
-use Rattle.job.proofs.Jobs.{fronted→, fronted-onward}
 
 pub in-range : (low x high : ℕ) → (leb low x && leb x high) ≡ true → (low ≤ x) × (x ≤ high)
 in-range low x high e =
@@ -107,7 +105,7 @@ module _ (fits : ℕ → ℕ → Bool) (ys : List ℕ) where
             fitted ∙ unless-yes States _ _ (states-test (getD ys 0 0) ys ∙ e)
             ∙ ap done (statesOf-is (getD ys 0 0) ys ∙ sym s)
 
--- what is read is kept beside the verdict
+-- a constraint beside the verdict `Good` is lawful
 pub lawful-kept : (fits : ℕ → ℕ → Bool) (ys : List ℕ) (r : ConstraintAnswer)
     → constraintOutcome r ≡ constraintFrom fits ys
     → (constraintOutcome r ≡ constraintFrom fits ys) × (r .verdict ≡ Good → Lawful (constraintOf (r .constraint)))
@@ -116,30 +114,6 @@ lawful-kept fits ys r e = (
   λ g. constraintFrom-lawful fits ys (constraintOf (r .constraint))
       (said-good (r .verdict) (constraintOf (r .constraint)) (constraintFrom fits ys) e g),
 )
-
--- ---- the front of a job
-module _ {A : Type 0} (xs : List ℕ) (o : Outcome A) where
-  pub front-short : leb 4 (length xs) ≡ false → fronted xs o ≡ refused Length
-  front-short e = unless-false Length (leb 4 (length xs)) _ e
-
-  module _ (e₀ : leb 4 (length xs) ≡ true) where
-    pub front-parameters : goodParameters (getD xs 0 0) (getD xs 1 0) (getD xs 2 0) ≡ false
-        → fronted xs o ≡ refused Parameters
-    front-parameters e = unless-yes Length (leb 4 (length xs)) _ e₀ ∙ unless-false Parameters _ o e
-
-    pub front-passed : goodParameters (getD xs 0 0) (getD xs 1 0) (getD xs 2 0) ≡ true → fronted xs o ≡ o
-    front-passed e = unless-yes Length (leb 4 (length xs)) _ e₀ ∙ unless-yes Parameters _ o e
-
--- what its verdict says of the whole
-module _ (xs : List ℕ) (v : Verdict) (e : verdictOn v xs ≡ fronted xs (done xs)) where
-  pub front-bad : {A : Type 0} (o : Outcome A) (r : Refusal) → v ≡ Bad r → fronted xs o ≡ refused r
-  front-bad o r q = fronted-onward xs xs o ∙ ap (λ u. onward u (λ _. o)) (said-bad v xs (fronted xs (done xs)) e r q)
-
-  pub front-good : {A : Type 0} (o : Outcome A) → v ≡ Good → fronted xs o ≡ o
-  front-good o q = fronted-onward xs xs o ∙ ap (λ u. onward u (λ _. o)) (said-good v xs (fronted xs (done xs)) e q)
-
-  pub front-long : v ≡ Good → 4 ≤ length xs
-  front-long q = fronted→ xs (done xs) xs (said-good v xs (fronted xs (done xs)) e q) .0
 
 -- ---- a run-length job
 module _ (xs : List ℕ) where
@@ -177,7 +151,7 @@ module _ (xs : List ℕ) where
           ∙ ap (λ c. done (record { p = getD xs 2 0; q = getD xs 3 0; cap = getD xs 4 0; constraint = c })) (sym s)
 
 -- ---- a job that is read
--- the job that is read is ready to be compiled
+-- a job beside the verdict `Good` is ready to be compiled, where those that are read are allowed
 pub ready-kept : (r : JobAnswer) (o : Outcome Job) → jobOutcome r ≡ o → ((j : Job) → o ≡ done j → Allowed j)
     → (jobOutcome r ≡ o) × (r .verdict ≡ Good → JobReady (r .job))
 ready-kept r o e f = (e, ready)

@@ -1,9 +1,9 @@
 -- Jobs that are read are allowed: their numbers are in range and their next states are states or none.
--- In order: allowed-of; fronted→, fronted-onward; readJob-from, a job is a front and one constraint; readJob-allowed;
--- readRunLength-allowed.
+-- In order: readJob-from, a job is a front and one constraint; readJob-allowed; readRunLength-allowed;
+-- readJoined-allowed.
 -- Assumes nothing.
 use Rattle.laws.proofs.All.{_≡_, refl, sym, ap, ap₂, subst, _∙_, Bool, true, false, _&&_, List, ℕ, _+_, _*_, _-_, _≤_}
-use Rattle.laws.proofs.All.{arith, ℕ-discrete, T, leb, eqb, leb→le, le→leb, leb-true, eq-eqb, ne-eqb, length, getD, drop}
+use Rattle.laws.proofs.All.{arith, ℕ-discrete, leb, eqb, leb→le, le→leb, leb-true, eq-eqb, ne-eqb, length, getD, drop}
 use Rattle.laws.proofs.All.{length-drop, getD-drop, drop-drop, all, and→}
 use Rattle.answer.specs.declared.Refusal.the-variants.{Parameters, States, Length}
 use Rattle.answer.specs.Outcomes.{Outcome, done, unless, onward}
@@ -11,49 +11,13 @@ use Rattle.answer.proofs.Outcomes.{done-inj, unless-true, unless→, onward→}
 use Rattle.constraint.specs.Walking.{Constraint, runLength, Lawful}
 use Rattle.constraint.proofs.Walking.{length-runLength, runLength-well}
 use Rattle.table.specs.Formed.{goodNext}
+use Rattle.joining.specs.Joined.{joined}
+use Rattle.joining.proofs.Joined.{joined-lawful}
 use Rattle.job.specs.Jobs.{Job, goodParameters, statesOf, constraintFrom, fronted, jobWith, readJob}
-use Rattle.job.specs.Jobs.{readRunLength, Allowed}
+use Rattle.job.specs.Jobs.{readRunLength, readJoined, Allowed}
 use Rattle.job.proofs.Constraints.{checked, from-checked, constraintFrom-lawful}
-
--- ---- parameters in range and a lawful constraint
-pub allowed-of : (p q cap : ℕ) (c : Constraint) → T (goodParameters p q cap) → Lawful c
-    → Allowed (record { p = p; q = q; cap = cap; constraint = c })
-allowed-of p q cap c t l =
-    let (tp, u) = and→ (leb 1 p && leb p 4) ((leb 1 q && leb q 8) && (leb 1 cap && leb cap 16)) t in
-    let (tq, tc) = and→ (leb 1 q && leb q 8) (leb 1 cap && leb cap 16) u in
-    let (p₁, p₂) = and→ (leb 1 p) (leb p 4) tp in
-    let (q₁, q₂) = and→ (leb 1 q) (leb q 8) tq in
-    let (c₁, c₂) = and→ (leb 1 cap) (leb cap 16) tc in
-    record {
-      p₁ = leb→le 1 p p₁;
-      p₂ = leb→le p 4 p₂;
-      q₁ = leb→le 1 q q₁;
-      q₂ = leb→le q 8 q₂;
-      cap₁ = leb→le 1 cap c₁;
-      cap₂ = leb→le cap 16 c₂;
-      k₁ = l .some;
-      k₂ = l .few;
-      well = l .well;
-    }
-
--- ---- the front of a job's bytes
-pub fronted→ : {A : Type 0} (xs : List ℕ) (o : Outcome A) (a : A) → fronted xs o ≡ done a
-    → (4 ≤ length xs) × T (goodParameters (getD xs 0 0) (getD xs 1 0) (getD xs 2 0)) × (o ≡ done a)
-fronted→ xs o a e =
-    let (tl, e₁) = unless→ Length (leb 4 (length xs)) _ a e in
-    let (tp, e₂) = unless→ Parameters (goodParameters (getD xs 0 0) (getD xs 1 0) (getD xs 2 0)) o a e₁ in
-    (leb→le 4 (length xs) tl, tp, e₂)
-
--- its checks do not look at what follows
-pub fronted-onward : {A B : Type 0} (xs : List ℕ) (b : B) (o : Outcome A)
-    → fronted xs o ≡ onward (fronted xs (done b)) (λ _. o)
-fronted-onward {A} {B} xs b o = go (leb 4 (length xs)) (goodParameters (getD xs 0 0) (getD xs 1 0) (getD xs 2 0))
-  where
-    go : (s t : Bool) → unless Length s (unless Parameters t o)
-        ≡ onward (unless Length s (unless Parameters t (done b))) (λ _. o)
-    go true true = refl
-    go true false = refl
-    go false t = refl
+use Rattle.job.proofs.Fronts.{fronted→, allowed-of}
+use Rattle.job.proofs.Joining.{joins-lawful, joins-exact}
 
 -- ---- a job is a front and one constraint
 -- the length that K says, behind cap and of all bytes
@@ -133,3 +97,9 @@ readRunLength-allowed xs j e =
     let (tk, e₃) = unless→ States (leb d k && leb k 15) _ j e₂ in
     subst Allowed (done-inj found j e₃)
     (allowed-of _ _ _ (runLength d k) tp (runLength-lawful d k (leb→le k 15 (and→ (leb d k) (leb k 15) tk .1))))
+
+pub readJoined-allowed : (xs : List ℕ) (j : Job) → readJoined xs ≡ done j → Allowed j
+readJoined-allowed xs j e =
+    let (c, d, s, few, q) = joins-exact xs j e in
+    let (lc, ld) = joins-lawful xs c d s in
+    subst Allowed (sym q) (allowed-of _ _ _ (joined c d) (s .parameters) (joined-lawful c d lc ld few))

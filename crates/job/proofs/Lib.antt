@@ -1,3 +1,5 @@
 pub mod Constraints
+pub mod Fronts
+pub mod Joining
 pub mod Jobs
 pub mod JobSteps

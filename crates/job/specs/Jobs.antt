@@ -58,8 +58,8 @@ readRunLength xs =
     (unless Parameters (goodParameters p q cap)
     (unless States (leb d k && leb k 15) (done (record { p = p; q = q; cap = cap; constraint = runLength d k }))))
 
--- "each constraint as K and its next-state bytes", in front of a row of bytes: "8 for a missing K, K by 2, 8, next states
--- by 2", where the bytes that a constraint takes are compared with those that are there by `fits`
+-- "each constraint as K and its next-state bytes", in front of a row of bytes: "8 for a missing K, K by 2, 8, next
+-- states by 2", where the bytes that a constraint takes are compared with those that are there by `fits`
 unfoldable pub constraintFrom : (ℕ → ℕ → Bool) → List ℕ → Outcome Constraint
 constraintFrom fits ys =
     let K = getD ys 0 0 in

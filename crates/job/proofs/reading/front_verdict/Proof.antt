@@ -1,9 +1,8 @@
 -- `front_verdict` meets its contract: each return follows the first check that fails, or all of them.
 -- Assumes nothing.
-use Rattle.laws.proofs.All.{_≡_, sym, _∙_, true, List, ℕ, _≤_, arith, not-true, not-false, le-leb, lt-leb, now, leb}
-use Rattle.laws.proofs.All.{length, needs}
+use Rattle.laws.proofs.All.{sym, subst, _∙_, List, ℕ, _≤_, arith, T, not-true, not-false, now, length, needs}
 use Rattle.answer.specs.Outcomes.{done}
-use Rattle.job.proofs.JobSteps.{front-short, front-parameters, front-passed}
+use Rattle.job.proofs.Fronts.{front-short, front-parameters, front-passed}
 use Rattle.job.proofs.reading.front_verdict.Statement.{statement}
 use Rattle.job.proofs.reading.front_verdict.Tie as tie
 
@@ -11,11 +10,11 @@ use Rattle.job.proofs.reading.front_verdict.Tie as tie
 abbrev in₁ : tie.Else1 → List ℕ
 in₁ c = now (c .before .before .args .bytes)
 
-long : (c : tie.Else1) → leb 4 (length (in₁ c)) ≡ true
-long c = let h : 4 ≤ length (in₁ c) = omega (arith, c .if1 .left) in le-leb 4 _ h
+long : (c : tie.Else1) → 4 ≤ length (in₁ c)
+long c = omega (arith, c .if1 .left)
 
 returns : tie.Need-returns
-returns c = let xs = now (c .before .before .args .bytes) in sym (front-short xs (done xs) (lt-leb 4 _ (c .if1 .taken)))
+returns c = let xs = now (c .before .before .args .bytes) in sym (front-short xs (done xs) (c .if1 .taken))
 
 returns-2 : tie.Need-returns-2
 returns-2 c =
@@ -29,7 +28,7 @@ returns-3 c =
     let g = c .before in
     let b = g .before .before .before .before in
     sym (front-passed (in₁ b) (done (in₁ b)) (long b)
-    (sym (g .good-parameters .ensures) ∙ not-false (g .good-parameters .result) (c .if2 .left)))
+    (subst T (sym (sym (g .good-parameters .ensures) ∙ not-false (g .good-parameters .result) (c .if2 .left))) tt))
 
 pub front-verdict-spec : {M : Type 1} → statement M
 front-verdict-spec =

@@ -6,7 +6,8 @@ use Rattle.answer.specs.Outcomes.{done, onward}
 use Rattle.job.specs.Jobs.{constraintFrom, jobWith}
 use Rattle.job.specs.JobValues.{constraintOutcome}
 use Rattle.job.proofs.Jobs.{readJob-from, readJob-allowed}
-use Rattle.job.proofs.JobSteps.{front-bad, front-good, front-long, ready-kept}
+use Rattle.job.proofs.Fronts.{front-bad, front-good, front-long}
+use Rattle.job.proofs.JobSteps.{ready-kept}
 use Rattle.job.proofs.reading.read_job.Statement.{statement}
 use Rattle.job.proofs.reading.read_job.Tie as tie
 

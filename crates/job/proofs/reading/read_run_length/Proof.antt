@@ -1,7 +1,7 @@
 -- `read_run_length` meets its contract: each return follows the checks before it, in document 01's order.
 -- Assumes nothing.
-use Rattle.laws.proofs.All.{_≡_, sym, _∙_, _&&_, true, List, ℕ, arith, not-true, not-false, eq-eqb, ne-eqb, now}
-use Rattle.laws.proofs.All.{leb, eqb, length, getD, needs}
+use Rattle.laws.proofs.All.{_≡_, sym, _∙_, _&&_, true, List, ℕ, arith, not-true, not-false, eq-eqb, ne-eqb, now, leb}
+use Rattle.laws.proofs.All.{eqb, length, getD, needs}
 use Rattle.answer.specs.declared.Verdict.the-variants.{Good}
 use Rattle.job.specs.Jobs.{goodParameters}
 use Rattle.job.proofs.JobSteps.{in-range, jobOf, run-length-size, run-length-parameters, run-length-range}

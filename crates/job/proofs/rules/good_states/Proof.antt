@@ -1,8 +1,8 @@
 -- `good_states` meets its contract. The loop's invariant: the next states of every state passed are states or none.
 -- The measure is what is left.
 -- Assumes nothing.
-use Rattle.laws.proofs.All.{_≡_, sym, subst, _∙_, true, ℕ, _-_, _≤_, _<_, arith, below-more, not-true, not-false}
-use Rattle.laws.proofs.All.{now, T, needs}
+use Rattle.laws.proofs.All.{_≡_, sym, subst, _∙_, true, ℕ, _-_, _≤_, _<_, arith, below-more, not-true, not-false, now}
+use Rattle.laws.proofs.All.{T, needs}
 use Rattle.table.proofs.LoopTests.{all-passed, all-failed}
 use Rattle.job.specs.JobValues.{goodStateAt}
 use Rattle.job.proofs.rules.good_states.Statement.{statement}

@@ -1,7 +1,7 @@
 -- `read_constraint` meets its contract: each return follows the checks before it, in the documents' order.
 -- Assumes nothing.
-use Rattle.laws.proofs.All.{_≡_, sym, _∙_, _&&_, Bool, true, List, ℕ, _+_, _*_, _≤_, arith, not-true, not-false, le-leb}
-use Rattle.laws.proofs.All.{lt-leb, now, leb, length, getD, needs}
+use Rattle.laws.proofs.All.{_≡_, sym, _∙_, _&&_, Bool, true, List, ℕ, _+_, _*_, _≤_, arith, not-true, not-false}
+use Rattle.laws.proofs.All.{le-leb, lt-leb, now, leb, length, getD, needs}
 use Rattle.answer.specs.declared.Verdict.the-variants.{Good}
 use Rattle.job.specs.JobValues.{sized}
 use Rattle.job.proofs.JobSteps.{in-range, sized-fits, missing-count, bad-count, bad-size, bad-states}
@@ -92,6 +92,6 @@ read-constraint-spec =
     tie.close
     (tie.spec
     (λ c κs. search needs) returns (λ c. search needs) cast-count (λ c κs. search needs) (λ c κs. search needs)
-    returns-2 (λ c. omega (arith, count c)) (λ c. omega (arith, count c)) (λ c κs. search needs) (λ c κs. search needs) returns-3
-    (λ c κs. (count (c .before .before), room c)) (λ c κs. search needs) returns-4
+    returns-2 (λ c. omega (arith, count c)) (λ c. omega (arith, count c)) (λ c κs. search needs)
+    (λ c κs. search needs) returns-3 (λ c κs. (count (c .before .before), room c)) (λ c κs. search needs) returns-4
     (λ c κs. (count (c .before .before .before .before), room (c .before .before))) returns-5)
