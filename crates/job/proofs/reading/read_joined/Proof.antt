@@ -27,11 +27,7 @@ second-start-requires : tie.Need-second-start-requires
 second-start-requires c κs = long (c .before .before)
 
 join-read-requires : tie.Need-join-read-requires
-join-read-requires c κs = (
-  long (c .before .before .before .before .before),
-  c .before .before .before .read-constraint .ensures .1,
-  c .read-constraint2 .ensures .1,
-)
+join-read-requires c κs = (long (c .before .before .before .before .before), search needs, search needs)
 
 returns : tie.Need-returns
 unfolding readJoined
