@@ -1,10 +1,10 @@
 -- What is promised of a job with two constraints beside what is promised of every job.
 -- In order: too-many-pairs; compiled-constraint; both-obeyed.
 -- Assumes nothing.
-use Rattle.laws.proofs.All.{_≡_, refl, sym, ap, subst, _∙_, _↔_, List, ℕ, _/_, _%_, _<_, arith, length, getD, Each}
+use Rattle.laws.proofs.All.{_≡_, refl, sym, ap, subst, _∙_, _↔_, List, ℕ, _/_, _%_, _<_, length, getD, Each}
 use Rattle.laws.proofs.All.{Once, each-at}
 use Rattle.answer.specs.declared.Refusal.the-variants.{TooManyPairs}
-use Rattle.answer.specs.Outcomes.{Outcome, done, refused}
+use Rattle.answer.specs.Outcomes.{done, refused}
 use Rattle.answer.proofs.Outcomes.{done-inj}
 use Rattle.constraint.specs.Walking.{Constraint}
 use Rattle.constraint.specs.Follow.{Finds, channel}
@@ -15,9 +15,9 @@ use Rattle.table.specs.Paths.{Blocks, recording}
 use Rattle.table.proofs.Formed.{formed→}
 use Rattle.obeying.proofs.Exact.{obeys-exact}
 use Rattle.checker.specs.Parse.{parse}
-use Rattle.job.specs.Jobs.{Job, readJoined, Joins}
+use Rattle.job.specs.Jobs.{Job, Joins}
 use Rattle.job.proofs.Joining.{joined-job, joins-lawful, too-many-read}
-use Rattle.compiler.specs.Compile.{compile, compileJoined, tableFor, code}
+use Rattle.compiler.specs.Compile.{compile, compileJoined}
 use Rattle.compiler.specs.Kinds.{joined as two}
 use Rattle.compiler.proofs.Compile.{Reason, reason, coded}
 use Rattle.compiler.proofs.Accepted.{compiled-passes}
@@ -62,8 +62,11 @@ both-obeyed xs room r e k g =
       c,
       d,
       s,
-      each-at (λ z. Reachable c d (z / 16) (z % 16)) 0 (pairs c d) (joined-pairs c d lc ld .1) (k .start) h,
-      λ ds b. joined-finds c d lc ld few (k .start) h _ .0
-          (subst (λ l. Finds l (k .start) (channel (k .q) (recording k ds))) is
-          (obeys-exact k f .0 (p .obeys) ds b)),
+      (
+        each-at (λ z. Reachable c d (z / 16) (z % 16)) 0 (pairs c d) (joined-pairs c d lc ld .1) (k .start) h,
+        λ ds b.
+            let bs = channel (k .q) (recording k ds) in
+            joined-finds c d lc ld few (k .start) h bs .0
+            (subst (λ l. Finds l (k .start) bs) is (obeys-exact k f .0 (p .obeys) ds b)),
+      ),
     )
