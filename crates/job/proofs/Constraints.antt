@@ -1,14 +1,16 @@
 -- A constraint that is read from a row of bytes is lawful: it has 1 to 16 states, and their next states are states or
 -- none.
--- In order: checked, from-checked, the checks behind K's; states-well; length-statesOf; constraintFrom-lawful,
--- constraintFrom-length.
+-- In order: checked, from-checked, the checks behind K's; constraint-refused; states-well; length-statesOf;
+-- constraintFrom-lawful, constraintFrom-length.
 -- Assumes nothing.
-use Rattle.laws.proofs.All.{_≡_, refl, sym, ap, subst, _∙_, inl, inr, Bool, _&&_, List, ℕ, zero, suc, _+_, _*_, _≤_}
+use Rattle.laws.proofs.All.{_≡_, refl, sym, ap, subst, _∙_, _⊎_, inl, inr, Bool, _&&_, List, ℕ, zero, suc, _+_, _*_, _≤_}
 use Rattle.laws.proofs.All.{T, ltb, leb, eqb, ltb→lt, leb→le, eqb→eq, length, getD, drop, all, and→, or→, each-map}
 use Rattle.laws.proofs.All.{all-each}
 use Rattle.answer.specs.declared.Refusal.the-variants.{States, Length}
 use Rattle.answer.specs.Outcomes.{Outcome, done, unless}
+use Rattle.answer.specs.Refusals.{numberOf}
 use Rattle.answer.proofs.Outcomes.{done-inj, unless→}
+use Rattle.answer.proofs.RefusedOutcomes.{Refuses, refuses-done, refuses-unless}
 use Rattle.constraint.specs.Walking.{NextStates, Constraint, none, Target, Well, Lawful}
 use Rattle.table.specs.Formed.{goodState, goodNext}
 use Rattle.job.specs.Jobs.{statesOf, constraintFrom}
@@ -23,6 +25,18 @@ pub from-checked : (fits : ℕ → ℕ → Bool) (ys : List ℕ) → constraintF
     (checked (fits (1 + 2 * getD ys 0 0) (length ys)) (getD ys 0 0) (statesOf (getD ys 0 0) (drop 1 ys)))
 unfolding constraintFrom
 from-checked fits ys = refl
+
+-- a constraint is refused with 2 or 8 only
+pub constraint-refused : (fits : ℕ → ℕ → Bool) (ys : List ℕ)
+    → Refuses (λ r. (numberOf r ≡ 2) ⊎ (numberOf r ≡ 8)) (constraintFrom fits ys)
+unfolding constraintFrom
+constraint-refused fits ys =
+    let K = getD ys 0 0 in
+    let unless-few = refuses-unless (λ r. (numberOf r ≡ 2) ⊎ (numberOf r ≡ 8)) in
+    unless-few Length (leb 1 (length ys)) _ (inr refl)
+    (unless-few States (leb 1 K && leb K 16) _ (inl refl)
+    (unless-few Length (fits (1 + 2 * K) (length ys)) _ (inr refl)
+    (unless-few States (all (goodNext K) (statesOf K (drop 1 ys))) _ (inl refl) (refuses-done _ _))))
 
 -- ---- what the tests say
 target : (K s : ℕ) → T (goodState K s) → Target K s

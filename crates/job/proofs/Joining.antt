@@ -1,21 +1,20 @@
 -- A job with two constraints: which ones its bytes hold, and when there are too many pairs.
 -- In order: joins-lawful; joins-exact, joined-job; too-many-read; joined-from, where the second constraint starts.
 -- Assumes nothing.
-use Rattle.laws.proofs.All.{_≡_, refl, sym, ap, _∙_, _↔_, Bool, true, false, _&&_, List, ℕ, _+_, _*_, _≤_, _<_, arith}
-use Rattle.laws.proofs.All.{min, min-eq-left, min-eq-right, decLe, T, leb, eqb, leb→le, leb-false, lt-leb, length}
-use Rattle.laws.proofs.All.{getD, drop, getD-drop, drop-length, drop-of-length-le, all}
+use Rattle.laws.proofs.All.{_≡_, refl, sym, ap, _∙_, _↔_, inl, inr, Bool, true, false, List, ℕ, _+_, _*_, _≤_, _<_, arith}
+use Rattle.laws.proofs.All.{min, T, leb, eqb, leb→le, leb-false, lt-leb, length}
+use Rattle.laws.proofs.All.{getD, drop, drop-min, getD-drop}
 use Rattle.answer.specs.declared.Refusal.{Refusal}
-use Rattle.answer.specs.declared.Refusal.the-variants.{Parameters, States, Length, TooManyPairs}
+use Rattle.answer.specs.declared.Refusal.the-variants.{Parameters, Length, TooManyPairs}
 use Rattle.answer.specs.Refusals.{numberOf}
 use Rattle.answer.specs.Outcomes.{Outcome, done, refused, unless, onward}
 use Rattle.answer.proofs.Outcomes.{done-inj, refused-not, unless-false, unless→, onward→}
 use Rattle.answer.proofs.RefusedOutcomes.{refused-inj}
 use Rattle.constraint.specs.Walking.{Constraint, Lawful}
 use Rattle.joining.specs.Joined.{pairs, joined}
-use Rattle.table.specs.Formed.{goodNext}
-use Rattle.job.specs.Jobs.{Job, goodParameters, statesOf, constraintFrom, fronted, jobWith, joinedJob}
+use Rattle.job.specs.Jobs.{Job, goodParameters, constraintFrom, fronted, jobWith, joinedJob}
 use Rattle.job.specs.Jobs.{readJoined, Joins}
-use Rattle.job.proofs.Constraints.{from-checked, constraintFrom-lawful, constraintFrom-length}
+use Rattle.job.proofs.Constraints.{constraint-refused, constraintFrom-lawful, constraintFrom-length}
 use Rattle.job.proofs.Fronts.{front-passed, fronted→}
 
 -- ---- the constraints of a job that is read
@@ -68,15 +67,7 @@ failed r false a e = refl
 
 -- reading one constraint does not give 14
 never : (fits : ℕ → ℕ → Bool) (ys : List ℕ) → constraintFrom fits ys ≡ refused TooManyPairs → ⊥
-never fits ys e =
-    let K = getD ys 0 0 in
-    let c = statesOf K (drop 1 ys) in
-    let e₀ = sym (from-checked fits ys) ∙ e in
-    let (_, e₁) = behind Length TooManyPairs (leb 1 (length ys)) _ (λ q. omega arith) e₀ in
-    let (_, e₂) = behind States TooManyPairs (leb 1 K && leb K 16) _ (λ q. omega arith) e₁ in
-    let (_, e₃) = behind Length TooManyPairs (fits (1 + 2 * K) (length ys)) _ (λ q. omega arith) e₂ in
-    let (_, e₄) = behind States TooManyPairs (all (goodNext K) c) (done c) (λ q. omega arith) e₃ in
-    refused-not TooManyPairs c (sym e₄)
+never fits ys e = elim (constraint-refused fits ys TooManyPairs e) [ inl h ↦ omega arith | inr h ↦ omega arith ]
 
 -- THEOREM: reading is refused with 14 exactly when both constraints pass and there are more than 16 pairs
 pub too-many-read : (xs : List ℕ) → (readJoined xs ≡ refused TooManyPairs)
@@ -115,14 +106,6 @@ onward-same : {A B : Type 0} (o : Outcome A) (f g : A → Outcome B) → ((x : A
     → onward o f ≡ onward o g
 onward-same (done x) f g h = h x refl
 onward-same (refused r) f g h = refl
-
-drop-min : (n : ℕ) (xs : List ℕ) → drop (min n (length xs)) xs ≡ drop n xs
-drop-min n xs = elim (decLe n (length xs)) [
-  | yes h ↦ ap (λ k. drop k xs) (min-eq-left h)
-  | no h ↦
-      let l : length xs ≤ n = omega arith in
-      ap (λ k. drop k xs) (min-eq-right l) ∙ drop-length xs ∙ sym (drop-of-length-le xs l)
-]
 
 -- behind as many states as the first says
 pub joined-from : (xs : List ℕ) (start : ℕ) → start ≡ min (4 + 2 * getD xs 3 0) (length xs)
