@@ -1,7 +1,7 @@
 -- How long the texts are: 43,028 bytes hold what the listing program prints.
 -- In order: refusal-is, refusal-short; compiled-short, never-short, room-enough.
 -- Assumes nothing.
-use Rattle.laws.proofs.All.{_≡_, ap, _⊎_, inl, inr, List, [], _∷_, _++_, ℕ, _≤_, _<_, arith, length, length-append}
+use Rattle.laws.proofs.All.{_≡_, refl, ap, _⊎_, inl, inr, List, [], _∷_, _++_, ℕ, _≤_, arith, length, length-append}
 use Rattle.answer.specs.declared.Refusal.{Refusal}
 use Rattle.answer.specs.declared.Refusal.the-variants.{ShortOutput}
 use Rattle.answer.specs.Refusals.{numberOf}
@@ -15,8 +15,8 @@ use Rattle.compiler.specs.Kinds.{Kind, compileAs}
 use Rattle.job.proofs.Jobs.{readRunLength-allowed}
 use Rattle.compiler.proofs.Accepted.{compiled-passes}
 use Rattle.answer.proofs.RefusedOutcomes.{onward-refused, fitting-refused}
-use Rattle.compiler.proofs.Early.{run-length-early}
-use Rattle.compiler.proofs.Exact.{not-short}
+use Rattle.compiler.proofs.Early.{early-not, run-length-early}
+use Rattle.compiler.proofs.Exact.{compile-refused}
 use Rattle.compiler.proofs.Written as written
 use Rattle.text.specs.Texts.{bytes, decimal}
 use Rattle.text.proofs.Numbers.{decimal-long}
@@ -49,14 +49,10 @@ unfolding listInto
 never-short xs room h e =
     first (onward-refused (onward (readRunLength xs) compile) (λ c. fitting room (listing c)) ShortOutput e)
   where
-    not-early : (numberOf ShortOutput < 3) ⊎ (numberOf ShortOutput ≡ 8) → ⊥
-    not-early (inl k) = omega arith
-    not-early (inr k) = omega arith
-
     second : (readRunLength xs ≡ refused ShortOutput)
         ⊎ ((j : Job) × (readRunLength xs ≡ done j) × (compile j ≡ refused ShortOutput)) → ⊥
-    second (inl q) = not-early (run-length-early xs ShortOutput q)
-    second (inr (j, p, q)) = not-short j q
+    second (inl q) = early-not ShortOutput (run-length-early xs ShortOutput q) .1 refl
+    second (inr (j, p, q)) = omega (arith, compile-refused j ShortOutput q)
 
     first : (onward (readRunLength xs) compile ≡ refused ShortOutput)
         ⊎ ((c : Code) × (onward (readRunLength xs) compile ≡ done c) × (fitting room (listing c) ≡ refused ShortOutput))
