@@ -119,8 +119,8 @@ pub extern "C" fn sbc_compile_run_length(job: &[u8], out: &mut [u8]) -> u64
     word(compiler::bytes::compile_run_length(job, out))
 }
 
-// A job with two constraints compiled to a record for both: 8 below four bytes, 1, for each constraint 8 for a missing K,
-// K by 2, 8, next states by 2; 14, 3, 4, 5, 6, 13; otherwise how many bytes were written.
+// A job with two constraints compiled to a record for both: 8 below four bytes, 1, for each constraint 8 for a missing
+// K, K by 2, 8, next states by 2; 14, 3, 4, 5, 6, 13; otherwise how many bytes were written.
 #[no_mangle]
 pub extern "C" fn sbc_compile_joined(job: &[u8], out: &mut [u8]) -> u64
     ensures answer { λ r. ⌜ r ≡ wordOf (answerOf (compileJoined (now (job .entry)) (length (now (out .entry))))) ⌝ }

@@ -5,7 +5,7 @@ ghost use Rattle.io.specs.Counts.{Counts};
 ghost use Rattle.files.specs.Files.{Fits};
 use arguments::Action;
 use arguments::Parsed;
-use arguments::parse;
+use arguments::numbers::parse;
 use files::Loaded;
 use libc::STDIN_FILENO;
 use messages::say_too_long;

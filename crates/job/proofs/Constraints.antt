@@ -3,8 +3,8 @@
 -- In order: checked, from-checked, the checks behind K's; constraint-refused; states-well; length-statesOf;
 -- constraintFrom-lawful, constraintFrom-length.
 -- Assumes nothing.
-use Rattle.laws.proofs.All.{_≡_, refl, sym, ap, subst, _∙_, _⊎_, inl, inr, Bool, _&&_, List, ℕ, zero, suc, _+_, _*_, _≤_}
-use Rattle.laws.proofs.All.{T, ltb, leb, eqb, ltb→lt, leb→le, eqb→eq, length, getD, drop, all, and→, or→, each-map}
+use Rattle.laws.proofs.All.{_≡_, refl, sym, ap, subst, _∙_, _⊎_, inl, inr, Bool, _&&_, List, ℕ, zero, suc, _+_, _*_}
+use Rattle.laws.proofs.All.{_≤_, T, ltb, leb, eqb, ltb→lt, leb→le, eqb→eq, length, getD, drop, all, and→, or→, each-map}
 use Rattle.laws.proofs.All.{all-each}
 use Rattle.answer.specs.declared.Refusal.the-variants.{States, Length}
 use Rattle.answer.specs.Outcomes.{Outcome, done, unless}

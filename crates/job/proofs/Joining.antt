@@ -1,9 +1,8 @@
 -- A job with two constraints: which ones its bytes hold, and when there are too many pairs.
 -- In order: joins-lawful; joins-exact, joined-job; too-many-read; joined-from, where the second constraint starts.
 -- Assumes nothing.
-use Rattle.laws.proofs.All.{_≡_, refl, sym, ap, _∙_, _↔_, inl, inr, Bool, true, false, List, ℕ, _+_, _*_, _≤_, _<_, arith}
-use Rattle.laws.proofs.All.{min, T, leb, eqb, leb→le, leb-false, lt-leb, length}
-use Rattle.laws.proofs.All.{getD, drop, drop-min, getD-drop}
+use Rattle.laws.proofs.All.{_≡_, refl, sym, ap, _∙_, _↔_, inl, inr, Bool, true, false, List, ℕ, _+_, _*_, _≤_, _<_}
+use Rattle.laws.proofs.All.{arith, min, T, leb, eqb, leb→le, leb-false, lt-leb, length, getD, drop, drop-min, getD-drop}
 use Rattle.answer.specs.declared.Refusal.{Refusal}
 use Rattle.answer.specs.declared.Refusal.the-variants.{Parameters, Length, TooManyPairs}
 use Rattle.answer.specs.Refusals.{numberOf}

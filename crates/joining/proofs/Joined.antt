@@ -140,7 +140,8 @@ module _ (c d : Constraint) where
         | yes k ↦ k
         | no k ↦
             let few : length (pairs c d) ≤ 16 = omega arith in
-            absurd (omega (arith, once-fits zs (pairs c d) o (each-map _ (λ z. T (elem z (pairs c d))) (found few) zs r)))
+            let all = each-map _ (λ z. T (elem z (pairs c d))) (found few) zs r in
+            absurd (omega (arith, once-fits zs (pairs c d) o all))
       ]),
     )
       where

@@ -4,8 +4,8 @@
 use Rattle.laws.proofs.All.{_≡_, sym, ap, _∙_, _+_, _*_, _-_, _≤_, arith, now, length, drop, needs}
 use Rattle.arguments.specs.Parsing.{numberIn, parsed}
 use Rattle.arguments.proofs.Parsing.{number-capped, number-on, number-off, number-end, parsed-none, parsed-some}
-use Rattle.arguments.proofs.parse.Statement.{statement}
-use Rattle.arguments.proofs.parse.Tie as tie
+use Rattle.arguments.proofs.numbers.parse.Statement.{statement}
+use Rattle.arguments.proofs.numbers.parse.Tie as tie
 
 abbrev Inv-loop : tie.InvT-loop
 Inv-loop text n₀ i₀ n i = (i ≤ length text) × (n ≤ 255) × (parsed text ≡ numberIn n (drop i text))

@@ -2,8 +2,8 @@
 -- Assumes nothing.
 use Rattle.laws.proofs.All.{_-_, _≤_, min-eq-left, min-eq-right, arith, lt-ltb, le-ltb, needs}
 use Rattle.arguments.specs.Parsing.{digitOf}
-use Rattle.arguments.proofs.digit.Statement.{statement}
-use Rattle.arguments.proofs.digit.Tie as tie
+use Rattle.arguments.proofs.numbers.digit.Statement.{statement}
+use Rattle.arguments.proofs.numbers.digit.Tie as tie
 
 returns : tie.Need-returns
 unfolding digitOf
