@@ -1,6 +1,6 @@
 -- Laws of a list to which a number is adjoined.
--- In order: Grows, grown, grows-trans, grows-elem, grows-at, grows-long; adjoin-grows, adjoin-elem, adjoin-each,
--- adjoin-once.
+-- In order: Grows, grown, grows-trans, grows-elem, grows-at, grows-long; adjoin-grows, last-elem, adjoin-elem,
+-- adjoin-each, adjoin-once.
 -- Assumes nothing.
 use Rattle.laws.proofs.All.{_≡_, refl, sym, ap, subst, _∙_, Bool, true, false, List, [], _∷_, _++_, append-assoc}
 use Rattle.laws.proofs.All.{append-nil, ℕ, _+_, _≤_, _<_, arith, decLt, T, eqb, eqb-refl, length, getD, length-append}
@@ -37,14 +37,17 @@ module _ (z : ℕ) (ps : List ℕ) where
       go true = grown ps
       go false = (z ∷ [], refl)
 
+  pub last-elem : T (elem z (ps ++ z ∷ []))
+  last-elem =
+      rw (any-append (eqb z) ps (z ∷ []))
+      (→orR (elem z ps) (elem z (z ∷ [])) (→orL (eqb z z) false (eqb-refl z)))
+
   pub adjoin-elem : T (elem z (adjoin z ps))
   adjoin-elem = go (elem z ps) refl
     where
       go : (b : Bool) → elem z ps ≡ b → T (elem z (if b then ps else ps ++ z ∷ []))
       go true e = subst T (sym e) tt
-      go false e =
-          rw (any-append (eqb z) ps (z ∷ []))
-          (→orR (elem z ps) (elem z (z ∷ [])) (→orL (eqb z z) false (eqb-refl z)))
+      go false e = last-elem
 
   pub adjoin-each : (P : ℕ → Type 0) → Each P ps → P z → Each P (adjoin z ps)
   adjoin-each P h p = go (elem z ps)

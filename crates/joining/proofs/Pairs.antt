@@ -1,6 +1,6 @@
 -- The pairs of two constraints are exactly the reachable ones, each once.
--- In order: pair-back; allowed-both, both-allowed, allowed-bit, leads-bit; reach-start, reach-step, reach-state;
--- Walks, walk-one, walk-more, walks, pairs-walks; pairs-closed, pairs-all.
+-- In order: pair-back; allowed-both, both-allowed, allowed-bit, leads-bit; reach-start, reach-step; met-grows;
+-- reach-state; Walks, walk-one, walk-more, walks, pairs-walks; pairs-closed, pairs-all.
 -- Assumes nothing.
 use Rattle.laws.proofs.All.{_≡_, refl, sym, ap, ap₂, subst, subst₂, _∙_, Bool, true, false, not, List, [], _∷_}
 use Rattle.laws.proofs.All.{_++_, ℕ, zero, suc, _+_, _/_, _%_, _≤_, _<_, zero-add, arith, decLt, ℕ-discrete, digits-div}
@@ -61,6 +61,14 @@ module _ (c d : Constraint) where
     y-is = follow-append d (r .bits) (b ∷ []) 0 ∙ ap (λ k. after d k b) (r .y-is);
   }
 
+-- the list after a bit has more behind it
+pub met-grows : (c d : Constraint) (b z : ℕ) (ps : List ℕ) → Grows ps (met c d b z ps)
+met-grows c d b z ps = go (allowed c d b z)
+  where
+    go : (t : Bool) → Grows ps (if t then adjoin (leadsTo c d b z) ps else ps)
+    go true = adjoin-grows (leadsTo c d b z) ps
+    go false = grown ps
+
 module _ (c d : Constraint) (lc : Lawful c) (ld : Lawful d) where
   pub reach-state : (x y : ℕ) → Reachable c d x y → (x < length c) × (y < length d)
   reach-state x y r = (
@@ -88,7 +96,6 @@ module _ (c d : Constraint) (lc : Lawful c) (ld : Lawful d) where
   record Meets (ps qs : List ℕ) : Type 0 where
     once : Once ps → Once qs
     reach : Each (λ z. Reachable c d (z / 16) (z % 16)) ps → Each (λ z. Reachable c d (z / 16) (z % 16)) qs
-    grows : Grows ps qs
 
   meets : (b z : ℕ) (ps : List ℕ) → Reachable c d (z / 16) (z % 16) → Meets ps (met c d b z ps)
   meets b z ps r = go (allowed c d b z) refl
@@ -100,9 +107,8 @@ module _ (c d : Constraint) (lc : Lawful c) (ld : Lawful d) where
       go true e = record {
         once = adjoin-once y ps;
         reach = λ h. adjoin-each y ps _ h (leads-reach b z (subst T (sym e) tt) r);
-        grows = adjoin-grows y ps;
       }
-      go false e = record { once = λ h. h; reach = λ h. h; grows = grown ps }
+      go false e = record { once = λ h. h; reach = λ h. h }
 
   met-elem : (b z : ℕ) (ps : List ℕ) → T (allowed c d b z) → T (elem (leadsTo c d b z) (met c d b z ps))
   met-elem b z ps t = rw (T→true (allowed c d b z) t) (adjoin-elem (leadsTo c d b z) ps)
@@ -135,12 +141,15 @@ module _ (c d : Constraint) (lc : Lawful c) (ld : Lawful d) where
       m₁ : Meets qs rs
       m₁ = meets 1 z qs here
 
+      second : Grows qs rs
+      second = met-grows c d 1 z qs
+
       more : Grows ps rs
-      more = grows-trans ps qs rs (m₀ .grows) (m₁ .grows)
+      more = grows-trans ps qs rs (met-grows c d 0 z ps) second
 
       new : (b : ℕ) → Dec (b ≡ 0) → T (allowed c d b z) → T (elem (leadsTo c d b z) rs)
       new b (yes e) t =
-          rw e (grows-elem qs rs (m₁ .grows) _ (met-elem 0 z ps (subst (λ b. T (allowed c d b z)) e t)))
+          rw e (grows-elem qs rs second _ (met-elem 0 z ps (subst (λ b. T (allowed c d b z)) e t)))
       new b (no n) t = rw (leads-bit c d b z n) (met-elem 1 z qs (subst T (allowed-bit c d b z n) t))
 
       closed : (k b : ℕ) → k < suc i → k < length rs → T (allowed c d b (getD rs k 0))

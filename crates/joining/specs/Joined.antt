@@ -1,13 +1,13 @@
 -- Two constraints on one medium: "a bit is allowed when both constraints allow it. The joined states are the pairs
 -- reachable from both states 0, numbered as first met, walking pairs in number order, bit 0 before bit 1."
 -- In order: pairOf; allowed, leadsTo, one bit from a pair; adjoin, met; walked, walkedFrom, pairs; nextPair,
--- joinedState, joined; Reachable, what the pairs mean.
+-- joinedState, joined; Reachable, what the pairs mean; MeetsAt, FirstMet, what their numbers mean.
 -- Assumes nothing.
 use mathlib.Core.Path.{_≡_}
 use mathlib.Core.Bool.{Bool, not, _&&_}
 use mathlib.Core.List.{List, [], _∷_, _++_, map}
-use Prim.Native.Nat.{ℕ, zero, suc, _+_, _*_, _/_, _%_}
-use lib.Dec.{ltb, eqb}
+use Prim.Native.Nat.{ℕ, zero, suc, _+_, _*_, _/_, _%_, _<_}
+use lib.Dec.{T, ltb, eqb}
 use lib.ListN.{length, getD}
 use Rattle.laws.specs.Lists.{if_then_else_, elem, indexOf}
 use Rattle.constraint.specs.Walking.{none, NextStates, Constraint, after}
@@ -65,3 +65,19 @@ pub record Reachable (c d : Constraint) (x y : ℕ) : Type 0 where
   pub second : Finds d 0 bits
   pub x-is : follow c 0 bits ≡ x
   pub y-is : follow d 0 bits ≡ y
+
+-- "walking pairs in number order, bit 0 before bit 1": bit b of pair number i is place 2 i + b of the walk; at place k
+-- the pair z is met
+pub record MeetsAt (c d : Constraint) (ps : List ℕ) (k z : ℕ) : Type 0 where
+  pub number : ℕ
+  pub bit : ℕ
+  pub place : k ≡ 2 * number + bit
+  pub small : bit < 2
+  pub there : number < length ps
+  pub allows : T (allowed c d bit (getD ps number 0))
+  pub leads : leadsTo c d bit (getD ps number 0) ≡ z
+
+-- "first met": at place k the pair z is met, and at no place before
+pub record FirstMet (c d : Constraint) (ps : List ℕ) (k z : ℕ) : Type 0 where
+  pub here : MeetsAt c d ps k z
+  pub earlier : (l : ℕ) → l < k → MeetsAt c d ps l z → ⊥

@@ -1,5 +1,5 @@
 -- The theorems of what was asked for after the first delivery, each written out in full as on the main page.
--- In order: (a) joint, joined-pairs, too-many-pairs, joined-job, both-obeyed.
+-- In order: (a) joint, joined-pairs, numbered, too-many-pairs, joined-job, both-obeyed.
 -- Assumes nothing.
 use mathlib.Core.Path.{_≡_}
 use mathlib.Core.Logic.{_↔_}
@@ -13,7 +13,7 @@ use Rattle.answer.specs.declared.Refusal.the-variants.{TooManyPairs}
 use Rattle.answer.specs.Outcomes.{done, refused}
 use Rattle.constraint.specs.Walking.{Constraint, Lawful}
 use Rattle.constraint.specs.Follow.{Finds, channel}
-use Rattle.joining.specs.Joined.{pairOf, pairs, joined, Reachable}
+use Rattle.joining.specs.Joined.{pairOf, pairs, joined, Reachable, FirstMet}
 use Rattle.table.specs.Rows.{Code}
 use Rattle.table.specs.Paths.{Blocks, recording}
 use Rattle.checker.specs.Parse.{parse}
@@ -33,6 +33,12 @@ pub joined-pairs : (c d : Constraint) → Lawful c → Lawful d
     → Once (pairs c d) × Each (λ z. Reachable c d (z / 16) (z % 16)) (pairs c d) × (getD (pairs c d) 0 1 ≡ 0)
     × (length (pairs c d) ≤ 16 → (x y : ℕ) → Reachable c d x y → T (elem (pairOf x y) (pairs c d)))
 joined-pairs = Rattle.joining.proofs.Joined.joined-pairs
+
+-- They are numbered as first met, walking pairs in number order, bit 0 before bit 1: the places of first meeting rise.
+pub numbered : (c d : Constraint) → (place : ℕ → ℕ)
+    × ((j : ℕ) → 0 < j → j < length (pairs c d) → FirstMet c d (pairs c d) (place j) (getD (pairs c d) j 0))
+    × ((i j : ℕ) → 0 < i → i < j → j < length (pairs c d) → place i < place j)
+numbered = Rattle.joining.proofs.Numbered.numbered
 
 -- 14 comes exactly when both constraints pass their checks and more than 16 pairs are reachable from both states 0.
 pub too-many-pairs : (xs : List ℕ) (room : ℕ) → (compileJoined xs room ≡ refused TooManyPairs)
