@@ -1,13 +1,13 @@
 -- Pairs are numbered as first met: the places of the walk at which they are first met rise with their numbers.
--- In order: meets-grow, meets-back, first-grow; Numbered; is-y, same, more, meet-one; walk-more, walks; numbered.
+-- In order: meets-grow, meets-back, first-grow; Numbered; is-y, same, more, meet-one; walk-more; numbered.
 -- Assumes nothing.
-use Rattle.laws.proofs.All.{_≡_, refl, sym, ap, subst, subst₂, _∙_, Bool, true, false, List, [], _∷_, _++_, ℕ, zero}
-use Rattle.laws.proofs.All.{suc, _+_, _*_, _≤_, _<_, zero-add, arith, decLt, T, ltb, ltb-true, ltb-false, length, getD}
+use Rattle.laws.proofs.All.{_≡_, refl, sym, ap, subst, subst₂, _∙_, Bool, true, false, List, [], _∷_, _++_, ℕ}
+use Rattle.laws.proofs.All.{suc, _+_, _*_, _≤_, _<_, arith, decLt, T, ltb, ltb-true, ltb-false, length, getD}
 use Rattle.laws.proofs.All.{length-append, getD-append-seam, if_then_else_, elem, lt-ltb, le-ltb}
 use Rattle.constraint.specs.Walking.{Constraint}
 use Rattle.joining.specs.Joined.{allowed, leadsTo, met, walked, walkedFrom, pairs, MeetsAt, FirstMet}
 use Rattle.joining.proofs.Lists.{Grows, grows-elem, grows-at, grows-long, grown, last-elem}
-use Rattle.joining.proofs.Pairs.{met-grows}
+use Rattle.joining.proofs.Pairs.{met-grows, walks-keep}
 
 module _ (c d : Constraint) where
   -- ---- a list that grows
@@ -197,19 +197,14 @@ module _ (c d : Constraint) where
             closed = λ l z q m. w .closed l z (omega (arith, h, m .place, m .small, m .there)) m;
           }
 
-  walks : (k i : ℕ) (ps : List ℕ) → Numbered (2 * i) ps → Numbered (2 * (k + i)) (walkedFrom c d k i ps)
-  walks zero i ps w = rw (zero-add i) w
-  walks (suc k) i ps w =
-      let e : 2 * (k + suc i) ≡ 2 * (suc k + i) = omega arith in
-      subst (λ n. Numbered n (walkedFrom c d (suc k) i ps)) e (walks k (suc i) (walked c d i ps) (walk-more i ps w))
-
   -- THEOREM: the places at which pairs are first met rise with their numbers
   pub numbered : (place : ℕ → ℕ)
       × ((j : ℕ) → 0 < j → j < length (pairs c d) → FirstMet c d (pairs c d) (place j) (getD (pairs c d) j 0))
       × ((i j : ℕ) → 0 < i → i < j → j < length (pairs c d) → place i < place j)
   unfolding pairs
   numbered =
-      let w : Numbered 32 (walkedFrom c d 16 0 (0 ∷ [])) = walks 16 0 (0 ∷ []) (record {
+      let w : Numbered 32 (walkedFrom c d 16 0 (0 ∷ [])) =
+      walks-keep c d (λ i. Numbered (2 * i)) walk-more 16 0 (0 ∷ []) (record {
         place = λ j. j;
         early = λ j p q. absurd (omega arith);
         first = λ j p q. absurd (omega arith);

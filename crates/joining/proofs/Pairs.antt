@@ -1,6 +1,6 @@
 -- The pairs of two constraints are exactly the reachable ones, each once.
--- In order: pair-back; allowed-both, both-allowed, allowed-bit, leads-bit; reach-start, reach-step; met-grows;
--- reach-state; Walks, walk-one, walk-more, walks, pairs-walks; pairs-closed, pairs-all.
+-- In order: pair-back; allowed-both, both-allowed, allowed-bit, leads-bit; reach-start, reach-step; met-grows,
+-- walks-keep; reach-state; Walks, walk-one, walk-more, pairs-walks; pairs-closed, pairs-all.
 -- Assumes nothing.
 use Rattle.laws.proofs.All.{_≡_, refl, sym, ap, ap₂, subst, subst₂, _∙_, Bool, true, false, not, List, [], _∷_}
 use Rattle.laws.proofs.All.{_++_, ℕ, zero, suc, _+_, _/_, _%_, _≤_, _<_, zero-add, arith, decLt, ℕ-discrete, digits-div}
@@ -68,6 +68,15 @@ met-grows c d b z ps = go (allowed c d b z)
     go : (t : Bool) → Grows ps (if t then adjoin (leadsTo c d b z) ps else ps)
     go true = adjoin-grows (leadsTo c d b z) ps
     go false = grown ps
+
+-- what each walked pair keeps, all of them do
+pub walks-keep : (c d : Constraint) (P : ℕ → List ℕ → Type 0)
+    → ((i : ℕ) (ps : List ℕ) → P i ps → P (suc i) (walked c d i ps))
+    → (k i : ℕ) (ps : List ℕ) → P i ps → P (k + i) (walkedFrom c d k i ps)
+walks-keep c d P f zero i ps p = rw (zero-add i) p
+walks-keep c d P f (suc k) i ps p =
+    let e : k + suc i ≡ suc k + i = omega arith in
+    subst (λ n. P n (walkedFrom c d (suc k) i ps)) e (walks-keep c d P f k (suc i) (walked c d i ps) (f i ps p))
 
 module _ (c d : Constraint) (lc : Lawful c) (ld : Lawful d) where
   pub reach-state : (x y : ℕ) → Reachable c d x y → (x < length c) × (y < length d)
@@ -176,15 +185,9 @@ module _ (c d : Constraint) (lc : Lawful c) (ld : Lawful d) where
         closed = λ k b l s. w .closed k b (omega (arith, ltb-false i (length ps) e)) s;
       }
 
-  walks : (k i : ℕ) (ps : List ℕ) → Walks i ps → Walks (k + i) (walkedFrom c d k i ps)
-  walks zero i ps w = rw (zero-add i) w
-  walks (suc k) i ps w =
-      let e : k + suc i ≡ suc k + i = omega arith in
-      subst (λ n. Walks n (walkedFrom c d (suc k) i ps)) e (walks k (suc i) (walked c d i ps) (walk-more i ps w))
-
   pub pairs-walks : Walks 16 (pairs c d)
   unfolding pairs
-  pairs-walks = walks 16 0 (0 ∷ []) (record {
+  pairs-walks = walks-keep c d Walks walk-more 16 0 (0 ∷ []) (record {
     once = λ x. single x (eqb x 0);
     reach = (reach-start c d, tt);
     start = grown (0 ∷ []);
