@@ -39,8 +39,17 @@ enum {
     SBC_BAD_BYTE = 11,       /* block of 2^p or more, or word of 2^q or more, at place N: the value */
     SBC_TOO_FEW_WORDS = 12,  /* fewer than a words */
     SBC_SHORT_OUTPUT = 13,   /* the output is too short */
-    SBC_TOO_MANY_PAIRS = 14  /* two constraints give more than 16 pairs of states */
+    SBC_TOO_MANY_PAIRS = 14, /* two constraints give more than 16 pairs of states */
+    SBC_STREAM = 15          /* over 1,000,000 words, wrong number of bytes, or fill not 0 */
 };
+
+/* The most words of a bit stream, closing words included. */
+enum {
+    SBC_WORDS_MAX = 1000000
+};
+
+/* How many bytes a bit stream of `count` words of q bits has: count x q / 8, rounded up. */
+#define SBC_STREAM_SIZE(q, count) (((uint64_t)(count) * (uint64_t)(q) + 7) / 8)
 
 /* Sizes, in bytes. */
 enum {
@@ -132,6 +141,49 @@ uint64_t sbc_encode(const uint8_t *record, uint64_t record_length, const uint8_t
  * Refusals in order: those of sbc_check; 12; 13; 11 with the place of the first bad word. */
 uint64_t sbc_decode(const uint8_t *record, uint64_t record_length, const uint8_t *words, uint64_t words_length,
                     uint8_t *out, uint64_t out_length);
+
+/* Packs words into a bit stream: q bits a word, eight bits a byte, first bit highest, the last byte filled with 0.
+ * q: 1 to 8.
+ * words: one byte each, below 2^q; up to SBC_WORDS_MAX.
+ * out: the stream; SBC_STREAM_SIZE(q, words_length) bytes are enough. It lies apart from words.
+ * Answers how many bytes were written.
+ * Refusals in order: 1 for a q out of range; 15 for over SBC_WORDS_MAX words; 13; 11 with the place of the first bad
+ * word. */
+uint64_t sbc_pack(uint64_t q, const uint8_t *words, uint64_t words_length, uint8_t *out, uint64_t out_length);
+
+/* Unpacks the words of a bit stream. It undoes sbc_pack, and sbc_pack undoes it.
+ * q: 1 to 8.
+ * count: how many words the stream has, up to SBC_WORDS_MAX.
+ * bytes: the stream, SBC_STREAM_SIZE(q, count) bytes.
+ * out: one word a byte. It lies apart from bytes.
+ * Answers how many words were written: count.
+ * Refusals in order: 1 for a q out of range; 15 for a count over SBC_WORDS_MAX, a bytes_length other than
+ * SBC_STREAM_SIZE(q, count), or a fill that is not 0; 13. */
+uint64_t sbc_unpack(uint64_t q, uint64_t count, const uint8_t *bytes, uint64_t bytes_length, uint8_t *out,
+                    uint64_t out_length);
+
+/* Records blocks under a record as a bit stream: what sbc_pack makes of the words of sbc_encode.
+ * blocks: one byte each, below 2^p; with the a closing words they are up to SBC_WORDS_MAX.
+ * out: the stream; SBC_STREAM_SIZE(q, blocks_length + a) bytes are enough. It lies apart from record and blocks.
+ * Answers how many bytes were written.
+ * Refusals in order: those of sbc_check; 15 for over SBC_WORDS_MAX words, closing words included; 13; 11 with the place
+ * of the first bad block. */
+uint64_t sbc_encode_stream(const uint8_t *record, uint64_t record_length, const uint8_t *blocks,
+                           uint64_t blocks_length, uint8_t *out, uint64_t out_length);
+
+/* Reads the words of a bit stream under a record: what sbc_decode makes of the words of sbc_unpack. It needs no memory
+ * for the words: they are unpacked in parts.
+ * count: how many words the stream has, closing words included, up to SBC_WORDS_MAX.
+ * stream: SBC_STREAM_SIZE(q, count) bytes.
+ * out: one block a byte, a fewer than there are words; SBC_MARK where no edge reads the words. It lies apart from
+ * record and stream.
+ * Overwriting channel bits f to l, counted from 0, can spoil blocks f / q - a (0 if negative) to l / q + m, quotients
+ * rounded down, and no others. Bits that are lost or added shift all that follow: nothing is promised of them.
+ * Answers how many blocks were written.
+ * Refusals in order: those of sbc_check; 15 for a count over SBC_WORDS_MAX, a stream_length other than
+ * SBC_STREAM_SIZE(q, count), or a fill that is not 0; 12; 13. */
+uint64_t sbc_decode_stream(const uint8_t *record, uint64_t record_length, uint64_t count, const uint8_t *stream,
+                           uint64_t stream_length, uint8_t *out, uint64_t out_length);
 
 /* Records blocks under a record that sbc_check accepted once: refusals 9 and 10 are not looked at, and for such a
  * record it answers and writes as sbc_encode does. For any other bytes it is as safe, but what it writes need not obey

@@ -8,6 +8,7 @@ use Rattle.answer.specs.declared.Refusal.{Refusal}
 use Rattle.answer.specs.declared.Refusal.the-variants.{Parameters, States, NoCode, TooHeavy, TooManyEdges}
 use Rattle.answer.specs.declared.Refusal.the-variants.{NoWindow, Field, Length, Disobeys, WindowFails}
 use Rattle.answer.specs.declared.Refusal.the-variants.{BadByte, TooFewWords, ShortOutput, TooManyPairs}
+use Rattle.answer.specs.declared.Refusal.the-variants.{Stream}
 use Rattle.answer.specs.Refusals.{numberOf, most, placeOf}
 use Rattle.answer.proofs.Refusal.{the-type}
 
@@ -31,6 +32,7 @@ case (BadByte place) = (refl, λ h. absurd (h refl))
 case TooFewWords = (refl, λ h. refl)
 case ShortOutput = (refl, λ h. refl)
 case TooManyPairs = (refl, λ h. refl)
+case Stream = (refl, λ h. refl)
 
 pub number-tag : (r : Refusal) → numberOf r ≡ suc (tag r)
 number-tag r = case r .0

@@ -2,3 +2,4 @@ pub mod Outcomes
 pub mod Cases
 pub mod FirstBad
 pub mod RefusedOutcomes
+pub mod Answered

@@ -7,8 +7,10 @@ use Rattle.answer.specs.declared.Refusal.{Refusal}
 use Rattle.answer.specs.declared.Refusal.the-variants.{Parameters, States, NoCode, TooHeavy, TooManyEdges}
 use Rattle.answer.specs.declared.Refusal.the-variants.{NoWindow, Field, Length, Disobeys, WindowFails}
 use Rattle.answer.specs.declared.Refusal.the-variants.{BadByte, TooFewWords, ShortOutput, TooManyPairs}
+use Rattle.answer.specs.declared.Refusal.the-variants.{Stream}
 
--- the number of a refusal in document 01's table, or "14 for more than 16 pairs"
+-- the number of a refusal in document 01's table, "14 for more than 16 pairs", or "15 for a word count over the limit, a
+-- byte length other than count × q / 8 rounded up, or a fill that is not 0"
 abbrev pub numberOf : Refusal → ℕ
 numberOf Parameters = 1
 numberOf States = 2
@@ -24,10 +26,11 @@ numberOf (BadByte place) = 11
 numberOf TooFewWords = 12
 numberOf ShortOutput = 13
 numberOf TooManyPairs = 14
+numberOf Stream = 15
 
 -- the largest number of a refusal
 abbrev pub most : ℕ
-most = 14
+most = 15
 
 -- "for 11, the place of the first bad byte, counted from 0"; the others name no place, and 0 stands for it
 abbrev pub placeOf : Refusal → ℕ
@@ -45,3 +48,4 @@ placeOf (BadByte place) = place
 placeOf TooFewWords = 0
 placeOf ShortOutput = 0
 placeOf TooManyPairs = 0
+placeOf Stream = 0

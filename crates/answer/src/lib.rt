@@ -35,6 +35,9 @@ pub enum Refusal {
     ShortOutput,
     // 14: two constraints give more than 16 pairs of states.
     TooManyPairs,
+    // 15: a stream of more than 1,000,000 words, one with another number of bytes than its words take, or a fill that is
+    // not 0.
+    Stream,
 }
 
 // What a check says of a value that stands beside it: the value is good, or why it is declined.
@@ -68,6 +71,7 @@ pub fn refusal_number(r: Refusal) -> u64
         Refusal::TooFewWords => 12,
         Refusal::ShortOutput => 13,
         Refusal::TooManyPairs => 14,
+        Refusal::Stream => 15,
     }
 }
 

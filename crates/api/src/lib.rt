@@ -7,8 +7,10 @@ ghost use Rattle.codec.specs.Answers.{encodeUnder, decodeUnder, encodeChecked, 
 ghost use Rattle.compiler.specs.Compile.{compileJob, compileRunLength, compileJoined};
 ghost use Rattle.info.specs.Info.{infoUnder, phraseInto};
 ghost use Rattle.listings.specs.Listings.{listInto};
+ghost use Rattle.packing.specs.Streams.{packInto, unpackInto};
 ghost use Rattle.sets.specs.Sets.{readSet};
 ghost use Rattle.sets.specs.Results.{setAnswer};
+ghost use Rattle.streams.specs.Recorded.{encodeStream, decodeStream};
 ghost use Rattle.word.specs.Words.{wordOf};
 ghost use Rattle.api.specs.Words.{setWordOf};
 ghost use Rattle.api.specs.Version.{version};
@@ -85,6 +87,53 @@ pub extern "C" fn sbc_decode_checked(bytes: &[u8], words: &[u8], out: &mut [u8])
         (decodeChecked (now (bytes .entry)) (length (now (out .entry))) (now (words .entry))) (now (out .entry)) ⌝ }
 {
     word(recording::decoding::decode_checked(bytes, words, out))
+}
+
+// Words of q bits as a bit stream: 1 for a q out of range, 15 for too many words, 13, 11 with the place of the first bad
+// word; otherwise how many bytes were written.
+#[no_mangle]
+pub extern "C" fn sbc_pack(q: u64, words: &[u8], out: &mut [u8]) -> u64
+    ensures answer { λ r. ⌜ r ≡ wordOf (answerOf (packInto q (length (now (out .entry))) (now (words .entry)))) ⌝ }
+    ensures written { λ r. ⌜ now (out .exit)
+        ≡ outputOf (packInto q (length (now (out .entry))) (now (words .entry))) (now (out .entry)) ⌝ }
+{
+    word(packing::pack(q as usize, words, out))
+}
+
+// The `count` words of q bits of a bit stream: 1 for a q out of range, 15, 13; otherwise how many words were written.
+#[no_mangle]
+pub extern "C" fn sbc_unpack(q: u64, count: u64, bytes: &[u8], out: &mut [u8]) -> u64
+    ensures answer { λ r. ⌜ r ≡ wordOf (answerOf
+        (unpackInto q count (length (now (out .entry))) (now (bytes .entry)))) ⌝ }
+    ensures written { λ r. ⌜ now (out .exit) ≡ outputOf
+        (unpackInto q count (length (now (out .entry))) (now (bytes .entry))) (now (out .entry)) ⌝ }
+{
+    word(packing::unpack(q as usize, count as usize, bytes, out))
+}
+
+// Blocks recorded under a record as a bit stream: the record's refusals, 15 for too many words, 13, 11 with the place
+// of the first bad block; otherwise how many bytes were written.
+#[no_mangle]
+pub extern "C" fn sbc_encode_stream(bytes: &[u8], blocks: &[u8], out: &mut [u8]) -> u64
+    ensures answer { λ r. ⌜ r ≡ wordOf (answerOf
+        (encodeStream (now (bytes .entry)) (length (now (out .entry))) (now (blocks .entry)))) ⌝ }
+    ensures written { λ r. ⌜ now (out .exit) ≡ outputOf
+        (encodeStream (now (bytes .entry)) (length (now (out .entry))) (now (blocks .entry))) (now (out .entry)) ⌝ }
+{
+    word(streaming::encode_stream(bytes, blocks, out))
+}
+
+// The `count` words of a bit stream decoded under a record: the record's refusals, 15, 12, 13; otherwise how many
+// blocks were written.
+#[no_mangle]
+pub extern "C" fn sbc_decode_stream(bytes: &[u8], count: u64, stream: &[u8], out: &mut [u8]) -> u64
+    ensures answer { λ r. ⌜ r ≡ wordOf (answerOf
+        (decodeStream (now (bytes .entry)) count (length (now (out .entry))) (now (stream .entry)))) ⌝ }
+    ensures written { λ r. ⌜ now (out .exit) ≡ outputOf
+        (decodeStream (now (bytes .entry)) count (length (now (out .entry))) (now (stream .entry)))
+        (now (out .entry)) ⌝ }
+{
+    word(streaming::decode_stream(bytes, count as usize, stream, out))
 }
 
 // The numbers of a record, one byte each: p, q, states less one, m, a, K, constraint start. The record's refusals, 13;

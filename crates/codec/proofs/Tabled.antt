@@ -1,13 +1,10 @@
 -- Encoding and decoding under a table by value, check by check.
--- In order: declined, finished, an outcome as the code answers it; encode-7 to encode-done; decode-7 to
--- decode-done.
+-- In order: encode-7 to encode-done; decode-7 to decode-done.
 -- Assumes nothing.
-use Rattle.laws.proofs.All.{_≡_, sym, ap, _∙_, true, false, List, _++_, ℕ, _+_, _-_, _^_, _≤_, _<_, arith, lt-leb}
-use Rattle.laws.proofs.All.{le-leb, length, drop}
-use Rattle.answer.specs.declared.Refusal.{Refusal}
+use Rattle.laws.proofs.All.{_≡_, sym, ap, _∙_, true, false, List, ℕ, _+_, _-_, _^_, _≤_, _<_, arith, lt-leb}
+use Rattle.laws.proofs.All.{le-leb, length}
 use Rattle.answer.specs.declared.Refusal.the-variants.{Field, BadByte, TooFewWords, ShortOutput}
-use Rattle.answer.specs.declared.Answer.the-variants.{Done, Refused}
-use Rattle.answer.specs.Outcomes.{Outcome, done, refused, answerOf, outputOf}
+use Rattle.answer.specs.Outcomes.{Outcome, done, refused}
 use Rattle.answer.specs.FirstBad.{firstBad, allBelow}
 use Rattle.answer.proofs.FirstBad.{bad-le, below-bad, below-done}
 use Rattle.table.specs.declared.Table.{Table}
@@ -16,16 +13,6 @@ use Rattle.table.specs.Value.{codeIn, ready}
 use Rattle.stepping.specs.Reading.{decode}
 use Rattle.codec.specs.Answers.{encoded, decoded}
 use Rattle.codec.specs.With.{encodedWith, decodedWith}
-
--- ---- an outcome as the code answers it
-pub declined : (o : Outcome (List ℕ)) (r : Refusal) (out : List ℕ) → o ≡ refused r
-    → (Refused r ≡ answerOf o) × (out ≡ outputOf o out)
-declined o r out e = (sym (ap answerOf e), sym (ap (λ x. outputOf x out) e))
-
-pub finished : (o : Outcome (List ℕ)) (xs out out′ : List ℕ) (n : ℕ) → o ≡ done xs → n ≡ length xs
-    → out′ ≡ xs ++ drop n out → (Done n ≡ answerOf o) × (out′ ≡ outputOf o out)
-finished o xs out out′ n e q b =
-    (ap Done q ∙ sym (ap answerOf e), b ∙ ap (λ k. xs ++ drop k out) q ∙ sym (ap (λ x. outputOf x out) e))
 
 -- ---- encoding
 module _ (t : Table) (room : ℕ) (ds : List ℕ) where

@@ -50,6 +50,7 @@ pub fn decode_with(t: Table, words: &[u8], out: &mut [u8]) -> Answer
         &start,
         &order,
         words,
+        0,
         t.memory,
         a,
         count,

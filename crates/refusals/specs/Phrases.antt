@@ -29,6 +29,7 @@ phrases =
     ∷ bytes "fewer than a words"
     ∷ bytes "the output is too short"
     ∷ bytes "two constraints give more than 16 pairs of states"
+    ∷ bytes "over 1,000,000 words, wrong number of bytes, or fill not 0"
     ∷ []
 
 -- the words of a number

@@ -17,7 +17,7 @@ mod lines;
 pub fn put_words(out: &mut [u8], at: usize, number: u64) -> usize
     ensures written { λ e. ⌜ Added (wordsOf number) at (now (out .entry)) (now (out .exit)) e ⌝ }
 {
-    if 14 < number {
+    if 15 < number {
         return put(out, at, b"");
     }
     let words: &[u8] = b"\n\
@@ -34,7 +34,8 @@ pub fn put_words(out: &mut [u8], at: usize, number: u64) -> usize
         block of 2^p or more, or word of 2^q or more, at place \n\
         fewer than a words\n\
         the output is too short\n\
-        two constraints give more than 16 pairs of states\n";
+        two constraints give more than 16 pairs of states\n\
+        over 1,000,000 words, wrong number of bytes, or fill not 0\n";
     put(out, at, line(words, number as usize))
 }
 

@@ -11,18 +11,10 @@ use Rattle.table.specs.Rows.{Rows, at}
 use Rattle.table.specs.Paths.{ends, spells, closing, recording}
 use Rattle.table.specs.Value.{codeIn}
 use Rattle.table.specs.Edges.{Arrays, Fits, arrays, edgeOf, rowsOf}
-use Rattle.table.proofs.Paths.{length-spells, spells-append, ends-append}
+use Rattle.table.proofs.Paths.{length-spells, spells-append, spells-more, ends-more}
 use Rattle.table.proofs.RowsOf.{edge-at, place-next}
 
 -- ---- the words of a path
-module _ (t : Rows) (first : ℕ) (ds : List ℕ) (k : ℕ) (h : k < length ds) where
-  spells-more : spells t first (take (k + 1) ds)
-      ≡ spells t first (take k ds) ++ at t (ends t first (take k ds)) (getD ds k 0) .word ∷ []
-  spells-more = rw (add-one, take-suc ds k 0) (spells-append t (take k ds) (getD ds k 0 ∷ []) first)
-
-  ends-more : ends t first (take (k + 1) ds) ≡ at t (ends t first (take k ds)) (getD ds k 0) .next
-  ends-more = rw (add-one, take-suc ds k 0) (ends-append t (take k ds) (getD ds k 0 ∷ []) first)
-
 -- behind the front, out holds the words of the first k data of the path; i is the next place and s the state there
 pub record Writes (t : Arrays) (front : List ℕ) (first : ℕ) (ds out₀ : List ℕ) (k i s : ℕ) (out : List ℕ)
     : Type 0 where

@@ -1,24 +1,33 @@
 -- The theorems of what was asked for after the first delivery, each written out in full as on the main page.
--- In order: (a) joint, joined-pairs, numbered, too-many-pairs, joined-job, both-obeyed.
+-- In order: (a) joint, joined-pairs, numbered, too-many-pairs, joined-job, both-obeyed; (b) streams, stream-returns,
+-- bits-reach.
 -- Assumes nothing.
 use mathlib.Core.Path.{_≡_}
-use mathlib.Core.Logic.{_↔_}
+use mathlib.Core.Logic.{_⊎_, _↔_}
 use mathlib.Core.List.{List}
-use Prim.Native.Nat.{ℕ, _/_, _%_, _≤_, _<_}
+use Prim.Native.Nat.{ℕ, _+_, _*_, _/_, _%_, _^_, _≤_, _<_}
 use lib.Dec.{T}
 use lib.ListN.{length, getD}
 use Rattle.laws.specs.Lists.{elem}
-use Rattle.laws.specs.Sums.{Each, Once}
+use Rattle.laws.specs.Sums.{Each, Once, Below}
 use Rattle.answer.specs.declared.Refusal.the-variants.{TooManyPairs}
 use Rattle.answer.specs.Outcomes.{done, refused}
+use Rattle.bits.specs.Fields.{bitsOf}
 use Rattle.constraint.specs.Walking.{Constraint, Lawful}
 use Rattle.constraint.specs.Follow.{Finds, channel}
 use Rattle.joining.specs.Joined.{pairOf, pairs, joined, Reachable, FirstMet}
 use Rattle.table.specs.Rows.{Code}
 use Rattle.table.specs.Paths.{Blocks, recording}
 use Rattle.checker.specs.Parse.{parse}
+use Rattle.stepping.specs.Reading.{mark}
+use Rattle.codec.specs.Damage.{SameOutside}
 use Rattle.job.specs.Jobs.{Job, readJoined, Joins}
 use Rattle.compiler.specs.Compile.{compileJoined}
+use Rattle.packing.specs.Streams.{limit, packed, unpacked, goodStream}
+use Rattle.streams.specs.Recorded.{encodeStream, decodeStream}
+use Rattle.damage.specs.declared.BitNo.{BitNo}
+use Rattle.damage.specs.declared.BlockNo.{BlockNo}
+use Rattle.damage.specs.BitReach.{firstBlock, lastBlock}
 
 -- ---- (a) Two constraints on one medium. What the main page says of a `Kind` of job holds of this kind too: its record
 -- passes the checker (`compiled-passes`), and 3 to 6 and 13 come exactly where they are due.
@@ -57,3 +66,27 @@ pub both-obeyed : (xs : List ℕ) (room : ℕ) (r : List ℕ) → compileJoined 
     × (let z = getD (pairs c d) (k .start) 0 in Reachable c d (z / 16) (z % 16) × ((ds : List ℕ) → Blocks k ds
     → let bs = channel (k .q) (recording k ds) in Finds c (z / 16) bs × Finds d (z % 16) bs))
 both-obeyed = Rattle.compiler.proofs.Joined.both-obeyed
+
+-- ---- (b) Recordings as the head sees them: words of q bits as a bit stream. Bits and blocks have numbers of their own
+-- types, `BitNo` and `BlockNo`.
+
+-- Packing and unpacking undo each other, for every q.
+pub streams : (q : ℕ) → ((ws : List ℕ) → Below (2 ^ q) ws → length ws ≤ limit
+    → (unpacked q (length ws) (packed q ws) ≡ ws) × T (goodStream q (length ws) (packed q ws)))
+    × ((count : ℕ) (xs : List ℕ) → Below 256 xs → T (goodStream q count xs) → packed q (unpacked q count xs) ≡ xs)
+streams q = (Rattle.packing.proofs.Streams.unpacked-packed q, Rattle.packing.proofs.Streams.packed-unpacked q)
+
+-- Decoding a recorded stream returns its data.
+pub stream-returns : (rec : List ℕ) → Below 256 rec → (c : Code) → parse rec ≡ done c → (room room′ : ℕ)
+    → (ds xs : List ℕ) → length ds ≤ room′ → encodeStream rec room ds ≡ done xs
+    → decodeStream rec (length ds + c .window .lookahead) room′ xs ≡ done ds
+stream-returns = Rattle.streams.proofs.Returns.stream-returns
+
+-- Overwriting channel bits f to l: only blocks f / q − a to l / q + m can differ from the data written.
+pub bits-reach : (rec : List ℕ) → Below 256 rec → (c : Code) → parse rec ≡ done c → (ds xs : List ℕ) → Blocks c ds
+    → Below 256 xs → let count = length ds + c .window .lookahead in count ≤ limit → (f l : BitNo) → f .0 ≤ l .0
+    → l .0 < count * c .q → SameOutside (f .0) (l .0) (bitsOf xs) (bitsOf (packed (c .q) (recording c ds)))
+    → (room : ℕ) → length ds ≤ room → (out : List ℕ) × (decodeStream rec count room xs ≡ done out)
+    × ((j : BlockNo) → j .0 < length ds → (j .0 < firstBlock (c .q) (c .window .lookahead) (f .0))
+    ⊎ (lastBlock (c .q) (c .window .memory) (l .0) < j .0) → getD out (j .0) mark ≡ getD ds (j .0) 0)
+bits-reach = Rattle.damage.proofs.BitReach.bits-reach

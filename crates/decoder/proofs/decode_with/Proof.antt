@@ -8,7 +8,8 @@ use Rattle.table.proofs.ReadyTables.{ready→}
 use Rattle.table.proofs.RowsOf.{fits-lent}
 use Rattle.stepping.specs.Reading.{decode}
 use Rattle.codec.specs.With.{decodedWith}
-use Rattle.codec.proofs.Tabled.{declined, finished, decode-7, decode-12, decode-13, decode-11, decode-done}
+use Rattle.answer.proofs.Answered.{declined, finished}
+use Rattle.codec.proofs.Tabled.{decode-7, decode-12, decode-13, decode-11, decode-done}
 use Rattle.codec.proofs.Decoded.{length-decode, decoded-in}
 use Rattle.decoder.proofs.decode_with.Statement.{statement}
 use Rattle.decoder.proofs.decode_with.Tie as tie

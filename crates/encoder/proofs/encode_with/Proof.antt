@@ -11,7 +11,8 @@ use Rattle.table.proofs.RowsOf.{fits-lent}
 use Rattle.codec.specs.With.{encodedWith}
 use Rattle.answer.proofs.FirstBad.{below-firstBad, bad-le}
 use Rattle.spelling.proofs.Writing.{recorded-in}
-use Rattle.codec.proofs.Tabled.{declined, finished, encode-7, encode-13, encode-11, encode-done}
+use Rattle.answer.proofs.Answered.{declined, finished}
+use Rattle.codec.proofs.Tabled.{encode-7, encode-13, encode-11, encode-done}
 use Rattle.encoder.proofs.encode_with.Statement.{statement}
 use Rattle.encoder.proofs.encode_with.Tie as tie
 

@@ -4,8 +4,8 @@ use Rattle.laws.proofs.All.{now, length, needs}
 use Rattle.checker.specs.Parse.{parse}
 use Rattle.codec.specs.Answers.{decoded, decodeUnder}
 use Rattle.codec.specs.With.{decodedWith}
-use Rattle.codec.proofs.Tabled.{declined}
-use Rattle.codec.proofs.Loaded.{handed, under-bad, decode-read}
+use Rattle.answer.proofs.Answered.{declined, handed}
+use Rattle.codec.proofs.Loaded.{under-bad, decode-read}
 use Rattle.recording.proofs.decoding.decode.Statement.{statement}
 use Rattle.recording.proofs.decoding.decode.Tie as tie
 

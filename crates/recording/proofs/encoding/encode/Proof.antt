@@ -4,8 +4,8 @@ use Rattle.laws.proofs.All.{now, length, needs}
 use Rattle.checker.specs.Parse.{parse}
 use Rattle.codec.specs.Answers.{encoded, encodeUnder}
 use Rattle.codec.specs.With.{encodedWith}
-use Rattle.codec.proofs.Tabled.{declined}
-use Rattle.codec.proofs.Loaded.{handed, under-bad, encode-read}
+use Rattle.answer.proofs.Answered.{declined, handed}
+use Rattle.codec.proofs.Loaded.{under-bad, encode-read}
 use Rattle.recording.proofs.encoding.encode.Statement.{statement}
 use Rattle.recording.proofs.encoding.encode.Tie as tie
 

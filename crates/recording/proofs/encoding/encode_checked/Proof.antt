@@ -4,8 +4,8 @@ use Rattle.laws.proofs.All.{now, length, needs}
 use Rattle.record.specs.Checks.{fieldsChecked}
 use Rattle.codec.specs.Answers.{encoded, encodeChecked}
 use Rattle.codec.specs.With.{encodedWith}
-use Rattle.codec.proofs.Tabled.{declined}
-use Rattle.codec.proofs.Loaded.{handed, under-bad, encode-read}
+use Rattle.answer.proofs.Answered.{declined, handed}
+use Rattle.codec.proofs.Loaded.{under-bad, encode-read}
 use Rattle.recording.proofs.encoding.encode_checked.Statement.{statement}
 use Rattle.recording.proofs.encoding.encode_checked.Tie as tie
 

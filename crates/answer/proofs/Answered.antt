@@ -1,0 +1,24 @@
+-- An outcome as the code answers it, with the lent bytes after the call.
+-- In order: declined, finished, handed.
+-- Assumes nothing.
+use Rattle.laws.proofs.All.{_≡_, sym, ap, _∙_, List, _++_, ℕ, length, drop}
+use Rattle.answer.specs.declared.Refusal.{Refusal}
+use Rattle.answer.specs.declared.Answer.{Answer}
+use Rattle.answer.specs.declared.Answer.the-variants.{Done, Refused}
+use Rattle.answer.specs.Outcomes.{Outcome, done, refused, answerOf, outputOf}
+
+-- a refusal, and the lent bytes as they were
+pub declined : (o : Outcome (List ℕ)) (r : Refusal) (out : List ℕ) → o ≡ refused r
+    → (Refused r ≡ answerOf o) × (out ≡ outputOf o out)
+declined o r out e = (sym (ap answerOf e), sym (ap (λ x. outputOf x out) e))
+
+-- a result of n bytes, and the lent bytes with it in front
+pub finished : (o : Outcome (List ℕ)) (xs out out′ : List ℕ) (n : ℕ) → o ≡ done xs → n ≡ length xs
+    → out′ ≡ xs ++ drop n out → (Done n ≡ answerOf o) × (out′ ≡ outputOf o out)
+finished o xs out out′ n e q b =
+    (ap Done q ∙ sym (ap answerOf e), b ∙ ap (λ k. xs ++ drop k out) q ∙ sym (ap (λ x. outputOf x out) e))
+
+-- an answer and the output that meet an outcome meet one that is equal to it
+pub handed : (o o′ : Outcome (List ℕ)) (a : Answer) (out out′ : List ℕ) → o ≡ o′ → a ≡ answerOf o
+    → out′ ≡ outputOf o out → (a ≡ answerOf o′) × (out′ ≡ outputOf o′ out)
+handed o o′ a out out′ e p q = (p ∙ ap answerOf e, q ∙ ap (λ x. outputOf x out) e)

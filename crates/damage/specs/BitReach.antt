@@ -1,0 +1,41 @@
+-- The reach of damage in channel bits: "only blocks f / q − a (0 if negative) to l / q + m, quotients rounded down, can
+-- then differ from the data written".
+-- In order: firstBlock, lastBlock; blocksOf; reachUnder; reachAnswer.
+-- Assumes nothing.
+use mathlib.Core.List.{List}
+use Prim.Native.Nat.{ℕ, _+_, _*_, _-_, _/_}
+use lib.Dec.{ltb}
+use Rattle.answer.specs.declared.Refusal.the-variants.{Stream}
+use Rattle.answer.specs.Outcomes.{Outcome, done, refused, unless, onward}
+use Rattle.checker.specs.Parse.{parse}
+use Rattle.packing.specs.Streams.{limit}
+use Rattle.damage.specs.declared.BitRange.{BitRange}
+use Rattle.damage.specs.declared.BlockRange.{BlockRange}
+use Rattle.damage.specs.declared.ReachAnswer.{ReachAnswer}
+use Rattle.damage.specs.declared.ReachAnswer.the-variants.{Blocks, Refused}
+
+-- "f / q − a (0 if negative)"
+abbrev pub firstBlock : ℕ → ℕ → ℕ → ℕ
+firstBlock q a f = f / q - a
+
+-- "l / q + m"
+abbrev pub lastBlock : ℕ → ℕ → ℕ → ℕ
+lastBlock q m l = l / q + m
+
+-- the blocks that can differ when the channel bits of a range are overwritten
+abbrev pub blocksOf : ℕ → ℕ → ℕ → BitRange → BlockRange
+blocksOf q m a d = record {
+  first = record { 0 = firstBlock q a (d .first .0) };
+  last = record { 0 = lastBlock q m (d .last .0) };
+}
+
+-- "the reach is quoted for those within" the limit, under the record in the bytes rec: its refusals, 15
+unfoldable pub reachUnder : List ℕ → BitRange → Outcome BlockRange
+reachUnder rec d =
+    onward (parse rec) (λ c. unless Stream (ltb (d .last .0) (limit * c .q))
+    (done (blocksOf (c .q) (c .window .memory) (c .window .lookahead) d)))
+
+-- the code's answer
+abbrev pub reachAnswer : Outcome BlockRange → ReachAnswer
+reachAnswer (done b) = Blocks b
+reachAnswer (refused r) = Refused r

@@ -1,0 +1,1 @@
+// What encoding to a bit stream and decoding from one come to: definitions and laws only.
