@@ -1,4 +1,5 @@
 // The calls that cases of test vectors make, by kind.
+ghost use Prim.Native.Nat.{_≤_};
 use answer::Answer;
 use answer::answer_number;
 use answer::answer_value;
@@ -10,11 +11,15 @@ use compiler::bytes::compile_run_length;
 use judging::Told;
 use listings::list_run_length;
 use listings::tell_refusal;
+use packing::pack;
+use packing::unpack;
 use recording::decoding::decode;
 use recording::encoding::encode;
 use sets::check_set;
 use sets::set_number;
 use sets::set_value;
+use streaming::decode_stream;
+use streaming::encode_stream;
 
 // The number and the value of an answer.
 fn told_by(a: Answer) -> Told {
@@ -46,6 +51,50 @@ fn list_or_tell(job: &[u8], out: &mut [u8]) -> Answer {
     }
 }
 
+// Byte i, and 0 past the end.
+fn byte_at(bytes: &[u8], i: usize) -> usize {
+    if i < bytes.len() {
+        return bytes[i] as usize;
+    }
+    0
+}
+
+// The number in eight bytes from a place on, most significant first.
+fn number_at(bytes: &[u8], at: usize) -> usize
+    requires { ⌜ at ≤ 1 ⌝ }
+{
+    let mut n: usize = 0;
+    let mut i = 0;
+    while i < 8 {
+        n = (n << 8) | byte_at(bytes, at + i);
+        i += 1;
+    }
+    n
+}
+
+// The blocks of a stream that stands behind its number of words.
+fn decode_counted(record: &[u8], counted: &[u8], out: &mut [u8]) -> Answer {
+    let count = number_at(counted, 0);
+    if counted.len() < 8 {
+        return decode_stream(record, count, b"", out);
+    }
+    decode_stream(record, count, &counted[8..], out)
+}
+
+// The call of a kind on streams: 9 packs, 10 unpacks, 11 encodes, and any other decodes.
+fn call_stream(kind: usize, first: &[u8], second: &[u8], out: &mut [u8]) -> Answer {
+    if kind == 9 {
+        return pack(byte_at(first, 0), second, out);
+    }
+    if kind == 10 {
+        return unpack(byte_at(first, 0), number_at(first, 1), second, out);
+    }
+    if kind == 11 {
+        return encode_stream(first, second, out);
+    }
+    decode_counted(first, second, out)
+}
+
 // The call of a kind that takes a job: 1 compiles a job, 2 a run-length job, 8 one with two constraints, and any other
 // lists.
 fn call_job(kind: usize, job: &[u8], out: &mut [u8]) -> Answer {
@@ -61,7 +110,8 @@ fn call_job(kind: usize, job: &[u8], out: &mut [u8]) -> Answer {
     list_or_tell(job, out)
 }
 
-// The call of a kind: 3 checks a record, 4 encodes, 5 decodes, 6 walks a set, and any other takes a job.
+// The call of a kind: 3 checks a record, 4 encodes, 5 decodes, 6 walks a set, 9 and above are on streams, and any other
+// takes a job.
 pub fn call(kind: usize, first: &[u8], second: &[u8], out: &mut [u8]) -> Told {
     if kind == 3 {
         return told_by(check(first));
@@ -74,6 +124,9 @@ pub fn call(kind: usize, first: &[u8], second: &[u8], out: &mut [u8]) -> Told {
     }
     if kind == 6 {
         return walk_set(first);
+    }
+    if 8 < kind {
+        return told_by(call_stream(kind, first, second, out));
     }
     told_by(call_job(kind, first, out))
 }
