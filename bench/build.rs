@@ -7,12 +7,15 @@ fn main() {
     let run = |program: &str, arguments: &[&str]| {
         assert!(Command::new(program).args(arguments).status().expect(program).success(), "{program}");
     };
-    run("gcc", &["-O3", "-march=x86-64", "-c", &format!("{root}/src/plain.c"), "-o", &format!("{out}/plain.o")]);
-    run("ar", &["crs", &format!("{out}/libplain.a"), &format!("{out}/plain.o")]);
+    for name in ["plain", "shifts"] {
+        let (source, object) = (format!("{root}/src/{name}.c"), format!("{out}/{name}.o"));
+        run("gcc", &["-O3", "-march=x86-64", "-c", &source, "-o", &object]);
+        run("ar", &["crs", &format!("{out}/libplain.a"), &object]);
+        println!("cargo:rerun-if-changed={source}");
+    }
     println!("cargo:rustc-link-search=native={out}");
     println!("cargo:rustc-link-lib=static=plain");
     println!("cargo:rustc-link-search=native={root}/../target/staticlib");
     println!("cargo:rustc-link-lib=static=api");
-    println!("cargo:rerun-if-changed={root}/src/plain.c");
     println!("cargo:rerun-if-changed={root}/../target/staticlib/libapi.a");
 }

@@ -39,6 +39,22 @@ int main(void)
     expect("encode_checked, no record", sbc_encode_checked(NULL, 0, NULL, 0, NULL, 0), SBC_LENGTH, 0);
     expect("encode_checked, no block", sbc_encode_checked(record, r, NULL, 0, out, sizeof out), SBC_DONE, 1);
     expect("decode_checked to no block", sbc_decode_checked(record, r, word, sizeof word, NULL, 0), SBC_DONE, 0);
+    expect("pack, no q", sbc_pack(0, NULL, 0, NULL, 0), SBC_PARAMETERS, 0);
+    expect("pack, no word", sbc_pack(3, NULL, 0, NULL, 0), SBC_DONE, 0);
+    expect("pack, no room", sbc_pack(3, word, sizeof word, NULL, 0), SBC_SHORT_OUTPUT, 0);
+    expect("pack", sbc_pack(3, word, sizeof word, out, sizeof out), SBC_DONE, SBC_STREAM_SIZE(3, 1));
+    expect("unpack, a large q", sbc_unpack(~(uint64_t)0, 0, NULL, 0, NULL, 0), SBC_PARAMETERS, 0);
+    expect("unpack, no word", sbc_unpack(8, 0, NULL, 0, NULL, 0), SBC_DONE, 0);
+    expect("unpack, a large count", sbc_unpack(8, ~(uint64_t)0, NULL, 0, NULL, 0), SBC_STREAM, 0);
+    expect("unpack, no room", sbc_unpack(3, 1, out, 1, NULL, 0), SBC_SHORT_OUTPUT, 0);
+    expect("encode_stream, no record", sbc_encode_stream(NULL, 0, NULL, 0, NULL, 0), SBC_LENGTH, 0);
+    expect("encode_stream, no block", sbc_encode_stream(record, r, NULL, 0, out, sizeof out), SBC_DONE, 1);
+    expect("encode_stream, no room", sbc_encode_stream(record, r, NULL, 0, NULL, 0), SBC_SHORT_OUTPUT, 0);
+    expect("decode_stream, no record", sbc_decode_stream(NULL, 0, 0, NULL, 0, NULL, 0), SBC_LENGTH, 0);
+    expect("decode_stream, no word", sbc_decode_stream(record, r, 0, NULL, 0, NULL, 0), SBC_TOO_FEW_WORDS, 0);
+    expect("decode_stream, a word too many", sbc_decode_stream(record, r, SBC_WORDS_MAX + 1, NULL, 0, NULL, 0),
+           SBC_STREAM, 0);
+    expect("decode_stream to no block", sbc_decode_stream(record, r, 1, out, 1, NULL, 0), SBC_DONE, 0);
     expect("info, no record", sbc_info(NULL, 0, out, sizeof out), SBC_LENGTH, 0);
     expect("info, no room", sbc_info(record, r, NULL, 0), SBC_SHORT_OUTPUT, 0);
     expect("phrase, no room", sbc_phrase(SBC_NO_CODE, NULL, 0), SBC_SHORT_OUTPUT, 0);

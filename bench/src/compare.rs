@@ -1,5 +1,5 @@
 //! Random calls, good and bad, of the proved library and of the outside implementation.
-use crate::library;
+use crate::{library, streams};
 use reference::answer::Answer;
 use std::time::{Duration, Instant};
 
@@ -31,7 +31,7 @@ fn records() -> Vec<(Vec<u8>, usize, usize)> {
 }
 
 /// Bytes with some bits turned, or cut, or lengthened.
-fn damaged(numbers: &mut Numbers, bytes: &[u8]) -> Vec<u8> {
+pub fn damaged(numbers: &mut Numbers, bytes: &[u8]) -> Vec<u8> {
     let mut bytes = bytes.to_vec();
     for _ in 0..numbers.below(4) {
         let place = numbers.below(bytes.len().max(1));
@@ -48,7 +48,7 @@ fn damaged(numbers: &mut Numbers, bytes: &[u8]) -> Vec<u8> {
 }
 
 /// The answer and every lent byte are those of the outside implementation.
-fn agree(what: &str, input: &[u8], ours: (u64, u64), out: &[u8], theirs: &Answer) {
+pub fn agree(what: &str, input: &[u8], ours: (u64, u64), out: &[u8], theirs: &Answer) {
     assert_eq!(ours, (u64::from(theirs.refusal), u64::from(theirs.value)), "{what} of {input:02x?}");
     let written = theirs.output.len();
     assert_eq!(out[..written], theirs.output, "{what} of {input:02x?}: what was written");
@@ -183,11 +183,13 @@ pub fn for_seconds(seconds: u64) {
     let records = records();
     let mut numbers = Numbers::new();
     let end = Instant::now() + Duration::from_secs(seconds);
-    let mut answers = [0u64; 15];
+    let mut answers = [0u64; 16];
     while Instant::now() < end {
         let (record, p, q) = &records[numbers.below(records.len())];
         let bytes = if numbers.below(8) == 0 { damaged(&mut numbers, record) } else { record.clone() };
-        let refusal = match numbers.below(6) {
+        let refusal = match numbers.below(8) {
+            7 => streams::pack(&mut numbers),
+            6 => streams::code(&mut numbers, &bytes, *p),
             5 => compile_joined(&mut numbers),
             4 => set(&mut numbers, &records),
             3 => compile(&mut numbers),

@@ -6,6 +6,10 @@ extern "C" {
     fn sbc_decode(r: *const u8, rl: u64, words: *const u8, wl: u64, out: *mut u8, ol: u64) -> u64;
     fn sbc_encode_checked(r: *const u8, rl: u64, blocks: *const u8, bl: u64, out: *mut u8, ol: u64) -> u64;
     fn sbc_decode_checked(r: *const u8, rl: u64, words: *const u8, wl: u64, out: *mut u8, ol: u64) -> u64;
+    fn sbc_pack(q: u64, words: *const u8, wl: u64, out: *mut u8, ol: u64) -> u64;
+    fn sbc_unpack(q: u64, count: u64, bytes: *const u8, bl: u64, out: *mut u8, ol: u64) -> u64;
+    fn sbc_encode_stream(r: *const u8, rl: u64, blocks: *const u8, bl: u64, out: *mut u8, ol: u64) -> u64;
+    fn sbc_decode_stream(r: *const u8, rl: u64, count: u64, s: *const u8, sl: u64, out: *mut u8, ol: u64) -> u64;
     fn sbc_info(r: *const u8, rl: u64, out: *mut u8, ol: u64) -> u64;
     fn sbc_phrase(refusal: u64, out: *mut u8, ol: u64) -> u64;
     fn sbc_compile(job: *const u8, jl: u64, out: *mut u8, ol: u64) -> u64;
@@ -53,6 +57,28 @@ pub fn encode_checked(record: &[u8], blocks: &[u8], out: &mut [u8]) -> (u64, u64
 pub fn decode_checked(record: &[u8], words: &[u8], out: &mut [u8]) -> (u64, u64) {
     let (r, w, o) = (record.as_ptr(), words.as_ptr(), out.as_mut_ptr());
     parts(unsafe { sbc_decode_checked(r, record.len() as u64, w, words.len() as u64, o, out.len() as u64) })
+}
+
+/// Words as a bit stream.
+pub fn pack(q: u64, words: &[u8], out: &mut [u8]) -> (u64, u64) {
+    parts(unsafe { sbc_pack(q, words.as_ptr(), words.len() as u64, out.as_mut_ptr(), out.len() as u64) })
+}
+
+/// The words of a bit stream.
+pub fn unpack(q: u64, count: u64, bytes: &[u8], out: &mut [u8]) -> (u64, u64) {
+    parts(unsafe { sbc_unpack(q, count, bytes.as_ptr(), bytes.len() as u64, out.as_mut_ptr(), out.len() as u64) })
+}
+
+/// Blocks recorded under a record as a bit stream.
+pub fn encode_stream(record: &[u8], blocks: &[u8], out: &mut [u8]) -> (u64, u64) {
+    let (r, b, o) = (record.as_ptr(), blocks.as_ptr(), out.as_mut_ptr());
+    parts(unsafe { sbc_encode_stream(r, record.len() as u64, b, blocks.len() as u64, o, out.len() as u64) })
+}
+
+/// The words of a bit stream decoded under a record.
+pub fn decode_stream(record: &[u8], count: u64, stream: &[u8], out: &mut [u8]) -> (u64, u64) {
+    let (r, s, o) = (record.as_ptr(), stream.as_ptr(), out.as_mut_ptr());
+    parts(unsafe { sbc_decode_stream(r, record.len() as u64, count, s, stream.len() as u64, o, out.len() as u64) })
 }
 
 /// The numbers of a record.

@@ -7,6 +7,7 @@ mod plain;
 mod records;
 mod speed;
 mod stack;
+mod streams;
 mod sweep;
 
 fn main() {

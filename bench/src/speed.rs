@@ -7,7 +7,7 @@ use std::time::Instant;
 const ROUNDS: usize = 31;
 
 /// The record of a run-length job.
-fn record(job: [u8; 5]) -> Vec<u8> {
+pub fn record(job: [u8; 5]) -> Vec<u8> {
     reference::calls::compile_run_length(&job, 65535).output
 }
 
@@ -23,7 +23,7 @@ fn median(mut times: Vec<f64>) -> f64 {
 }
 
 /// The medians of the candidates' times, each round trying every candidate in turn.
-fn medians(candidates: &mut [&mut dyn FnMut()]) -> Vec<f64> {
+pub fn medians(candidates: &mut [&mut dyn FnMut()]) -> Vec<f64> {
     let mut times = vec![Vec::new(); candidates.len()];
     for _ in 0..ROUNDS {
         for (candidate, times) in candidates.iter_mut().zip(&mut times) {
@@ -146,4 +146,5 @@ pub fn all() {
     decode("2 7 4 8 16", [2, 7, 4, 8, 16]);
     checked("listed code", [0, 1, 2, 3, 2]);
     checked("1 13 4 6 9", [1, 13, 4, 6, 9]);
+    crate::streams::all();
 }

@@ -2,12 +2,16 @@
 use crate::library;
 use std::process::{Command, Stdio};
 
-const CALLS: [&str; 12] = [
+const CALLS: [&str; 16] = [
     "check",
     "encode",
     "decode",
     "encode_checked",
     "decode_checked",
+    "pack",
+    "unpack",
+    "encode_stream",
+    "decode_stream",
     "info",
     "phrase",
     "compile",
@@ -30,6 +34,10 @@ fn call(name: &str) -> (u64, u64) {
         "decode" => library::decode(&record, &[0; 100], &mut out),
         "encode_checked" => library::encode_checked(&record, &[1; 100], &mut out),
         "decode_checked" => library::decode_checked(&record, &[0; 100], &mut out),
+        "pack" => library::pack(3, &[1; 100], &mut out),
+        "unpack" => library::unpack(8, 100, &[1; 100], &mut out),
+        "encode_stream" => library::encode_stream(&record, &[1; 100], &mut out),
+        "decode_stream" => library::decode_stream(&record, 3000, &[0; 3000], &mut out),
         "info" => library::info(&record, &mut out),
         "phrase" => library::phrase(7, &mut out),
         "compile" => library::compile(&general(JOB), &mut out),
