@@ -2,11 +2,11 @@
 -- In order: spliced-next, run-next; same-bytes, bytes-in-front; size-holds.
 -- Assumes nothing.
 use Rattle.laws.proofs.All.{_≡_, sym, ap, ap₂, _∙_, List, _++_, map, ℕ, _+_, _*_, _/_, _≤_, arith, length, drop}
-use Rattle.laws.proofs.All.{replicate, length-append, length-drop, length-replicate, concat, range, Below}
-use Rattle.laws.proofs.All.{sum-replicate, below-append, below-drop, concat-more, length-run}
-use Rattle.bits.specs.Fields.{read, write, bitsOf}
+use Rattle.laws.proofs.All.{replicate, length-append, length-drop, concat, range, Below, below-append, below-drop}
+use Rattle.laws.proofs.All.{concat-more, length-run}
+use Rattle.bits.specs.Fields.{read, bitsOf}
 use Rattle.bits.specs.Bytes.{spliced}
-use Rattle.bits.proofs.Fields.{write-read, read-back, length-read, fits-read, fits-bytes, fits-below}
+use Rattle.bits.proofs.Fields.{read-back, fits-uniform, below-read, read-count, uniform-read}
 use Rattle.bits.proofs.Places.{drop-bytes}
 use Rattle.bits.proofs.Puts.{bitsOf-append, spliced-twice}
 
@@ -29,8 +29,8 @@ run-next f w h B B₁ B₂ at n m e l p q =
 pub same-bytes : (xs ys : List ℕ) → Below 256 xs → Below 256 ys → length xs ≡ length ys → bitsOf xs ≡ bitsOf ys
     → xs ≡ ys
 same-bytes xs ys b d l e =
-    sym (read-back (replicate (length xs) 8) xs (fits-bytes xs b))
-    ∙ ap₂ (λ n t. read (replicate n 8) t) l e ∙ read-back (replicate (length ys) 8) ys (fits-bytes ys d)
+    sym (read-back (replicate (length xs) 8) xs (fits-uniform 8 xs b))
+    ∙ ap₂ (λ n t. read (replicate n 8) t) l e ∙ read-back (replicate (length ys) 8) ys (fits-uniform 8 ys d)
 
 -- bytes with whole bytes of bits in front, and as lent behind them
 pub bytes-in-front : (W : List ℕ) (k : ℕ) → Below 2 W → length W ≡ k * 8 → (out new : List ℕ) → Below 256 out
@@ -38,17 +38,13 @@ pub bytes-in-front : (W : List ℕ) (k : ℕ) → Below 2 W → length W ≡ k *
     → new ≡ read (replicate k 8) W ++ drop k out
 bytes-in-front W k two long out new b d h l e =
     let P = read (replicate k 8) W in
-    let lp : length P ≡ k = length-read (replicate k 8) W ∙ length-replicate k 8 in
-    let whole : bitsOf P ≡ W =
-    ap (λ n. write (replicate n 8) P) lp ∙ write-read (replicate k 8) W two (long ∙ sym (sum-replicate k 8)) in
+    let lp : length P ≡ k = read-count 8 k W in
     let ln : length new ≡ length (P ++ drop k out) =
     l ∙ sym (length-append P (drop k out) ∙ ap₂ _+_ lp (length-drop k out) ∙ omega arith) in
     let lw : k * 8 ≡ 0 + length W = omega arith in
     same-bytes new (P ++ drop k out) d
-    (below-append 256 P (drop k out)
-    (fits-below k P (fits-read (replicate k 8) W two (omega (arith, sum-replicate k 8))))
-    (below-drop 256 k out b)) ln
-    (e ∙ sym (bitsOf-append P (drop k out) ∙ ap₂ _++_ whole
+    (below-append 256 P (drop k out) (below-read 8 k W two) (below-drop 256 k out b)) ln
+    (e ∙ sym (bitsOf-append P (drop k out) ∙ ap₂ _++_ (uniform-read 8 k W two long)
     (sym (drop-bytes k out) ∙ ap (λ n. drop n (bitsOf out)) lw)))
 
 -- bytes for b bits hold them

@@ -10,7 +10,7 @@ use Rattle.table.specs.declared.Table.{Table}
 use Rattle.table.specs.Rows.{Rows, Code}
 use Rattle.table.specs.Value.{codeIn, ready}
 use Rattle.bits.specs.Fields.{read, write, Fits, bitsOf}
-use Rattle.bits.proofs.Fields.{below-write, length-write, fits-read, write-read, read-back, fits-bytes}
+use Rattle.bits.proofs.Fields.{below-write, length-write, fits-read, write-read, read-back, fits-uniform}
 use Rattle.table.specs.declared.Head.{Head}
 use Rattle.table.specs.Formed.{head, inRange, goodNext, goodRow, formed}
 use Rattle.record.specs.Layout.{header, headOf, size, fill, widths, values, pack, nextsOf, rowsOf, codeOf}
@@ -110,12 +110,12 @@ module _ (xs : List ℕ) where
     packed-again h vs l e v =
         let bs = bitsOf xs in
         let lb : length bs ≡ sum (widths h) =
-        length-write (replicate (length xs) 8) xs (fits-bytes xs bytes) ∙ ap (λ n. sum (replicate n 8)) l
+        length-write (replicate (length xs) 8) xs (fits-uniform 8 xs bytes) ∙ ap (λ n. sum (replicate n 8)) l
         ∙ sym (sum-widths h) in
         ap (λ k. read (replicate (size k) 8) (write (widths k) (values (codeOf h vs)))) (head-again h vs)
         ∙ ap (λ ws. read (replicate (size h) 8) (write (widths h) ws)) (v ∙ e)
         ∙ rw (write-read (widths h) bs (below-write (replicate (length xs) 8) xs) lb, ← l)
-        (read-back (replicate (length xs) 8) xs (fits-bytes xs bytes))
+        (read-back (replicate (length xs) 8) xs (fits-uniform 8 xs bytes))
 
     -- fields that are in range are those of a code in range, and the bytes are its record
     pub fields-again : let h = headOf (read header (bitsOf xs)) in let vs = read (widths h) (bitsOf xs) in

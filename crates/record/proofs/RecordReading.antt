@@ -10,14 +10,13 @@ use Rattle.answer.specs.declared.Refusal.the-variants.{Field, Length}
 use Rattle.answer.specs.declared.Verdict.the-variants.{Good, Bad}
 use Rattle.answer.specs.Outcomes.{done, refused, unless}
 use Rattle.bits.specs.Fields.{read, bitsOf}
-use Rattle.bits.proofs.Fields.{read-at, below-write}
+use Rattle.bits.proofs.Fields.{read-at, below-write, value-take}
 use Rattle.table.specs.declared.Head.{Head}
 use Rattle.table.specs.Formed.{inRange, Ranges}
 use Rattle.table.proofs.Formed.{ranges}
 use Rattle.record.specs.Layout.{header, headOf, size}
 use Rattle.record.specs.Parse.{goodHead}
 use Rattle.record.specs.Checks.{codeAt, restGood, fieldsGood, fieldsChecked}
-use Rattle.record.proofs.RecordBytes.{value-take}
 
 -- a number that is read is below 2 to its width
 read-lt : (bs : List ℕ) → Below 2 bs → (ws : List ℕ) (i : ℕ) → i < length ws
