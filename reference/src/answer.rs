@@ -1,4 +1,5 @@
-//! The refusals of "When the workshop declines" and of request (a), by their numbers, and the answer of a call.
+//! The refusals of "When the workshop declines" and of requests (a) and (b), by their numbers, and the answer of a
+//! call.
 
 /// A refusal's number in the document's table, or in the request that adds it.
 pub type Refusal = u8;
@@ -31,6 +32,9 @@ pub const FEW_WORDS: Refusal = 12;
 pub const ROOM: Refusal = 13;
 /// More than 16 pairs (request (a)).
 pub const PAIRS: Refusal = 14;
+/// A word count over the limit, a byte length other than count × q / 8 rounded up, or a fill that is not 0 (request
+/// (b)).
+pub const STREAM: Refusal = 15;
 
 /// What a call answers.
 ///

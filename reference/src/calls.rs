@@ -1,11 +1,12 @@
 //! Every call as a function from bytes to an answer.
 
 use crate::accept::load;
-use crate::answer::{Answer, Refusal, BAD_BYTE, FEW_WORDS, ROOM};
+use crate::answer::{Answer, Refusal, BAD_BYTE, FEW_WORDS, PARAMETER, ROOM};
 use crate::compile::compile;
 use crate::job::Job;
 use crate::record::Record;
-use crate::{decode, encode, listing, sets};
+use crate::streams::{BitNumber, BlockNumber};
+use crate::{decode, encode, listing, sets, streams};
 
 /// Compiles a job to a record. Order: 8, 1, K by 2, 8, next states by 2, 3, 4, 5, 6, 13.
 pub fn compile_job(job: &[u8], room: usize) -> Answer {
@@ -77,6 +78,81 @@ pub fn decode_loaded(record: &Record, words: &[u8], room: usize) -> Answer {
         return Answer::refused(BAD_BYTE, place);
     }
     Answer::written(decode::blocks(record, words))
+}
+
+/// Packs words of q bits to a stream (request (b)). Order: 1, 15, 13, 11.
+pub fn pack(q: u64, words: &[u8], room: usize) -> Answer {
+    let Some(q) = streams::width(q) else {
+        return Answer::refused(PARAMETER, 0);
+    };
+    if let Err(refusal) = streams::within_limit(words.len() as u64) {
+        return Answer::refused(refusal, 0);
+    }
+    if streams::length(q, words.len()) > room {
+        return Answer::refused(ROOM, 0);
+    }
+    if let Some(place) = streams::first_bad(q, words) {
+        return Answer::refused(BAD_BYTE, place);
+    }
+    Answer::written(streams::pack(q, words))
+}
+
+/// Unpacks so many words of q bits from a stream (request (b)). Order: 1, 15, 13.
+pub fn unpack(q: u64, count: u64, stream: &[u8], room: usize) -> Answer {
+    let Some(q) = streams::width(q) else {
+        return Answer::refused(PARAMETER, 0);
+    };
+    match streams::check(q, count, stream) {
+        Ok(count) => Answer::fitted(streams::unpack(q, count, stream), room),
+        Err(refusal) => Answer::refused(refusal, 0),
+    }
+}
+
+/// Records data blocks as a stream (request (b)). Order: record, 15, 13, 11.
+pub fn encode_stream(record: &[u8], blocks: &[u8], room: usize) -> Answer {
+    match load(record) {
+        Ok(record) => encode_stream_loaded(&record, blocks, room),
+        Err(refusal) => Answer::refused(refusal, 0),
+    }
+}
+
+/// Records data blocks as a stream under a record that is known to be good. For 15 the words written are counted,
+/// closing words included. Order: 15, 13, 11.
+pub fn encode_stream_loaded(record: &Record, blocks: &[u8], room: usize) -> Answer {
+    let count = blocks.len() + record.a;
+    if let Err(refusal) = streams::within_limit(count as u64) {
+        return Answer::refused(refusal, 0);
+    }
+    if streams::length(record.q, count) > room {
+        return Answer::refused(ROOM, 0);
+    }
+    if let Some(place) = encode::first_bad(record, blocks) {
+        return Answer::refused(BAD_BYTE, place);
+    }
+    Answer::written(streams::pack(record.q, &encode::words(record, blocks)))
+}
+
+/// Decodes a stream of so many words (request (b)). Order: record, 15, 12, 13.
+pub fn decode_stream(record: &[u8], count: u64, stream: &[u8], room: usize) -> Answer {
+    match load(record) {
+        Ok(record) => decode_stream_loaded(&record, count, stream, room),
+        Err(refusal) => Answer::refused(refusal, 0),
+    }
+}
+
+/// Decodes a stream under a record that is known to be good. Words of q bits are below 2^q, so that 11 cannot come.
+/// Order: 15, 12, 13.
+pub fn decode_stream_loaded(record: &Record, count: u64, stream: &[u8], room: usize) -> Answer {
+    match streams::check(record.q, count, stream) {
+        Ok(count) => decode_loaded(record, &streams::unpack(record.q, count, stream), room),
+        Err(refusal) => Answer::refused(refusal, 0),
+    }
+}
+
+/// The first and the last block that can differ when channel bits first to last are overwritten (request (b)). Order:
+/// record, 15.
+pub fn reach(record: &[u8], first: u64, last: u64) -> Result<(BlockNumber, BlockNumber), Refusal> {
+    streams::reach(&load(record)?, BitNumber(first), BitNumber(last))
 }
 
 /// Walks a set: its count, or the refusal with the number of the record at which the walk ends.

@@ -1,9 +1,9 @@
 //! An outside implementation of the sliding-block code workshop.
 //!
 //! It is written from the scope document ("the document" in all comments), from the list of later change requests
-//! (so far "request (a)") and from the table of readings of their unclear places ("the readings"). It shares no code
-//! with the proved crates. `calls` holds every call as a function from bytes to an answer; the other modules follow
-//! the sections of the document and the requests.
+//! (so far "request (a)" and "request (b)") and from the table of readings of their unclear places ("the readings").
+//! It shares no code with the proved crates. `calls` holds every call as a function from bytes to an answer; the other
+//! modules follow the sections of the document and the requests.
 
 #![forbid(unsafe_code)]
 
@@ -24,6 +24,7 @@ pub mod listing;
 pub mod record;
 pub mod sets;
 pub mod split;
+pub mod streams;
 pub mod table;
 pub mod vectors;
 pub mod weights;

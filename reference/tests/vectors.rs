@@ -3,6 +3,7 @@
 use reference::checksum::Checksum;
 use reference::vectors::file::{call, Case, Walk, COMPILE_JOINED, KINDS, RECORD_ROOM};
 use reference::vectors::fixed::TELLING;
+use reference::vectors::stream_borders::telling;
 use reference::vectors::{generate, hex};
 use std::collections::HashSet;
 
@@ -11,7 +12,7 @@ fn the_file_walks_and_every_case_answers_again() {
     let bytes = generate(1);
     assert!(bytes.len() < 800_000);
     assert_eq!(bytes.last(), Some(&0));
-    let mut seen = [[false; 15]; KINDS.len()];
+    let mut seen = [[false; 16]; KINDS.len()];
     let mut inputs = HashSet::new();
     let mut walk = Walk(&bytes);
     for (place, case) in walk.by_ref().enumerate() {
@@ -22,7 +23,7 @@ fn the_file_walks_and_every_case_answers_again() {
         }
     }
     assert!(walk.0.is_empty());
-    let refusals = |kind: usize| (0..15).filter(|refusal| seen[kind][*refusal]).collect::<Vec<_>>();
+    let refusals = |kind: usize| (0..16).filter(|refusal| seen[kind][*refusal]).collect::<Vec<_>>();
     assert_eq!(refusals(1), [0, 1, 2, 3, 4, 5, 6, 8, 13]);
     assert_eq!(refusals(2), [0, 1, 2, 3, 4, 5, 6, 8, 13]);
     assert_eq!(refusals(3), [0, 7, 8, 9, 10]);
@@ -31,6 +32,10 @@ fn the_file_walks_and_every_case_answers_again() {
     assert_eq!(refusals(6), [0, 7, 8, 9, 10]);
     assert_eq!(refusals(7), [0, 13]);
     assert_eq!(refusals(8), [0, 1, 2, 3, 4, 5, 6, 8, 13, 14]);
+    assert_eq!(refusals(9), [0, 1, 11, 13], "1,000,001 words are too long for the file");
+    assert_eq!(refusals(10), [0, 1, 13, 15]);
+    assert_eq!(refusals(11), [0, 7, 8, 9, 10, 11, 13], "so are 1,000,001 blocks");
+    assert_eq!(refusals(12), [0, 7, 8, 9, 10, 12, 13, 15]);
 }
 
 /// Every input that tells for request (a) stands in the file, and where it compiles also with the exact room and with
@@ -49,12 +54,20 @@ fn the_file_has_the_inputs_that_tell() {
     }
 }
 
+/// So does every input that tells for request (b) and is short enough.
+#[test]
+fn the_file_has_the_streams_that_tell() {
+    let bytes = generate(1);
+    let inputs: HashSet<_> = Walk(&bytes).map(|case| (case.kind, case.room, case.first, case.second)).collect();
+    assert!(telling().iter().all(|call| inputs.contains(call)));
+}
+
 /// The numbers that the README states.
 #[test]
 fn the_file_is_the_one_described() {
     let bytes = generate(1);
     let mut checksum = Checksum::default();
     checksum.add(&bytes);
-    assert_eq!((Walk(&bytes).count(), bytes.len()), (10_457, 795_091));
-    assert_eq!(checksum.value(), 0xee4b_4cae_388d_df98);
+    assert_eq!((Walk(&bytes).count(), bytes.len()), (10_941, 795_547));
+    assert_eq!(checksum.value(), 0x1e8a_c9ac_4fce_1b6b);
 }

@@ -7,15 +7,15 @@ use super::random::Random;
 use crate::encode;
 
 pub fn add(file: &mut File, random: &mut Random, pool: &Pool, scale: usize) {
-    for _ in 0..450 * scale {
+    for _ in 0..407 * scale {
         let good = pool.any(random);
         encoding(file, random, good);
     }
-    for _ in 0..1050 * scale {
+    for _ in 0..950 * scale {
         let good = pool.any(random);
         decoding(file, random, good);
     }
-    for _ in 0..360 * scale {
+    for _ in 0..326 * scale {
         let good = pool.any(random);
         refused(file, random, good);
     }
@@ -42,7 +42,7 @@ fn encoding(file: &mut File, random: &mut Random, good: &Good) {
 }
 
 /// Mostly the exact room, else a little more, none, or one byte less.
-fn any_room(random: &mut Random, length: usize) -> usize {
+pub fn any_room(random: &mut Random, length: usize) -> usize {
     match random.below(12) {
         0 => length.saturating_sub(1),
         1 => length + random.within(1, 9),

@@ -1,4 +1,4 @@
-//! Damage to a record, field by field, and to lists of words.
+//! Damage to a record, field by field, to lists of words, and to the channel bits of a stream.
 
 use super::random::Random;
 use crate::record::Record;
@@ -57,4 +57,16 @@ pub fn words(random: &mut Random, recording: &[u8], q: usize) -> Vec<u8> {
         }
     }
     words
+}
+
+/// A stream with bits f to l, both included, overwritten: by 0, by 1, turned over, or at random.
+pub fn bits(random: &mut Random, stream: &[u8], f: usize, l: usize) -> Vec<u8> {
+    let way = random.below(4);
+    let mut damaged = stream.to_vec();
+    for place in f..=l {
+        let old = field(stream, (place, 1));
+        let bit = [0, 1, 1 - old, random.below(2)][way];
+        damaged = with_field(&damaged, (place, 1), bit);
+    }
+    damaged
 }

@@ -12,10 +12,27 @@ pub const DECODE: u8 = 5;
 pub const SET: u8 = 6;
 pub const LISTING: u8 = 7;
 pub const COMPILE_JOINED: u8 = 8;
+pub const PACK: u8 = 9;
+pub const UNPACK: u8 = 10;
+pub const ENCODE_STREAM: u8 = 11;
+pub const DECODE_STREAM: u8 = 12;
 
 /// The kinds by number; those from their count up to 23 are kept for calls to come, and a file has none from 24 on.
-pub const KINDS: [&str; 9] =
-    ["", "compile_job", "compile_run_length", "check", "encode", "decode", "set", "listing", "compile_joined"];
+pub const KINDS: [&str; 13] = [
+    "",
+    "compile_job",
+    "compile_run_length",
+    "check",
+    "encode",
+    "decode",
+    "set",
+    "listing",
+    "compile_joined",
+    "pack",
+    "unpack",
+    "encode_stream",
+    "decode_stream",
+];
 
 /// Room enough for every record.
 pub const RECORD_ROOM: usize = 4096;
@@ -31,8 +48,21 @@ pub fn call(kind: u8, room: usize, first: &[u8], second: &[u8]) -> Answer {
         SET => calls::set(first),
         LISTING => calls::listing(first, room),
         COMPILE_JOINED => calls::compile_joined(first, room),
+        PACK => calls::pack(u64::from(first[0]), second, room),
+        UNPACK => calls::unpack(u64::from(first[0]), split_count(&first[1..]).0, second, room),
+        ENCODE_STREAM => calls::encode_stream(first, second, room),
+        DECODE_STREAM => {
+            let (count, stream) = split_count(second);
+            calls::decode_stream(first, count, stream, room)
+        }
         _ => panic!("no such kind"),
     }
+}
+
+/// A count in 8 bytes, most significant first, and the bytes behind it.
+fn split_count(bytes: &[u8]) -> (u64, &[u8]) {
+    let (count, rest) = bytes.split_first_chunk().expect("a count of eight bytes");
+    (u64::from_be_bytes(*count), rest)
 }
 
 /// A file in the making.

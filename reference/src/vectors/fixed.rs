@@ -135,7 +135,7 @@ pub const TELLING: [&str; 19] = [
 ];
 
 /// Records of the refusal table and the readings, and some with two faults.
-const RECORDS: [&str; 16] = [
+pub const RECORDS: [&str; 16] = [
     E2,
     "04 04 40 42 30 04 10 10 18 0e 00", // p is 0
     "24 04 00 42 30 04 10 10 18 0e 00", // m is 0
@@ -235,7 +235,7 @@ fn add_listings(file: &mut File) {
 }
 
 /// The record of a run-length job, if it compiles.
-fn record_of(job: &[u8]) -> Option<Vec<u8>> {
+pub fn record_of(job: &[u8]) -> Option<Vec<u8>> {
     let answer = compile_run_length(job, RECORD_ROOM);
     (answer.refusal == 0).then_some(answer.output)
 }

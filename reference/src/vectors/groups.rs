@@ -14,14 +14,14 @@ pub fn add(file: &mut File, random: &mut Random, pool: &Pool, scale: usize) {
     full(file);
     let pair = sets::pack(&[hex(E2), hex(E2)]);
     (0..=pair.len()).for_each(|length| drop(file.set(&pair[..length])));
-    for _ in 0..400 * scale {
+    for _ in 0..362 * scale {
         let records = some(random, pool);
         one_set(file, random, records);
     }
-    for _ in 0..30 * scale {
+    for _ in 0..27 * scale {
         file.add(LISTING, 4000, &any_run_length(random), &[]);
     }
-    for _ in 0..20 * scale {
+    for _ in 0..18 * scale {
         small_listing(file, random);
     }
 }

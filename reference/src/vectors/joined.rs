@@ -21,22 +21,22 @@ const ALL: [[u8; 2]; 1] = [[0, 0]];
 
 pub fn add(file: &mut File, random: &mut Random, scale: usize) {
     let families: [(usize, Family); 5] =
-        [(40, two_run_lengths), (70, with_small), (60, two_general), (30, with_all), (60, near_the_border)];
+        [(36, two_run_lengths), (63, with_small), (54, two_general), (27, with_all), (54, near_the_border)];
     for (count, family) in families {
         for _ in 0..count * scale {
             let job = rated(random, family);
             file.add(COMPILE_JOINED, RECORD_ROOM, &job, &[]);
         }
     }
-    for _ in 0..30 * scale {
+    for _ in 0..27 * scale {
         let job = rated(random, any);
         file.add_exact(COMPILE_JOINED, &job, &[]);
     }
     every_length(file);
-    for _ in 0..60 * scale {
+    for _ in 0..54 * scale {
         damaged(file, random);
     }
-    for _ in 0..90 * scale {
+    for _ in 0..81 * scale {
         several_faults(file, random);
     }
 }

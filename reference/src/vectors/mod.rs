@@ -11,6 +11,8 @@ pub mod joined;
 pub mod pool;
 pub mod random;
 pub mod records;
+pub mod stream_borders;
+pub mod streams;
 
 use file::File;
 use random::Random;
@@ -27,6 +29,7 @@ pub fn generate(scale: usize) -> Vec<u8> {
     coding::add(&mut file, &mut Random::seeded(3), &pool, scale);
     groups::add(&mut file, &mut Random::seeded(4), &pool, scale);
     joined::add(&mut file, &mut Random::seeded(5), scale);
+    streams::add(&mut file, &mut Random::seeded(6), &pool, scale);
     file.ended()
 }
 

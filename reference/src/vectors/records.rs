@@ -16,27 +16,27 @@ pub fn add(file: &mut File, random: &mut Random, pool: &Pool, scale: usize) {
         file.check(&good.bytes);
     }
     pool.small.iter().take(12).for_each(|good| every_length(file, &good.bytes));
-    for _ in 0..1330 * scale {
+    for _ in 0..1204 * scale {
         let good = random.pick(&pool.small);
         one_field(file, random, good);
     }
-    for _ in 0..166 * scale {
+    for _ in 0..150 * scale {
         let good = random.pick(&pool.middle);
         one_field(file, random, good);
     }
-    for _ in 0..20 * scale {
+    for _ in 0..18 * scale {
         let good = random.pick(&pool.large);
         one_field(file, random, good);
     }
-    for _ in 0..108 * scale {
+    for _ in 0..98 * scale {
         let record = foreign::any(random);
         windows_about(file, &record);
     }
-    for _ in 0..250 * scale {
+    for _ in 0..226 * scale {
         let good = random.pick(&pool.small);
         file.check(&foreign::with_unreachable(random, &good.record).pack());
     }
-    for _ in 0..250 * scale {
+    for _ in 0..226 * scale {
         several_faults(file, random, pool);
     }
 }
