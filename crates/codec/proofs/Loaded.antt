@@ -13,7 +13,7 @@ use Rattle.codec.specs.Answers.{encoded, decoded}
 use Rattle.codec.specs.With.{encodedWith, decodedWith}
 
 module _ (o : Outcome Code) (r : TableAnswer) (e : outcomeIn r ≡ o) where
-  pub under-bad : (f : Code → Outcome (List ℕ)) (x : Refusal) → r .verdict ≡ Bad x → onward o f ≡ refused x
+  pub under-bad : {A : Type 0} (f : Code → Outcome A) (x : Refusal) → r .verdict ≡ Bad x → onward o f ≡ refused x
   under-bad f x q = rw (← e, q)
 
   pub under-read : r .verdict ≡ Good → o ≡ done (codeIn (r .table))

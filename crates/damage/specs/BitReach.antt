@@ -1,12 +1,13 @@
 -- The reach of damage in channel bits: "only blocks f / q − a (0 if negative) to l / q + m, quotients rounded down, can
 -- then differ from the data written".
--- In order: firstBlock, lastBlock; blocksOf; reachUnder; reachAnswer.
+-- In order: firstBlock, lastBlock; blockRange, blocksOf; reachIn, reachUnder; reachAnswer.
 -- Assumes nothing.
 use mathlib.Core.List.{List}
 use Prim.Native.Nat.{ℕ, _+_, _*_, _-_, _/_}
 use lib.Dec.{ltb}
 use Rattle.answer.specs.declared.Refusal.the-variants.{Stream}
 use Rattle.answer.specs.Outcomes.{Outcome, done, refused, unless, onward}
+use Rattle.table.specs.Rows.{Code}
 use Rattle.checker.specs.Parse.{parse}
 use Rattle.packing.specs.Streams.{limit}
 use Rattle.damage.specs.declared.BitRange.{BitRange}
@@ -22,18 +23,23 @@ firstBlock q a f = f / q - a
 abbrev pub lastBlock : ℕ → ℕ → ℕ → ℕ
 lastBlock q m l = l / q + m
 
+-- the blocks from number i to number j
+abbrev pub blockRange : ℕ → ℕ → BlockRange
+blockRange i j = record { first = record { 0 = i }; last = record { 0 = j } }
+
 -- the blocks that can differ when the channel bits of a range are overwritten
 abbrev pub blocksOf : ℕ → ℕ → ℕ → BitRange → BlockRange
-blocksOf q m a d = record {
-  first = record { 0 = firstBlock q a (d .first .0) };
-  last = record { 0 = lastBlock q m (d .last .0) };
-}
+blocksOf q m a d = blockRange (firstBlock q a (d .first .0)) (lastBlock q m (d .last .0))
 
--- "the reach is quoted for those within" the limit, under the record in the bytes rec: its refusals, 15
+-- "the reach is quoted for those within" the limit, under a code: 15
+unfoldable pub reachIn : Code → BitRange → Outcome BlockRange
+reachIn c d =
+    unless Stream (ltb (d .last .0) (limit * c .q))
+    (done (blocksOf (c .q) (c .window .memory) (c .window .lookahead) d))
+
+-- the same under the record in the bytes rec: its refusals, 15
 unfoldable pub reachUnder : List ℕ → BitRange → Outcome BlockRange
-reachUnder rec d =
-    onward (parse rec) (λ c. unless Stream (ltb (d .last .0) (limit * c .q))
-    (done (blocksOf (c .q) (c .window .memory) (c .window .lookahead) d)))
+reachUnder rec d = onward (parse rec) (λ c. reachIn c d)
 
 -- the code's answer
 abbrev pub reachAnswer : Outcome BlockRange → ReachAnswer

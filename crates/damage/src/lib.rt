@@ -2,12 +2,16 @@
 // other." Only `blocks_of` turns the one into the other.
 ghost use mathlib.Core.Path.{_≡_};
 ghost use Prim.Native.Nat.{_*_, _≤_, _<_};
+ghost use lib.Dec.{T};
+ghost use Rattle.table.specs.Value.{ready, codeIn};
 ghost use Rattle.packing.specs.Streams.{limit};
-ghost use Rattle.damage.specs.BitReach.{blocksOf, reachUnder, reachAnswer};
+ghost use Rattle.damage.specs.BitReach.{blocksOf, reachIn, reachUnder, reachAnswer};
 use answer::Refusal;
 use answer::Verdict;
 use checker::load;
 use packing::LIMIT;
+use reading::blocks::less;
+use table::Table;
 
 // The number of a data block.
 pub struct BlockNo(pub usize);
@@ -33,16 +37,6 @@ pub enum ReachAnswer {
     Refused(Refusal),
 }
 
-// i less a, and 0 below a.
-fn less(i: usize, a: usize) -> usize
-    ensures answer { λ r. ⌜ r ≡ i - a ⌝ }
-{
-    if i < a {
-        return 0;
-    }
-    i - a
-}
-
 // The blocks that can differ when these channel bits are overwritten, under a code with words of q bits, memory m and
 // lookahead a.
 fn blocks_of(q: usize, m: usize, a: usize, damage: BitRange) -> BlockRange
@@ -57,6 +51,19 @@ fn blocks_of(q: usize, m: usize, a: usize, damage: BitRange) -> BlockRange
     }
 }
 
+// The blocks that can differ when these channel bits of a stream are overwritten, under a table. Declines with 15 for
+// bits past the longest stream.
+fn quote(t: Table, damage: BitRange) -> ReachAnswer
+    requires { ⌜ T (ready t) ⌝ }
+    ensures answer { λ r. ⌜ r ≡ reachAnswer (reachIn (codeIn t) damage) ⌝ }
+{
+    let l = damage.last;
+    if l.0 < LIMIT * t.q {
+        return ReachAnswer::Blocks(blocks_of(t.q, t.memory, t.lookahead, damage));
+    }
+    ReachAnswer::Refused(Refusal::Stream)
+}
+
 // The blocks that can differ from the data written when these channel bits of a stream are overwritten, under the
 // record in the bytes. Declines with the record's refusal, then 15 for bits past the longest stream.
 pub fn reach(bytes: &[u8], damage: BitRange) -> ReachAnswer
@@ -67,12 +74,6 @@ pub fn reach(bytes: &[u8], damage: BitRange) -> ReachAnswer
     let t = r.table;
     match v {
         Verdict::Bad(x) => ReachAnswer::Refused(x),
-        Verdict::Good => {
-            let l = damage.last;
-            if LIMIT * t.q <= l.0 {
-                return ReachAnswer::Refused(Refusal::Stream);
-            }
-            ReachAnswer::Blocks(blocks_of(t.q, t.memory, t.lookahead, damage))
-        }
+        Verdict::Good => quote(t, damage),
     }
 }

@@ -55,7 +55,7 @@ fn datum_by(
 }
 
 // i less m, and 0 below m.
-fn less(i: usize, m: usize) -> usize
+pub fn less(i: usize, m: usize) -> usize
     ensures answer { λ r. ⌜ r ≡ i - m ⌝ }
 {
     if i < m {
