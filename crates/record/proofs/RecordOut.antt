@@ -7,7 +7,7 @@ use Rattle.laws.proofs.All.{_+_, _*_, _^_, _≤_, arith, length, drop, length-a
 use Rattle.laws.proofs.All.{sum-repeat, sum-replicate, length-repeat}
 use Rattle.bits.specs.Fields.{bits, write, bitsOf}
 use Rattle.bits.specs.Bytes.{spliced}
-use Rattle.bits.proofs.Fields.{below-write}
+use Rattle.bits.proofs.Fields.{below-write, write-append}
 use Rattle.bits.proofs.Runs.{bytes-in-front}
 use Rattle.constraint.specs.Walking.{Constraint}
 use Rattle.table.specs.Rows.{Edge, Rows, Code}
@@ -17,7 +17,7 @@ use Rattle.record.specs.Layout.{headerBits, stateSize}
 use Rattle.record.specs.Layout.{frontValues, header, size, fill, widths, nexts, pairs, rows, values, pack}
 use Rattle.record.specs.Parts.{frontBits, nextBits, stateBits, edgeBits, statesBits, rowsBits}
 use Rattle.record.proofs.RecordFits.{sum-widths}
-use Rattle.record.proofs.RecordParts.{length-fields, write-append}
+use Rattle.record.proofs.RecordParts.{length-fields}
 use Rattle.record.proofs.RecordWrite.{length-nexts, length-pairs, length-rows, length-pack}
 
 -- ---- the constraint

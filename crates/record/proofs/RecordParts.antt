@@ -1,6 +1,5 @@
 -- Parts of a record put one behind the other among lent bits.
--- In order: put-low-is; put-absent, put-present; spliced-none; length-fields, write-append;
--- Putting, front-spliced.
+-- In order: put-low-is; put-absent, put-present; spliced-none; length-fields; Putting, front-spliced.
 -- Assumes nothing.
 use Rattle.laws.proofs.All.{_≡_, refl, sym, ap, ap₂, _∙_, false, List, [], _∷_, _++_, append-assoc, append-nil, ℕ}
 use Rattle.laws.proofs.All.{_+_, _-_, _*_, _%_, _^_, _≤_, _<_, mod-lt, add-zero, arith, ne-eqb, eqb, length, take}
@@ -54,14 +53,6 @@ length-fields [] vs e = refl
 length-fields (w ∷ ws) [] e = absurd (omega arith)
 length-fields (w ∷ ws) (v ∷ vs) e =
     length-append (bits w v) (write ws vs) ∙ ap₂ _+_ (length-bits w v) (length-fields ws vs (omega arith))
-
-pub write-append : (ws us vs xs : List ℕ) → length ws ≡ length vs
-    → write (ws ++ us) (vs ++ xs) ≡ write ws vs ++ write us xs
-write-append [] us [] xs e = refl
-write-append [] us (v ∷ vs) xs e = absurd (omega arith)
-write-append (w ∷ ws) us [] xs e = absurd (omega arith)
-write-append (w ∷ ws) us (v ∷ vs) xs e =
-    cc (write-append ws us vs xs (omega arith), append-assoc (bits w v) (write ws vs) (write us xs))
 
 -- the numbers vs put one by one into fields of the widths ws, from the place o on, make B′ of the bits B
 abbrev pub Putting : List ℕ → ℕ → List ℕ → List ℕ → List ℕ → Type 0
