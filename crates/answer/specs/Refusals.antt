@@ -9,8 +9,8 @@ use Rattle.answer.specs.declared.Refusal.the-variants.{NoWindow, Field, 
 use Rattle.answer.specs.declared.Refusal.the-variants.{BadByte, TooFewWords, ShortOutput, TooManyPairs}
 use Rattle.answer.specs.declared.Refusal.the-variants.{Stream}
 
--- the number of a refusal in document 01's table, "14 for more than 16 pairs", or "15 for a word count over the limit, a
--- byte length other than count × q / 8 rounded up, or a fill that is not 0"
+-- the number of a refusal in document 01's table, "14 for more than 16 pairs", or "15 for a word count over the limit,
+-- a byte length other than count × q / 8 rounded up, or a fill that is not 0"
 abbrev pub numberOf : Refusal → ℕ
 numberOf Parameters = 1
 numberOf States = 2

@@ -35,8 +35,8 @@ pub enum Refusal {
     ShortOutput,
     // 14: two constraints give more than 16 pairs of states.
     TooManyPairs,
-    // 15: a stream of more than 1,000,000 words, one with another number of bytes than its words take, or a fill that is
-    // not 0.
+    // 15: a stream of more than 1,000,000 words, one with another number of bytes than its words take, or a fill that
+    // is not 0.
     Stream,
 }
 
