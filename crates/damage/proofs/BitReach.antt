@@ -2,13 +2,13 @@
 -- In order: words-same, damage to bits as damage to words; good-same; bits-reach.
 -- Assumes nothing.
 use Rattle.laws.proofs.All.{_≡_, sym, ap, ap₂, subst, _∙_, _⊎_, inl, inr, List, ℕ, suc, _+_, _-_, _*_, _/_, _^_, _≤_}
-use Rattle.laws.proofs.All.{_<_, arith, decLt, T, length, getD, Below, List·getD-eq-default, le-div-iff-mul-le}
+use Rattle.laws.proofs.All.{_<_, _&&_, arith, decLt, T, leb, eqb, length, getD, Below, List·getD-eq-default, le-div-iff-mul-le}
 use Rattle.laws.proofs.All.{div-lt-iff-lt-mul}
 use Rattle.answer.specs.Outcomes.{done}
-use Rattle.bits.specs.Fields.{value, bitsOf}
+use Rattle.bits.specs.Fields.{value, bitsOf, field}
 use Rattle.bits.proofs.Puts.{length-bitsOf}
-use Rattle.packing.specs.Streams.{limit, streamFill, packed, unpacked, goodStream}
-use Rattle.packing.proofs.Streams.{length-unpacked, below-unpacked, unpacked-at, unpacked-packed, good-stream→}
+use Rattle.packing.specs.Streams.{limit, streamSize, streamFill, packed, unpacked, goodStream}
+use Rattle.packing.proofs.Streams.{length-unpacked, below-unpacked, unpacked-at, unpacked-packed}
 use Rattle.table.specs.Rows.{Code}
 use Rattle.table.specs.Paths.{Blocks, recording}
 use Rattle.table.proofs.Formed.{formed→}
@@ -33,7 +33,7 @@ module _ (q count f l : ℕ) (xs ys : List ℕ) (s : SameOutside f l (bitsOf xs)
   same-word : (i : ℕ) → (i * q + q ≤ f) ⊎ (l < i * q) → getD (unpacked q count xs) i 0 ≡ getD (unpacked q count ys) i 0
   same-word i h = elim (decLt i count) [
     | yes k ↦ unpacked-at q count xs i k ∙ same-field (i * q) q h ∙ sym (unpacked-at q count ys i k)
-    | no k ↦ none xs k ∙ sym (none ys k)
+    | no k ↦ none xs (omega arith) ∙ sym (none ys (omega arith))
   ]
     where
       none : (zs : List ℕ) → count ≤ i → getD (unpacked q count zs) i 0 ≡ 0
@@ -79,6 +79,6 @@ module _ (rec : List ℕ) (bytes : Below 256 rec) (c : Code) (read : parse rec �
       subst (λ M. SameOutside (f .0 / c .q) (l .0 / c .q) L M)
       (sym (ap (λ n. unpacked (c .q) n ys) long) ∙ back)
       (words-same (c .q) count (f .0) (l .0) xs ys s (F .range .q₁)) in
-      let (out, e, r) = words-reach rec bytes c read ds L b (below-unpacked (c .q) count xs x ok)
+      let (out, e, r) = words-reach rec bytes c read ds L b (below-unpacked (c .q) count xs)
       (f .0 / c .q) (l .0 / c .q) room same h in
-      (out, stream-decodes rec c read count room xs x ok ∙ e, λ j k o. r (j .0) k o)
+      (out, stream-decodes rec c read count room xs ok ∙ e, λ j k o. r (j .0) k o)
