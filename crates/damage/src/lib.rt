@@ -40,7 +40,7 @@ pub enum ReachAnswer {
 // The blocks that can differ when these channel bits are overwritten, under a code with words of q bits, memory m and
 // lookahead a.
 fn blocks_of(q: usize, m: usize, a: usize, damage: BitRange) -> BlockRange
-    requires { ⌜ (1 ≤ q) × (m ≤ 15) × (damage .last .0 < limit * q) ⌝ }
+    requires { ⌜ (1 ≤ q) × (m ≤ 15) × (a ≤ 15) × (damage .last .0 < limit * q) ⌝ }
     ensures answer { λ r. ⌜ r ≡ blocksOf q m a damage ⌝ }
 {
     let f = damage.first;

@@ -10,7 +10,7 @@ add-t11 : tie.Need-add-t11
 add-t11 c =
     let s = c .before .before .before .before .before in
     let a = s .args in
-    omega (arith, div-lt-iff-lt-mul {k = a .q} {x = a .damage .last .0} {y = limit} (s .pre .0) .1 (s .pre .2))
+    omega (arith, div-lt-iff-lt-mul {k = a .q} {x = a .damage .last .0} {y = limit} (s .pre .0) .1 (s .pre .3))
 
 returns : tie.Need-returns
 returns c =
