@@ -63,6 +63,24 @@ pub fn code(numbers: &mut Numbers, record: &[u8], p: usize) -> u64 {
     back.0.max(ours.0)
 }
 
+/// Streams at the limit of 1,000,000 words and one past it, each way.
+pub fn limits(record: &[u8], a: usize) {
+    let words = vec![0; 1_000_001];
+    for count in [1_000_000 - a, 1_000_000, 1_000_001] {
+        let mut out = vec![0xa5; 1_000_001];
+        let ours = library::encode_stream(record, &words[..count], &mut out);
+        agree("encode_stream", &[], ours, &out, &reference::calls::encode_stream(record, &words[..count], out.len()));
+        let ours = library::encode_stream(record, &words[..count], &mut []);
+        agree("encode_stream", &[], ours, &[], &reference::calls::encode_stream(record, &words[..count], 0));
+        let mut out = vec![0xa5; 1_000_001];
+        let ours = library::pack(8, &words[..count], &mut out);
+        agree("pack", &[], ours, &out, &reference::calls::pack(8, &words[..count], out.len()));
+        let mut out = vec![0xa5; 1_000_001];
+        let ours = library::unpack(8, count as u64, &words[..count], &mut out);
+        agree("unpack", &[], ours, &out, &reference::calls::unpack(8, count as u64, &words[..count], out.len()));
+    }
+}
+
 /// A range of channel bits overwritten: blocks outside f / q - a to l / q + m come out as written.
 fn overwritten(numbers: &mut Numbers, record: &[u8], data: &[u8], whole: &[u8], count: usize) {
     let header = reference::accept::load(record).expect("it recorded").header();
