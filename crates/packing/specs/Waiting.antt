@@ -6,7 +6,7 @@ use mathlib.Core.List.{List, _++_}
 use Prim.Native.Nat.{ℕ, _^_, _≤_, _<_}
 use lib.ListN.{length, take, drop}
 use Rattle.bits.specs.Fields.{bits, bitsOf}
-use Rattle.packing.specs.declared.Waiting.{Waiting}
+use Rattle.packing.specs.declared.writing.Waiting.{Waiting}
 
 -- the bits B stand in the bytes `out` before place `at` and, fewer than eight of them, wait; the bytes from there on
 -- are those that were lent

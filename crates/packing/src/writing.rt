@@ -43,9 +43,11 @@ pub fn put_word(out: &mut [u8], p: Waiting, q: usize, word: u8) -> Waiting
         };
     }
     let rest = n - 8;
-    out[p.at] = low_bits(both >> rest, 8);
+    let front = both >> rest;
+    let at = p.at;
+    out[at] = low_bits(front, 8);
     Waiting {
-        at: p.at + 1,
+        at: at + 1,
         count: rest,
         held: low_bits(both, rest) as usize,
     }
@@ -61,7 +63,8 @@ pub fn put_fill(out: &mut [u8], p: Waiting)
     if p.count == 0 {
         return;
     }
-    out[p.at] = low_bits(p.held << (8 - p.count), 8);
+    let at = p.at;
+    out[at] = low_bits(p.held << (8 - p.count), 8);
 }
 
 // The stream of the words in front of the output.

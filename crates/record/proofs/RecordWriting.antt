@@ -1,9 +1,8 @@
 -- A table's record written part by part into lent bytes.
--- In order: small-in; below-all; even, whole-record; pack-field, pack-ready, pack-long, pack-short,
--- pack-fits.
+-- In order: small-in; even, whole-record; pack-field, pack-ready, pack-long, pack-short, pack-fits.
 -- Assumes nothing.
-use Rattle.laws.proofs.All.{_≡_, sym, ap, subst, _∙_, true, false, List, [], _∷_, _++_, ℕ, suc, _+_, _*_, _^_, _≤_}
-use Rattle.laws.proofs.All.{_<_, arith, lt-leb, le-leb, T, length, getD, take, drop, length-append, range, Each}
+use Rattle.laws.proofs.All.{_≡_, sym, ap, subst, _∙_, true, false, List, _++_, ℕ, _+_, _*_, _^_, _≤_, _<_}
+use Rattle.laws.proofs.All.{arith, lt-leb, le-leb, T, length, take, drop, length-append, range, Each}
 use Rattle.laws.proofs.All.{Below, each-image, each-always, length-map-range}
 use Rattle.answer.specs.declared.Refusal.the-variants.{Field, ShortOutput}
 use Rattle.answer.specs.Outcomes.{done, refused}
@@ -30,10 +29,6 @@ use Rattle.record.proofs.RecordOut.{bytes-are}
 
 pub small-in : (t : Table) → Ready t → Small (tableHead t)
 small-in t r = record { p₂ = r .narrow; q₂ = r .short; s₂ = r .few; k₂ = r .limits }
-
-pub below-all : (n : ℕ) (xs : List ℕ) → ((i : ℕ) → getD xs i 0 < n) → Below n xs
-below-all n [] h = tt
-below-all n (x ∷ xs) h = (h 0, below-all n xs (λ i. h (suc i)))
 
 pub even : (t : Table) → Each (λ es. length es ≡ 2 ^ t .p) (rowsIn t)
 even t =

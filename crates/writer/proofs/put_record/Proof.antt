@@ -1,7 +1,7 @@
 -- `put_record` meets its contract: the four parts stand one behind the other and fill the record's bytes.
 -- Assumes nothing.
 use Rattle.laws.proofs.All.{_≡_, refl, sym, ap, ap₂, subst, _∙_, _+_, _*_, _-_, _^_, _≤_, arith, needs, now, length}
-use Rattle.laws.proofs.All.{pow-pos}
+use Rattle.laws.proofs.All.{pow-pos, below-all}
 use Rattle.bits.specs.Bytes.{spliced}
 use Rattle.bits.specs.Fields.{bitsOf}
 use Rattle.bits.proofs.Runs.{size-holds}
@@ -13,7 +13,7 @@ use Rattle.record.specs.Parts.{frontBits}
 use Rattle.record.specs.Places.{Small}
 use Rattle.table.proofs.ReadyTables.{head-in}
 use Rattle.record.proofs.Sizes.{bitCount-le, edges-end}
-use Rattle.record.proofs.RecordWriting.{small-in, below-all, even, whole-record}
+use Rattle.record.proofs.RecordWriting.{small-in, even, whole-record}
 use Rattle.writer.proofs.put_record.Statement.{statement}
 use Rattle.writer.proofs.put_record.Tie as tie
 
