@@ -1,12 +1,11 @@
 -- Encoding and decoding under a table by value, check by check.
 -- In order: encode-7 to encode-done; decode-7 to decode-done.
 -- Assumes nothing.
-use Rattle.laws.proofs.All.{_≡_, sym, ap, _∙_, true, false, List, ℕ, _+_, _-_, _^_, _≤_, _<_, arith, lt-leb}
-use Rattle.laws.proofs.All.{le-leb, length}
+use Rattle.laws.proofs.All.{_≡_, _∙_, true, false, List, ℕ, _+_, _-_, _^_, _≤_, _<_, lt-leb, le-leb, length}
 use Rattle.answer.specs.declared.Refusal.the-variants.{Field, BadByte, TooFewWords, ShortOutput}
 use Rattle.answer.specs.Outcomes.{Outcome, done, refused}
 use Rattle.answer.specs.FirstBad.{firstBad, allBelow}
-use Rattle.answer.proofs.FirstBad.{bad-le, below-bad, below-done}
+use Rattle.answer.proofs.FirstBad.{bad-found, none-bad}
 use Rattle.table.specs.declared.Table.{Table}
 use Rattle.table.specs.Paths.{recording}
 use Rattle.table.specs.Value.{codeIn, ready}
@@ -32,15 +31,11 @@ module _ (t : Table) (room : ℕ) (ds : List ℕ) where
 
       pub encode-11 : (n k : ℕ) → n ≡ 2 ^ t .p → k ≡ firstBad n ds → k < length ds
           → encodedWith t room ds ≡ refused (BadByte k)
-      encode-11 n k e q l =
-          let f : firstBad (2 ^ t .p) ds ≡ k = sym (q ∙ ap (λ x. firstBad x ds) e) in
-          last ∙ below-bad (2 ^ t .p) ds (recording (codeIn t) ds) (rw f l) ∙ ap (λ x. refused (BadByte x)) f
+      encode-11 n k e q l = last ∙ bad-found (2 ^ t .p) ds (recording (codeIn t) ds) n k e q l
 
       pub encode-done : (n k : ℕ) → n ≡ 2 ^ t .p → k ≡ firstBad n ds → length ds ≤ k
           → encodedWith t room ds ≡ done (recording (codeIn t) ds)
-      encode-done n k e q l =
-          let f : firstBad (2 ^ t .p) ds ≡ k = sym (q ∙ ap (λ x. firstBad x ds) e) in
-          last ∙ below-done (2 ^ t .p) ds (recording (codeIn t) ds) (omega (arith, bad-le (2 ^ t .p) ds))
+      encode-done n k e q l = last ∙ none-bad (2 ^ t .p) ds (recording (codeIn t) ds) n k e q l
 
 -- ---- decoding
 module _ (t : Table) (room : ℕ) (ws : List ℕ) where
@@ -68,12 +63,8 @@ module _ (t : Table) (room : ℕ) (ws : List ℕ) where
 
         pub decode-11 : (n k : ℕ) → n ≡ 2 ^ t .q → k ≡ firstBad n ws → k < length ws
             → decodedWith t room ws ≡ refused (BadByte k)
-        decode-11 n k e q b =
-            let f : firstBad (2 ^ t .q) ws ≡ k = sym (q ∙ ap (λ x. firstBad x ws) e) in
-            fits ∙ below-bad (2 ^ t .q) ws (decode (codeIn t) ws) (rw f b) ∙ ap (λ x. refused (BadByte x)) f
+        decode-11 n k e q b = fits ∙ bad-found (2 ^ t .q) ws (decode (codeIn t) ws) n k e q b
 
         pub decode-done : (n k : ℕ) → n ≡ 2 ^ t .q → k ≡ firstBad n ws → length ws ≤ k
             → decodedWith t room ws ≡ done (decode (codeIn t) ws)
-        decode-done n k e q b =
-            let f : firstBad (2 ^ t .q) ws ≡ k = sym (q ∙ ap (λ x. firstBad x ws) e) in
-            fits ∙ below-done (2 ^ t .q) ws (decode (codeIn t) ws) (omega (arith, bad-le (2 ^ t .q) ws))
+        decode-done n k e q b = fits ∙ none-bad (2 ^ t .q) ws (decode (codeIn t) ws) n k e q b
