@@ -1,3 +1,4 @@
 pub mod Sizes
 pub mod Streams
 pub mod Waiting
+pub mod Checks

@@ -1,13 +1,13 @@
 -- Words as a bit stream and back: packing and unpacking undo each other for every q, since words below 2^q are what
 -- fits fields of q bits.
--- In order: packed-size, below-packed, uniform-packed; length-unpacked, below-unpacked, unpacked-at, unpacked-part;
--- Good, good-stream→, →good-stream; unpacked-packed, packed-unpacked.
+-- In order: packed-size, below-packed, uniform-packed; few-bits, place-in, wordOf, length-unpacked, below-unpacked,
+-- unpacked-at, unpacked-map, unpacked-part; Good, good-stream→, →good-stream; unpacked-packed, packed-unpacked.
 -- Assumes nothing.
-use Rattle.laws.proofs.All.{_≡_, sym, ap, ap₂, _∙_, _&&_, List, [], _∷_, _++_, ℕ, _+_, _*_, _/_, _%_, _^_, _≤_}
-use Rattle.laws.proofs.All.{_<_, mod-eq-of-lt, arith, T, leb, eqb, le→leb, leb→le, eqb→eq, eqb-refl, length, take, drop}
-use Rattle.laws.proofs.All.{getD, replicate, length-append, length-drop, length-take-le, take-all, drop-at, drop-drop}
-use Rattle.laws.proofs.All.{ext-getD, getD-take, getD-drop, pow-pos, and→, →and, sum, sum-append, sum-replicate}
-use Rattle.laws.proofs.All.{below-append, Below}
+use Rattle.laws.proofs.All.{_≡_, sym, ap, ap₂, _∙_, _&&_, List, [], _∷_, _++_, map, ℕ, _+_, _*_, _/_, _%_, _^_}
+use Rattle.laws.proofs.All.{_≤_, _<_, mod-eq-of-lt, mul-le-mul, mul-le-mul-right, arith, T, leb, eqb, le→leb, leb→le}
+use Rattle.laws.proofs.All.{eqb→eq, eqb-refl, length, take, drop, getD, replicate, length-append, length-drop}
+use Rattle.laws.proofs.All.{length-take-le, take-all, drop-at, drop-drop, ext-getD, getD-take, getD-drop, pow-pos}
+use Rattle.laws.proofs.All.{and→, →and, sum, sum-append, sum-replicate, below-append, range, is-map, Below}
 use Rattle.bits.specs.Fields.{bits, value, write, read, uniform, bitsOf, field}
 use Rattle.bits.proofs.Fields.{length-bits, below-bits, value-bits, below-write, read-write, write-read, read-back}
 use Rattle.bits.proofs.Fields.{read-append, fits-uniform, below-read, read-count, uniform-read, uniform-at}
@@ -42,6 +42,17 @@ module _ (q : ℕ) (ws : List ℕ) where
       (below-append 2 (uniform q ws) (bits f 0) (below-write (replicate (length ws) q) ws) (below-bits f 0)) l
 
 -- ---- the words of bytes
+-- fewer than 2^23 bits in all, and each word lies within them
+pub few-bits : (q count : ℕ) → q ≤ 8 → count ≤ limit → count * q ≤ 8000000
+few-bits q count h l = mul-le-mul l h
+
+pub place-in : (q count i : ℕ) → i < count → i * q + q ≤ count * q
+place-in q count i h = omega (arith, mul-le-mul-right {m = i + 1} {n = count} q (omega arith))
+
+-- word i of q bits
+abbrev pub wordOf : ℕ → List ℕ → ℕ → ℕ
+wordOf q xs i = field (bitsOf xs) (i * q) q
+
 module _ (q count : ℕ) (xs : List ℕ) where
   pub length-unpacked : length (unpacked q count xs) ≡ count
   unfolding unpacked
@@ -52,9 +63,13 @@ module _ (q count : ℕ) (xs : List ℕ) where
   below-unpacked = below-read q count (bitsOf xs) (below-write (replicate (length xs) 8) xs)
 
   -- a word by its bit place
-  pub unpacked-at : (i : ℕ) → i < count → getD (unpacked q count xs) i 0 ≡ field (bitsOf xs) (i * q) q
+  pub unpacked-at : (i : ℕ) → i < count → getD (unpacked q count xs) i 0 ≡ wordOf q xs i
   unfolding unpacked
   unpacked-at i h = uniform-at q count (bitsOf xs) i h
+
+  -- each word by its number
+  pub unpacked-map : unpacked q count xs ≡ map (wordOf q xs) (range count)
+  unpacked-map = is-map 0 (wordOf q xs) count (unpacked q count xs) length-unpacked unpacked-at
 
 -- words from a place on that starts a byte are those of the bytes from there on
 pub unpacked-part : (q base k count : ℕ) (xs : List ℕ) → base % 8 ≡ 0 → base + k ≤ count

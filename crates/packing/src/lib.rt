@@ -41,7 +41,8 @@ fn is_width(q: usize) -> bool
 
 // Whether the bits of the bytes behind the place `at` are all 0; they are fewer than eight.
 fn is_filled(bytes: &[u8], at: usize) -> bool
-    requires { ⌜ (at ≤ 8 * length (now bytes)) × (8 * length (now bytes) ≤ at + 7) ⌝ }
+    requires { ⌜
+        (length (now bytes) ≤ limit) × (at ≤ 8 * length (now bytes)) × (8 * length (now bytes) ≤ at + 7) ⌝ }
     ensures answer { λ r. ⌜
         r ≡ eqb (field (bitsOf (now (bytes .entry))) at (8 * length (now (bytes .entry)) - at)) 0 ⌝ }
 {
