@@ -1,6 +1,6 @@
 -- Laws of the check of refusal 11.
 -- In order: bad-here, bad-later, bad-end, the first bad byte from a place on; bad-le; firstBad-below, below-firstBad;
--- below-bad, below-done, bad-found, none-bad, allBelow-true, allBelow→.
+-- all-below; below-bad, below-done, bad-found, none-bad, allBelow-true, allBelow→.
 -- Assumes nothing.
 use Rattle.laws.proofs.All.{_≡_, refl, sym, ap, _∙_, Bool, true, false, List, [], _∷_, ℕ, suc, _+_, _≤_, _<_, add-one}
 use Rattle.laws.proofs.All.{arith, lt-ltb, le-ltb, eq-eqb, ne-eqb, ltb, eqb, ltb→lt, eqb→eq, eqb-refl, length, drop}
@@ -43,6 +43,14 @@ below-firstBad n (x ∷ xs) e = go (ltb x n) refl e (λ e′. below-firstBad n x
     go true t e f = (ltb→lt x n (rw t tt), f (omega arith))
     go false t e f = absurd (omega arith)
 
+-- ---- as the code finds it: the bound m and the first bad byte k, computed
+module _ (n : ℕ) (xs : List ℕ) (m k : ℕ) (e : m ≡ n) (f : k ≡ firstBad m xs) where
+  found : firstBad n xs ≡ k
+  found = sym (f ∙ ap (λ x. firstBad x xs) e)
+
+  pub all-below : length xs ≤ k → Below n xs
+  all-below h = below-firstBad n xs (omega (arith, bad-le n xs, found))
+
 -- ---- the check
 module _ (n : ℕ) (xs result : List ℕ) where
   pub below-bad : firstBad n xs < length xs → allBelow n xs result ≡ refused (BadByte (firstBad n xs))
@@ -53,17 +61,13 @@ module _ (n : ℕ) (xs result : List ℕ) where
   pub below-done : firstBad n xs ≡ length xs → allBelow n xs result ≡ done result
   below-done e = ap (λ b. unless (BadByte (firstBad n xs)) b (done result)) (eq-eqb (firstBad n xs) (length xs) e)
 
-  -- the check as the code makes it: the bound and the first bad byte, computed
   module _ (m k : ℕ) (e : m ≡ n) (f : k ≡ firstBad m xs) where
     pub bad-found : k < length xs → allBelow n xs result ≡ refused (BadByte k)
     bad-found h =
-        let q : firstBad n xs ≡ k = sym (f ∙ ap (λ x. firstBad x xs) e) in
-        below-bad (rw q h) ∙ ap (λ x. refused (BadByte x)) q
+        let q = found n xs m k e f in below-bad (rw q h) ∙ ap (λ x. refused (BadByte x)) q
 
     pub none-bad : length xs ≤ k → allBelow n xs result ≡ done result
-    none-bad h =
-        let q : firstBad n xs ≡ k = sym (f ∙ ap (λ x. firstBad x xs) e) in
-        below-done (omega (arith, bad-le n xs))
+    none-bad h = below-done (omega (arith, bad-le n xs, found n xs m k e f))
 
   pub allBelow-true : Below n xs → allBelow n xs result ≡ done result
   allBelow-true b =

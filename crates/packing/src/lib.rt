@@ -75,11 +75,11 @@ pub fn pack(q: usize, words: &[u8], out: &mut [u8]) -> Answer
     if LIMIT < words.len() {
         return Answer::Refused(Refusal::Stream);
     }
+    let bad = first_bad(words, power(q));
     let size = stream_size(q, words.len());
     if out.len() < size {
-        return Answer::Refused(Refusal::ShortOutput);
+        return Answer::Refused(Refusal::ShortOutput); // 13 comes before 11
     }
-    let bad = first_bad(words, power(q));
     if bad < words.len() {
         return Answer::Refused(Refusal::BadByte(bad));
     }

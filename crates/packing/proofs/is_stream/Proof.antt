@@ -13,13 +13,13 @@ sized c = c .if2 .left ∙ c .before .stream-size .ensures
 
 returns : tie.Need-returns
 returns c =
-    let a = c .before .before .args in sym (stream-long (a .q) (a .count) (now (a .bytes)) (c .if1 .taken))
+    let a = c .before .before .args in sym (stream-long (a .q) (a .count) (now (a .bytes)) (omega arith))
 
 returns-2 : tie.Need-returns-2
 returns-2 c =
     let b = c .before in
     let a = b .before .before .before .args in
-    sym (stream-other (a .q) (a .count) (now (a .bytes)) (b .before .if1 .left)
+    sym (stream-other (a .q) (a .count) (now (a .bytes)) (omega arith)
     (λ e. c .if2 .taken (e ∙ sym (b .stream-size .ensures))))
 
 mul-is-filled : tie.Need-mul-is-filled
