@@ -21,7 +21,7 @@ use Rattle.codec.proofs.Answers.{encoded→, →decoded, returns, recog
 
 module _ (xs : List ℕ) (bytes : Below 256 xs) where
   -- what an accepted record says
-  facts : (c : Code) → parse xs ≡ done c → Formed c × Window (c .table) (c .window)
+  pub facts : (c : Code) → parse xs ≡ done c → Formed c × Window (c .table) (c .window)
   facts c e = let (t, _, (_, w)) = parse-exact xs bytes c .0 e in (formed→ c t, w)
 
   -- decoding what was recorded returns the data
