@@ -11,13 +11,12 @@ use Rattle.packing.specs.Streams.{limit, streamSize, streamFill, packed, unpack
 use Rattle.packing.proofs.Streams.{length-unpacked, below-unpacked, unpacked-at, unpacked-packed}
 use Rattle.table.specs.Rows.{Code}
 use Rattle.table.specs.Paths.{Blocks, recording}
-use Rattle.table.proofs.Formed.{formed→}
 use Rattle.table.proofs.Paths.{length-recording}
 use Rattle.checker.specs.Parse.{parse}
-use Rattle.checker.proofs.Accepted.{parse-exact}
 use Rattle.stepping.specs.Reading.{mark}
 use Rattle.codec.specs.Damage.{SameOutside}
 use Rattle.codec.proofs.Answers.{words-below}
+use Rattle.codec.proofs.Promises.{facts}
 use Rattle.codec.proofs.Reach.{same-stretch, words-reach}
 use Rattle.streams.specs.Recorded.{decodeStream}
 use Rattle.streams.proofs.Decoded.{stream-decodes}
@@ -67,8 +66,7 @@ module _ (rec : List ℕ) (bytes : Below 256 rec) (c : Code) (read : parse rec �
       let count = length ds + c .window .lookahead in
       let R = recording c ds in
       let ys = packed (c .q) R in
-      let (form, _, (_, w)) = parse-exact rec bytes c .0 read in
-      let F = formed→ c form in
+      let (F, w) = facts rec bytes c read in
       let long : length R ≡ count = length-recording c ds in
       let (back, good) = unpacked-packed (c .q) R (words-below c F w ds b) (omega (arith, long)) in
       let ok : T (goodStream (c .q) count xs) =

@@ -3,7 +3,7 @@
 -- In order: packed-size, below-packed, uniform-packed; few-bits, place-in, wordOf, length-unpacked, below-unpacked,
 -- unpacked-at, unpacked-map, unpacked-part; Good, good-stream→, →good-stream; unpacked-packed, packed-unpacked.
 -- Assumes nothing.
-use Rattle.laws.proofs.All.{_≡_, sym, ap, ap₂, _∙_, _&&_, List, [], _∷_, _++_, map, ℕ, _+_, _*_, _/_, _%_, _^_}
+use Rattle.laws.proofs.All.{_≡_, sym, ap, ap₂, subst, _∙_, _↔_, _&&_, List, [], _∷_, _++_, map, ℕ, _+_, _*_, _/_, _%_, _^_}
 use Rattle.laws.proofs.All.{_≤_, _<_, mod-eq-of-lt, mul-le-mul, mul-le-mul-right, arith, T, leb, eqb, le→leb, leb→le}
 use Rattle.laws.proofs.All.{eqb→eq, eqb-refl, length, take, drop, getD, replicate, length-append, length-drop}
 use Rattle.laws.proofs.All.{length-take-le, take-all, drop-at, drop-drop, ext-getD, getD-take, getD-drop, pow-pos}
@@ -161,3 +161,18 @@ packed-unpacked q count xs b t =
     ∙ ap (read (replicate (streamSize q count) 8))
     (ap (write W) (sym fields) ∙ write-read W B (below-write (replicate (length xs) 8) xs) long)
     ∙ ap (λ n. read (replicate n 8) B) (sym (g .sized)) ∙ read-back (replicate (length xs) 8) xs (fits-uniform 8 xs b)
+
+-- a stream is good exactly when it is what packing makes of as many words, within the limit
+pub good-streams : (q count : ℕ) (xs : List ℕ) → Below 256 xs → T (goodStream q count xs)
+    ↔ ((count ≤ limit) × ((ws : List ℕ) × Below (2 ^ q) ws × (length ws ≡ count) × (packed q ws ≡ xs)))
+good-streams q count xs b = (
+  λ t. (
+    good-stream→ q count xs t .few,
+    unpacked q count xs,
+    below-unpacked q count xs,
+    length-unpacked q count xs,
+    packed-unpacked q count xs b t,
+  ),
+  λ (few, ws, w, e, p). subst (λ l. T (goodStream q count l)) p
+      (subst (λ n. T (goodStream q n (packed q ws))) e (unpacked-packed q ws w (rw e few) .1)),
+)

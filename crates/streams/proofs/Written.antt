@@ -1,7 +1,8 @@
 -- Encoding to a stream, check by check.
--- In order: streamed→, what a finished stream says; stream-7 to stream-done, under a table by value.
+-- In order: streamed→, stream-encodes, what a finished stream says; stream-7 to stream-done, under a table by value.
 -- Assumes nothing.
-use Rattle.laws.proofs.All.{_≡_, _∙_, true, false, List, ℕ, _+_, _^_, _≤_, _<_, lt-leb, le-leb, leb, leb→le, length}
+use Rattle.laws.proofs.All.{_≡_, _∙_, true, false, List, ℕ, _+_, _^_, _≤_, _<_, lt-leb, le-leb, leb, leb→le, le-refl}
+use Rattle.laws.proofs.All.{length}
 use Rattle.answer.specs.declared.Refusal.the-variants.{Field, BadByte, ShortOutput, Stream}
 use Rattle.answer.specs.Outcomes.{done, refused, unless}
 use Rattle.answer.specs.FirstBad.{firstBad, allBelow}
@@ -11,8 +12,11 @@ use Rattle.table.specs.declared.Table.{Table}
 use Rattle.table.specs.Rows.{Code}
 use Rattle.table.specs.Paths.{Blocks, recording}
 use Rattle.table.specs.Value.{codeIn, ready}
+use Rattle.checker.specs.Parse.{parse}
+use Rattle.codec.specs.Answers.{encodeUnder}
+use Rattle.codec.proofs.Answers.{→encoded}
 use Rattle.packing.specs.Streams.{limit, streamSize, packed}
-use Rattle.streams.specs.Recorded.{streamed, streamedWith}
+use Rattle.streams.specs.Recorded.{streamed, encodeStream, streamedWith}
 
 pub streamed→ : (c : Code) (room : ℕ) (ds xs : List ℕ) → streamed c room ds ≡ done xs
     → (length ds + c .window .lookahead ≤ limit) × Blocks c ds × (packed (c .q) (recording c ds) ≡ xs)
@@ -24,6 +28,16 @@ streamed→ c room ds xs e =
     let (_, e″) = unless→ ShortOutput (leb (streamSize (c .q) n) room) rest xs e′ in
     let (b, q) = allBelow→ (2 ^ c .p) ds (packed (c .q) (recording c ds)) xs e″ in
     (leb→le n limit l, b, q)
+
+-- a recorded stream is the words of the recording, packed
+pub stream-encodes : (rec : List ℕ) (c : Code) → parse rec ≡ done c → (room : ℕ) (ds xs : List ℕ)
+    → encodeStream rec room ds ≡ done xs → (R : List ℕ)
+    × (encodeUnder rec (length ds + c .window .lookahead) ds ≡ done R) × (packed (c .q) R ≡ xs)
+unfolding encodeStream encodeUnder
+stream-encodes rec c read room ds xs e =
+    let n = length ds + c .window .lookahead in
+    let (_, b, q) = streamed→ c room ds xs (rw read at e) in
+    (recording c ds, rw read (→encoded c n ds b (le-refl n)), q)
 
 module _ (t : Table) (room : ℕ) (ds : List ℕ) where
   pub stream-7 : ready t ≡ false → streamedWith t room ds ≡ refused Field

@@ -1,6 +1,6 @@
 -- The theorems of what was asked for after the first delivery, each written out in full as on the main page.
--- In order: (a) joint, joined-pairs, numbered, too-many-pairs, joined-job, both-obeyed; (b) streams, stream-returns,
--- bits-reach.
+-- In order: (a) joint, joined-pairs, numbered, too-many-pairs, joined-job, both-obeyed; (b) streams, good-streams,
+-- stream-words, stream-returns, bits-reach.
 -- Assumes nothing.
 use mathlib.Core.Path.{_≡_}
 use mathlib.Core.Logic.{_⊎_, _↔_}
@@ -20,6 +20,7 @@ use Rattle.table.specs.Rows.{Code}
 use Rattle.table.specs.Paths.{Blocks, recording}
 use Rattle.checker.specs.Parse.{parse}
 use Rattle.stepping.specs.Reading.{mark}
+use Rattle.codec.specs.Answers.{encodeUnder, decodeUnder}
 use Rattle.codec.specs.Damage.{SameOutside}
 use Rattle.job.specs.Jobs.{Job, readJoined, Joins}
 use Rattle.compiler.specs.Compile.{compileJoined}
@@ -75,6 +76,20 @@ pub streams : (q : ℕ) → ((ws : List ℕ) → Below (2 ^ q) ws → length ws 
     → (unpacked q (length ws) (packed q ws) ≡ ws) × T (goodStream q (length ws) (packed q ws)))
     × ((count : ℕ) (xs : List ℕ) → Below 256 xs → T (goodStream q count xs) → packed q (unpacked q count xs) ≡ xs)
 streams q = (Rattle.packing.proofs.Streams.unpacked-packed q, Rattle.packing.proofs.Streams.packed-unpacked q)
+
+-- The check of 15 passes exactly the streams that packing makes of as many words, within the limit.
+pub good-streams : (q count : ℕ) (xs : List ℕ) → Below 256 xs → T (goodStream q count xs)
+    ↔ ((count ≤ limit) × ((ws : List ℕ) × Below (2 ^ q) ws × (length ws ≡ count) × (packed q ws ≡ xs)))
+good-streams = Rattle.packing.proofs.Streams.good-streams
+
+-- A stream is recorded as the recording's words, packed, and read as its words are: what Main says of words holds of it.
+pub stream-words : (rec : List ℕ) (c : Code) → parse rec ≡ done c → ((room : ℕ) (ds xs : List ℕ)
+    → encodeStream rec room ds ≡ done xs → (R : List ℕ)
+    × (encodeUnder rec (length ds + c .window .lookahead) ds ≡ done R) × (packed (c .q) R ≡ xs))
+    × ((count room : ℕ) (xs : List ℕ) → T (goodStream (c .q) count xs)
+    → decodeStream rec count room xs ≡ decodeUnder rec room (unpacked (c .q) count xs))
+stream-words rec c e =
+    (Rattle.streams.proofs.Written.stream-encodes rec c e, Rattle.streams.proofs.Decoded.stream-decodes rec c e)
 
 -- Decoding a recorded stream returns its data.
 pub stream-returns : (rec : List ℕ) → Below 256 rec → (c : Code) → parse rec ≡ done c → (room room′ : ℕ)
