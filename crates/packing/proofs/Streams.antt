@@ -168,11 +168,8 @@ pub good-streams : (q count : ℕ) (xs : List ℕ) → Below 256 xs → T (goodS
 good-streams q count xs b = (
   λ t. (
     good-stream→ q count xs t .few,
-    unpacked q count xs,
-    below-unpacked q count xs,
-    length-unpacked q count xs,
-    packed-unpacked q count xs b t,
+    (unpacked q count xs, below-unpacked q count xs, length-unpacked q count xs, packed-unpacked q count xs b t),
   ),
-  λ (few, ws, w, e, p). subst (λ l. T (goodStream q count l)) p
+  λ (few, (ws, w, e, p)). subst (λ l. T (goodStream q count l)) p
       (subst (λ n. T (goodStream q n (packed q ws))) e (unpacked-packed q ws w (rw e few) .1)),
 )
