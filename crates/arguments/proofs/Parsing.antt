@@ -5,27 +5,27 @@ use Rattle.laws.proofs.All.{_≡_, refl, sym, ap, _∙_, Bool, true, false, Lis
 use Rattle.laws.proofs.All.{min-eq-left, min-eq-right, add-one, arith, lt-ltb, le-ltb, ltb-true, ltb-false, ltb}
 use Rattle.laws.proofs.All.{length, getD, drop, drop-cons, drop-length, if_then_else_, all}
 use Rattle.arguments.specs.declared.Parsed.the-variants.{Number, Wrong}
-use Rattle.arguments.specs.Parsing.{digitOf, isDigit, worth, numberIn, parsed}
+use Rattle.arguments.specs.Parsing.{greatest, digitOf, isDigit, worth, numberIn, parsed}
 
 pub worth-grows : (n : ℕ) (cs : List ℕ) → n ≤ worth n cs
 unfolding worth
 worth-grows n [] = omega arith
 worth-grows n (c ∷ cs) = let g = worth-grows (n * 10 + digitOf c) cs in omega arith
 
--- a number above 255 counts as 255
-pub number-capped : (n : ℕ) (cs : List ℕ) → numberIn n cs ≡ numberIn (min n 255) cs
+-- a number above the greatest counts as the greatest
+pub number-capped : (n : ℕ) (cs : List ℕ) → numberIn n cs ≡ numberIn (min n greatest) cs
 unfolding numberIn
-number-capped n cs = go (ltb n 255) refl
+number-capped n cs = go (ltb n greatest) refl
   where
-    go : (b : Bool) → ltb n 255 ≡ b → numberIn n cs ≡ numberIn (min n 255) cs
+    go : (b : Bool) → ltb n greatest ≡ b → numberIn n cs ≡ numberIn (min n greatest) cs
     go true e =
-        let l = ltb-true n 255 e in
+        let l = ltb-true n greatest e in
         ap (λ k. numberIn k cs) (sym (min-eq-left (omega arith)))
     go false e =
-        let g = ltb-false n 255 e in
+        let g = ltb-false n greatest e in
         let h = worth-grows n cs in
-        let a : min (worth n cs) 255 ≡ 255 = min-eq-right (omega arith) in
-        let b : min (worth 255 cs) 255 ≡ 255 = min-eq-right (worth-grows 255 cs) in
+        let a : min (worth n cs) greatest ≡ greatest = min-eq-right (omega arith) in
+        let b : min (worth greatest cs) greatest ≡ greatest = min-eq-right (worth-grows greatest cs) in
         ap (λ k. if all isDigit cs then Number k else Wrong) (a ∙ sym b)
         ∙ ap (λ k. numberIn k cs) (sym (min-eq-right g))
 
@@ -43,7 +43,7 @@ module _ (text : List ℕ) (n i : ℕ) where
       let t : 10 ≤ digitOf (getD text i 0) = omega arith in
       rw (drop-cons text i 0) (rw (le-ltb _ _ t) refl)
 
-  pub number-end : i ≡ length text → n ≤ 255 → numberIn n (drop i text) ≡ Number n
+  pub number-end : i ≡ length text → n ≤ greatest → numberIn n (drop i text) ≡ Number n
   unfolding numberIn worth
   number-end e h =
       ap (numberIn n) (ap (λ k. drop k text) e ∙ drop-length text) ∙ ap Number (min-eq-left h)

@@ -1,5 +1,5 @@
 -- Which action a word names.
--- In order: askedAction, recordAction, actionOf.
+-- In order: askedAction, streamAction, recordAction, actionOf.
 -- Assumes nothing.
 use mathlib.Core.List.{List}
 use Prim.Native.Nat.{ℕ}
@@ -8,9 +8,12 @@ use Rattle.text.specs.Texts.{bytes}
 use Rattle.text.specs.Words.{same}
 use Rattle.arguments.specs.declared.Action.{Action}
 use Rattle.arguments.specs.declared.Action.the-variants.{Compile, CompileJob, CompileJoined, Trace}
-use Rattle.arguments.specs.declared.Action.the-variants.{Collection, Help, Version, Viewing, Coding, Unknown}
+use Rattle.arguments.specs.declared.Action.the-variants.{Collection, Help, Version, Viewing, Coding, Stream}
+use Rattle.arguments.specs.declared.Action.the-variants.{Unknown}
 use Rattle.arguments.specs.declared.View.the-variants.{Check, Show, Draw}
 use Rattle.arguments.specs.declared.Way.the-variants.{Encode, Decode}
+use Rattle.arguments.specs.declared.OnStream.the-variants.{Pack, Unpack, Reach}
+use Rattle.arguments.specs.declared.OnStream.the-variants.{Encode as EncodeStream, Decode as DecodeStream}
 
 -- the action that asks about the command itself
 unfoldable pub askedAction : List ℕ → Action
@@ -20,6 +23,15 @@ askedAction w =
     if same w (bytes "-h") then Help else
     if same w (bytes "--version") then Version else Unknown
 
+-- the action on bit streams
+unfoldable pub streamAction : List ℕ → Action
+streamAction w =
+    if same w (bytes "pack") then Stream Pack else
+    if same w (bytes "unpack") then Stream Unpack else
+    if same w (bytes "encode-stream") then Stream EncodeStream else
+    if same w (bytes "decode-stream") then Stream DecodeStream else
+    if same w (bytes "reach") then Stream Reach else askedAction w
+
 -- the action on one record, or on one and what is recorded under it
 unfoldable pub recordAction : List ℕ → Action
 recordAction w =
@@ -27,7 +39,7 @@ recordAction w =
     if same w (bytes "show") then Viewing Show else
     if same w (bytes "draw") then Viewing Draw else
     if same w (bytes "encode") then Coding Encode else
-    if same w (bytes "decode") then Coding Decode else askedAction w
+    if same w (bytes "decode") then Coding Decode else streamAction w
 
 -- the action that a word names
 unfoldable pub actionOf : List ℕ → Action

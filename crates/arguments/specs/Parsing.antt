@@ -1,5 +1,6 @@
--- A number as an argument says it: one to many decimal digits; a value above 255 is read as 255, which no field takes.
--- In order: digitOf, isDigit; worth; numberIn, parsed.
+-- A number as an argument says it: one to many decimal digits; a value above 9,999,999 is read as 9,999,999, which no
+-- field, no count and no bit number takes.
+-- In order: greatest; digitOf, isDigit; worth; numberIn, parsed.
 -- Assumes nothing.
 use mathlib.Core.Bool.{Bool}
 use mathlib.Core.List.{List, [], _∷_}
@@ -8,6 +9,10 @@ use lib.Dec.{ltb}
 use Rattle.laws.specs.Lists.{if_then_else_, all}
 use Rattle.arguments.specs.declared.Parsed.{Parsed}
 use Rattle.arguments.specs.declared.Parsed.the-variants.{Number, Wrong}
+
+-- the greatest number that is read
+abbrev pub greatest : ℕ
+greatest = 9999999
 
 -- the value of a digit's byte, 10 for any other byte
 unfoldable pub digitOf : ℕ → ℕ
@@ -24,7 +29,7 @@ worth n (c ∷ cs) = worth (n * 10 + digitOf c) cs
 
 -- the number that the digits behind n make, if they are digits
 unfoldable pub numberIn : ℕ → List ℕ → Parsed
-numberIn n cs = if all isDigit cs then Number (min (worth n cs) 255) else Wrong
+numberIn n cs = if all isDigit cs then Number (min (worth n cs) greatest) else Wrong
 
 -- the number that a text says
 unfoldable pub parsed : List ℕ → Parsed

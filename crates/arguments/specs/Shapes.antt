@@ -1,5 +1,5 @@
 -- What each action takes: how many arguments, and which of them it reads and writes; and the number of a status.
--- In order: shaped, shapeOf, fits; statusOf.
+-- In order: shaped, streamShape, shapeOf, fits; statusOf.
 -- Assumes nothing.
 use mathlib.Core.Bool.{Bool, _&&_}
 use Prim.Native.Nat.{ℕ}
@@ -7,7 +7,10 @@ use lib.Dec.{leb}
 use Rattle.arguments.specs.declared.Shape.{Shape}
 use Rattle.arguments.specs.declared.Action.{Action}
 use Rattle.arguments.specs.declared.Action.the-variants.{Compile, CompileJob, CompileJoined, Trace}
-use Rattle.arguments.specs.declared.Action.the-variants.{Collection, Help, Version, Viewing, Coding, Unknown}
+use Rattle.arguments.specs.declared.Action.the-variants.{Collection, Help, Version, Viewing, Coding, Stream}
+use Rattle.arguments.specs.declared.Action.the-variants.{Unknown}
+use Rattle.arguments.specs.declared.OnStream.{OnStream}
+use Rattle.arguments.specs.declared.OnStream.the-variants.{Pack, Unpack, Encode, Decode, Reach}
 use Rattle.arguments.specs.declared.Status.{Status}
 use Rattle.arguments.specs.declared.Status.the-variants.{Done, Failed, Misused}
 
@@ -15,6 +18,14 @@ use Rattle.arguments.specs.declared.Status.the-variants.{Done, Failed, M
 abbrev pub shaped : ℕ → ℕ → ℕ → ℕ → ℕ → Shape
 shaped fewest most under read written =
     record { fewest = fewest; most = most; under = under; read = read; written = written }
+
+-- what an action on bit streams takes
+abbrev pub streamShape : OnStream → Shape
+streamShape Pack = shaped 5 5 0 3 4
+streamShape Unpack = shaped 6 6 0 4 5
+streamShape Encode = shaped 5 5 2 3 4
+streamShape Decode = shaped 6 6 2 4 5
+streamShape Reach = shaped 5 5 2 0 0
 
 -- what an action takes; argument 0 is the program's name, argument 1 the action's
 abbrev pub shapeOf : Action → Shape
@@ -27,6 +38,7 @@ shapeOf Help = shaped 2 3 0 0 0
 shapeOf Version = shaped 2 2 0 0 0
 shapeOf (Viewing v) = shaped 3 3 2 0 0
 shapeOf (Coding w) = shaped 5 5 2 3 4
+shapeOf (Stream s) = streamShape s
 shapeOf Unknown = shaped 0 0 0 0 0
 
 -- a count of arguments is from the fewest to the most

@@ -1,10 +1,9 @@
 // What the arguments of the command say: an action, which arguments it reads and writes, numbers; and how a run ends.
 ghost use mathlib.Core.Path.{_≡_};
 ghost use Prim.Native.Nat.{_≤_};
-ghost use Rattle.arguments.specs.Naming.{askedAction, recordAction, actionOf};
-ghost use Rattle.arguments.specs.Shapes.{shaped, shapeOf, fits, statusOf};
-use text::is_same;
+ghost use Rattle.arguments.specs.Shapes.{shaped, streamShape, shapeOf, fits, statusOf};
 
+pub mod naming;
 pub mod numbers;
 
 // What is printed of a record that is accepted: that it is, its code in words, or its code as a diagram.
@@ -20,6 +19,15 @@ pub enum Way {
     Decode,
 }
 
+// What is done with bit streams.
+pub enum OnStream {
+    Pack,
+    Unpack,
+    Encode,
+    Decode,
+    Reach,
+}
+
 // What the command does.
 pub enum Action {
     Compile,
@@ -31,6 +39,7 @@ pub enum Action {
     Version,
     Viewing(View),
     Coding(Way),
+    Stream(OnStream),
     // No action has this name.
     Unknown,
 }
@@ -58,71 +67,8 @@ pub enum Status {
 
 // What an argument says that is to be a number.
 pub enum Parsed {
-    Number(u8),
+    Number(usize),
     Wrong,
-}
-
-// The action that asks about the command itself.
-fn asked_action(word: &[u8]) -> Action
-    ensures answer { λ r. ⌜ r ≡ askedAction (now (word .entry)) ⌝ }
-{
-    if is_same(word, b"help") {
-        return Action::Help;
-    }
-    if is_same(word, b"--help") {
-        return Action::Help;
-    }
-    if is_same(word, b"-h") {
-        return Action::Help;
-    }
-    if is_same(word, b"--version") {
-        return Action::Version;
-    }
-    Action::Unknown
-}
-
-// The action on one record, or on one and what is recorded under it.
-fn record_action(word: &[u8]) -> Action
-    ensures answer { λ r. ⌜ r ≡ recordAction (now (word .entry)) ⌝ }
-{
-    if is_same(word, b"check") {
-        return Action::Viewing(View::Check);
-    }
-    if is_same(word, b"show") {
-        return Action::Viewing(View::Show);
-    }
-    if is_same(word, b"draw") {
-        return Action::Viewing(View::Draw);
-    }
-    if is_same(word, b"encode") {
-        return Action::Coding(Way::Encode);
-    }
-    if is_same(word, b"decode") {
-        return Action::Coding(Way::Decode);
-    }
-    asked_action(word)
-}
-
-// The action that a word names.
-pub fn action_of(word: &[u8]) -> Action
-    ensures answer { λ r. ⌜ r ≡ actionOf (now (word .entry)) ⌝ }
-{
-    if is_same(word, b"compile") {
-        return Action::Compile;
-    }
-    if is_same(word, b"compile-job") {
-        return Action::CompileJob;
-    }
-    if is_same(word, b"trace") {
-        return Action::Trace;
-    }
-    if is_same(word, b"set") {
-        return Action::Collection;
-    }
-    if is_same(word, b"compile-joined") {
-        return Action::CompileJoined;
-    }
-    record_action(word)
 }
 
 // A shape of these numbers.
@@ -135,6 +81,19 @@ fn with_places(fewest: usize, most: usize, under: usize, read: usize, written: u
         under,
         read,
         written,
+    }
+}
+
+// What an action on bit streams takes.
+fn stream_shape(s: OnStream) -> Shape
+    ensures answer { λ r. ⌜ r ≡ streamShape s ⌝ }
+{
+    match s {
+        OnStream::Pack => with_places(5, 5, 0, 3, 4),
+        OnStream::Unpack => with_places(6, 6, 0, 4, 5),
+        OnStream::Encode => with_places(5, 5, 2, 3, 4),
+        OnStream::Decode => with_places(6, 6, 2, 4, 5),
+        OnStream::Reach => with_places(5, 5, 2, 0, 0),
     }
 }
 
@@ -152,6 +111,7 @@ pub fn shape_of(a: Action) -> Shape
         Action::Version => with_places(2, 2, 0, 0, 0),
         Action::Viewing(_) => with_places(3, 3, 2, 0, 0),
         Action::Coding(_) => with_places(5, 5, 2, 3, 4),
+        Action::Stream(s) => stream_shape(s),
         Action::Unknown => with_places(0, 0, 0, 0, 0),
     }
 }

@@ -1,8 +1,11 @@
 // Numbers as arguments say them.
 ghost use mathlib.Core.Path.{_≡_};
 ghost use Prim.Native.Nat.{_≤_, min};
-ghost use Rattle.arguments.specs.Parsing.{digitOf, parsed};
+ghost use Rattle.arguments.specs.Parsing.{greatest, digitOf, parsed};
 use crate::Parsed;
+
+// The greatest number that is read: above every field, count and bit number that is taken.
+const GREATEST: usize = 9999999;
 
 // The value of a digit, 10 for any other byte.
 fn digit(c: u8) -> usize
@@ -18,18 +21,18 @@ fn digit(c: u8) -> usize
     10
 }
 
-// A number, 255 for a greater one.
+// A number, 9,999,999 for a greater one.
 fn capped(n: usize) -> usize
-    ensures answer { λ r. ⌜ r ≡ min n 255 ⌝ }
-    ensures past { λ r. ⌜ r ≤ 255 ⌝ }
+    ensures answer { λ r. ⌜ r ≡ min n greatest ⌝ }
+    ensures past { λ r. ⌜ r ≤ greatest ⌝ }
 {
-    if n < 255 {
+    if n < GREATEST {
         return n;
     }
-    255
+    GREATEST
 }
 
-// The number that a text says, 255 for a greater one.
+// The number that a text says, 9,999,999 for a greater one.
 pub fn parse(text: &[u8]) -> Parsed
     ensures answer { λ r. ⌜ r ≡ parsed (now (text .entry)) ⌝ }
 {
@@ -46,5 +49,5 @@ pub fn parse(text: &[u8]) -> Parsed
         n = capped(n * 10 + d);
         i += 1;
     }
-    Parsed::Number(n as u8)
+    Parsed::Number(n)
 }

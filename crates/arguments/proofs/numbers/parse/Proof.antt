@@ -2,13 +2,13 @@
 -- measure is what is left of the length.
 -- Assumes nothing.
 use Rattle.laws.proofs.All.{_≡_, sym, ap, _∙_, _+_, _*_, _-_, _≤_, arith, now, length, drop, needs}
-use Rattle.arguments.specs.Parsing.{numberIn, parsed}
+use Rattle.arguments.specs.Parsing.{greatest, numberIn, parsed}
 use Rattle.arguments.proofs.Parsing.{number-capped, number-on, number-off, number-end, parsed-none, parsed-some}
 use Rattle.arguments.proofs.numbers.parse.Statement.{statement}
 use Rattle.arguments.proofs.numbers.parse.Tie as tie
 
 abbrev Inv-loop : tie.InvT-loop
-Inv-loop text n₀ i₀ n i = (i ≤ length text) × (n ≤ 255) × (parsed text ≡ numberIn n (drop i text))
+Inv-loop text n₀ i₀ n i = (i ≤ length text) × (n ≤ greatest) × (parsed text ≡ numberIn n (drop i text))
 
 abbrev μ-loop : tie.MeasureT-loop
 μ-loop text n₀ i₀ n i = length text - i
@@ -48,4 +48,4 @@ parse-spec =
     Inv-loop μ-loop (λ c. sym (parsed-none _ (c .if1 .taken)))
     (λ c. (omega arith, omega arith, parsed-some _ (c .if1 .left))) (λ c. search needs) (λ c κs. search needs)
     returns-2 (λ c. omega arith) (λ c. omega arith) (λ c κs. search needs) (λ c. search needs) (λ c. search needs)
-    loop-again (λ c. omega arith) returns-3)
+    loop-again returns-3)

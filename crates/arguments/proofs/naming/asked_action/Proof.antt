@@ -4,8 +4,8 @@ use Rattle.laws.proofs.All.{_≡_, sym, _∙_, true, false, now, needs}
 use Rattle.text.specs.Texts.{bytes}
 use Rattle.text.specs.Words.{same}
 use Rattle.arguments.specs.Naming.{askedAction}
-use Rattle.arguments.proofs.asked_action.Statement.{statement}
-use Rattle.arguments.proofs.asked_action.Tie as tie
+use Rattle.arguments.proofs.naming.asked_action.Statement.{statement}
+use Rattle.arguments.proofs.naming.asked_action.Tie as tie
 
 returns : tie.Need-returns
 unfolding askedAction

@@ -4,8 +4,8 @@ use Rattle.laws.proofs.All.{_≡_, sym, _∙_, true, false, now, needs}
 use Rattle.text.specs.Texts.{bytes}
 use Rattle.text.specs.Words.{same}
 use Rattle.arguments.specs.Naming.{recordAction}
-use Rattle.arguments.proofs.record_action.Statement.{statement}
-use Rattle.arguments.proofs.record_action.Tie as tie
+use Rattle.arguments.proofs.naming.record_action.Statement.{statement}
+use Rattle.arguments.proofs.naming.record_action.Tie as tie
 
 returns : tie.Need-returns
 unfolding recordAction
@@ -96,7 +96,7 @@ returns-6 c =
     sym (c4 .before .is-same4 .ensures) ∙ c4 .if4 .left in
     let e5 : same w (bytes "decode") ≡ false =
     sym (c5 .before .is-same5 .ensures) ∙ c5 .if5 .left in
-    c .asked-action .ensures ∙ sym (simp (e1, e2, e3, e4, e5))
+    c .stream-action .ensures ∙ sym (simp (e1, e2, e3, e4, e5))
 
 pub record-action-spec : {M : Type 1} → statement M
 record-action-spec =

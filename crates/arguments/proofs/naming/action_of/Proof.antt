@@ -4,8 +4,8 @@ use Rattle.laws.proofs.All.{_≡_, sym, _∙_, true, false, now, needs}
 use Rattle.text.specs.Texts.{bytes}
 use Rattle.text.specs.Words.{same}
 use Rattle.arguments.specs.Naming.{actionOf}
-use Rattle.arguments.proofs.action_of.Statement.{statement}
-use Rattle.arguments.proofs.action_of.Tie as tie
+use Rattle.arguments.proofs.naming.action_of.Statement.{statement}
+use Rattle.arguments.proofs.naming.action_of.Tie as tie
 
 returns : tie.Need-returns
 unfolding actionOf
