@@ -1,5 +1,6 @@
 // What the arguments say: numbers, and files and standard input read into lent bytes. A file named - is standard input.
 ghost use mathlib.Core.Path.{_≡_};
+ghost use Prim.Native.Nat.{min};
 ghost use lib.ListN.{length};
 ghost use Rattle.io.specs.Counts.{Counts};
 ghost use Rattle.files.specs.Files.{Fits};
@@ -28,6 +29,12 @@ const NOTHING: Input = Input {
     size: 0,
 };
 
+// A number, if the argument is one.
+pub struct Number {
+    pub good: bool,
+    pub value: usize,
+}
+
 // Five numbers, if all five arguments are numbers.
 pub struct Numbers {
     pub good: bool,
@@ -49,16 +56,29 @@ pub fn page() -> [u8; 300000]
 }
 
 // The number that argument i says. It says what is no number.
-fn number_at(a: Action, i: usize) -> Parsed {
+pub fn number_at(a: Action, i: usize) -> Number {
     let mut word = io::buffer();
     let n = os::arg(i, &mut word);
     match parse(&word[..n]) {
         Parsed::Wrong => {
             misused_word(a, &word[..n], b": not a number");
-            Parsed::Wrong
+            Number {
+                good: false,
+                value: 0,
+            }
         }
-        p => p,
+        Parsed::Number(value) => Number { good: true, value },
     }
+}
+
+// A number as a byte, 255 for a greater one, which no field of a job takes.
+fn byte_of(n: usize) -> u8
+    ensures answer { λ r. ⌜ r ≡ min n 255 ⌝ }
+{
+    if n < 255 {
+        return n as u8;
+    }
+    255
 }
 
 // The numbers that arguments 2 to 6 say. It says what is no number.
@@ -66,15 +86,12 @@ pub fn numbers_said(a: Action) -> Numbers {
     let mut job = [0u8; 5];
     let mut i = 0;
     while i < 5 {
-        match number_at(a, 2 + i) {
-            Parsed::Wrong => {
-                return Numbers { good: false, job };
-            }
-            Parsed::Number(n) => {
-                job[i] = n;
-                i += 1;
-            }
+        let n = number_at(a, 2 + i);
+        if !n.good {
+            return Numbers { good: false, job };
         }
+        job[i] = byte_of(n.value);
+        i += 1;
     }
     Numbers { good: true, job }
 }

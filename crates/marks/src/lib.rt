@@ -48,11 +48,10 @@ fn tell_marks(w: Way, r: Answer, out: &[u8])
     }
 }
 
-// Writes what encoding or decoding came to; the marks are said where all of it was written.
-pub fn finish_code(w: Way, r: Answer, out: &[u8]) -> Status
+// Writes what the encoding or decoding of an action came to; the marks are said where all of it was written.
+pub fn finish_code(a: Action, w: Way, r: Answer, out: &[u8]) -> Status
     requires { ⌜ Within r (now out) ⌝ }
 {
-    let a = Action::Coding(w);
     let i = written_place(a);
     let s = finish(a, i, r, out);
     match s {

@@ -7,6 +7,7 @@ use crate::say;
 use crate::system::complain;
 use crate::system::print;
 use arguments::Action;
+use arguments::OnStream;
 use arguments::Status;
 use arguments::View;
 use arguments::Way;
@@ -18,18 +19,23 @@ fn tell_all(file: i32) -> bool {
     io::write_all(
         file,
         b"usage: sbc ACTION [ARGUMENT]...
-  compile d k p q cap [OUT]  compile a run-length job to a record
-  compile-job FILE [OUT]     compile a job to a record
-  compile-joined FILE [OUT]  compile a job with two constraints to a record for both
-  trace d k p q cap          print how a run-length job is compiled
-  check FILE                 say whether a record is accepted
-  show FILE                  print the code of a record
-  draw FILE                  print the code of a record as a Graphviz digraph or an SVG matrix
-  encode RECORD DATA OUT     record data blocks as words
-  decode RECORD WORDS OUT    read words as data blocks
-  set FILE                   list the records of a set
-  help [ACTION]              print this, or more about an action; --help and -h too
-  --version                  print the version
+  compile d k p q cap [OUT]              compile a run-length job to a record
+  compile-job FILE [OUT]                 compile a job to a record
+  compile-joined FILE [OUT]              compile a job with two constraints to a record for both
+  trace d k p q cap                      print how a run-length job is compiled
+  check FILE                             say whether a record is accepted
+  show FILE                              print the code of a record
+  draw FILE                              print the code of a record as a Graphviz digraph or an SVG matrix
+  encode RECORD DATA OUT                 record data blocks as words
+  decode RECORD WORDS OUT                read words as data blocks
+  pack q WORDS OUT                       pack words of q bits into a bit stream
+  unpack q COUNT STREAM OUT              unpack the words of a bit stream
+  encode-stream RECORD DATA OUT          record data blocks as a bit stream
+  decode-stream RECORD COUNT STREAM OUT  read a bit stream as data blocks
+  reach RECORD FIRST LAST                print the blocks that overwritten channel bits can spoil
+  set FILE                               list the records of a set
+  help [ACTION]                          print this, or more about an action; --help and -h too
+  --version                              print the version
 A file named - is standard input or standard output.
 ",
     )
@@ -115,6 +121,57 @@ standard error. At most 1,000,015 words. Only one of RECORD and WORDS can be -.
     }
 }
 
+// The actions that encode to a bit stream and decode from one.
+fn tell_stream_coding(file: i32, w: Way) -> bool {
+    match w {
+        Way::Encode => io::write_all(
+            file,
+            b"usage: sbc encode-stream RECORD DATA OUT
+Encodes the blocks in DATA, one byte each and below 2^p, under the record in RECORD, and writes the words to OUT as a
+bit stream, as pack does. N blocks give N + a words. At most 1,000,000 words. Only one of RECORD and DATA can be -.
+",
+        ),
+        Way::Decode => io::write_all(
+            file,
+            b"usage: sbc decode-stream RECORD COUNT STREAM OUT
+Decodes the COUNT words of the bit stream in STREAM under the record in RECORD, and writes the blocks to OUT, one byte
+each. COUNT counts the closing words too: N blocks were recorded as N + a words. STREAM is as for unpack. A block that
+cannot be read is the mark 255; how many there are is said on standard error. At most 1,000,000 words. Only one of
+RECORD and STREAM can be -.
+",
+        ),
+    }
+}
+
+// The actions on bit streams.
+fn tell_stream(file: i32, s: OnStream) -> bool {
+    match s {
+        OnStream::Pack => io::write_all(
+            file,
+            b"usage: sbc pack q WORDS OUT
+Packs the words in WORDS, one byte each and below 2^q, into a bit stream: q bits a word, eight bits a byte, first bit
+highest, the last byte filled with 0. q: 1 to 8. At most 1,000,000 words.
+",
+        ),
+        OnStream::Unpack => io::write_all(
+            file,
+            b"usage: sbc unpack q COUNT STREAM OUT
+Unpacks the bit stream in STREAM into COUNT words of q bits, and writes them to OUT, one byte each. The length of STREAM
+must be COUNT x q / 8 bytes, rounded up, with 0 in the bits behind the last word. q: 1 to 8. At most 1,000,000 words.
+",
+        ),
+        OnStream::Encode => tell_stream_coding(file, Way::Encode),
+        OnStream::Decode => tell_stream_coding(file, Way::Decode),
+        OnStream::Reach => io::write_all(
+            file,
+            b"usage: sbc reach RECORD FIRST LAST
+Prints the blocks that can differ from the data written when channel bits FIRST to LAST of a stream are overwritten:
+FIRST / q - a to LAST / q + m. Bits and blocks are counted from 0. Lost or added bits are outside this.
+",
+        ),
+    }
+}
+
 // An action; the answer is whether all was written.
 fn tell(file: i32, a: Action) -> bool {
     match a {
@@ -124,6 +181,7 @@ fn tell(file: i32, a: Action) -> bool {
         Action::Trace => tell_compiling(file, a),
         Action::Viewing(v) => tell_record(file, v),
         Action::Coding(w) => tell_coding(file, w),
+        Action::Stream(s) => tell_stream(file, s),
         Action::Collection => io::write_all(
             file,
             b"usage: sbc set FILE
