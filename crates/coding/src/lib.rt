@@ -44,7 +44,7 @@ fn longest(w: Way) -> usize {
 // The words of blocks, or the blocks of words, under a record.
 fn code_bytes(w: Way, under: &[u8], bytes: &[u8], out: &mut [u8]) -> Status {
     let r = code(w, under, bytes, out);
-    finish_code(w, r, out)
+    finish_code(Action::Coding(w), w, r, out)
 }
 
 // encode RECORD DATA OUT, decode RECORD WORDS OUT
