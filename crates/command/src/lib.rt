@@ -7,10 +7,11 @@ mod compiling;
 mod records;
 
 use arguments::Action;
+use arguments::OnStream;
 use arguments::Status;
 use arguments::Way;
-use arguments::action_of;
 use arguments::is_fitting;
+use arguments::naming::action_of;
 use arguments::shape_of;
 use arguments::status_number;
 use messages::usage::misused;
@@ -67,6 +68,51 @@ pub extern "C" fn sbc_action_set() -> u32
     status_number(records::set_file())
 }
 
+// pack. It is exported so that it has a stack frame of its own.
+#[no_mangle]
+pub extern "C" fn sbc_action_pack() -> u32
+    ensures past { λ r. ⌜ r ≤ 2 ⌝ }
+{
+    status_number(streamfiles::pack_file())
+}
+
+// unpack. It is exported so that it has a stack frame of its own.
+#[no_mangle]
+pub extern "C" fn sbc_action_unpack() -> u32
+    ensures past { λ r. ⌜ r ≤ 2 ⌝ }
+{
+    status_number(streamfiles::unpack_file())
+}
+
+// encode-stream. It is exported so that it has a stack frame of its own.
+#[no_mangle]
+pub extern "C" fn sbc_action_encode_stream() -> u32
+    ensures past { λ r. ⌜ r ≤ 2 ⌝ }
+{
+    status_number(streamfiles::encode_file())
+}
+
+// decode-stream. It is exported so that it has a stack frame of its own.
+#[no_mangle]
+pub extern "C" fn sbc_action_decode_stream() -> u32
+    ensures past { λ r. ⌜ r ≤ 2 ⌝ }
+{
+    status_number(streamfiles::decode_file())
+}
+
+// Does an action on bit streams; the answer is the exit status.
+fn act_on_stream(s: OnStream) -> u32
+    ensures past { λ r. ⌜ r ≤ 2 ⌝ }
+{
+    match s {
+        OnStream::Pack => sbc_action_pack(),
+        OnStream::Unpack => sbc_action_unpack(),
+        OnStream::Encode => sbc_action_encode_stream(),
+        OnStream::Decode => sbc_action_decode_stream(),
+        OnStream::Reach => status_number(streamfiles::reaching::reach_bits()),
+    }
+}
+
 // Does an action; the answer is the exit status.
 fn act(a: Action) -> u32
     ensures past { λ r. ⌜ r ≤ 2 ⌝ }
@@ -81,6 +127,7 @@ fn act(a: Action) -> u32
         Action::Version => status_number(print_version()),
         Action::Viewing(v) => status_number(records::view_file(v)),
         Action::Coding(w) => sbc_action_code(is_decoding(w)),
+        Action::Stream(s) => act_on_stream(s),
         Action::Unknown => status_number(misused(Action::Unknown)),
     }
 }
