@@ -10,9 +10,9 @@ use native.Mathlib.Omega.{arith}
 use borrow.Author.Count.{below-more}
 use lib.ListN.{length, getD, take, drop, set, length-set, length-map, replicate, length-replicate}
 use lib.Seq.{drop-cons, set-at, append-snoc, length-take-le, getD-take, ext-getD, getD-set-same, getD-set-other}
-use Rattle.laws.specs.Lists.{range}
+use Rattle.laws.specs.Lists.{from}
 use Rattle.laws.proofs.Tests.{getD-map-lt}
-use Rattle.laws.proofs.Ranges.{length-map-range, map-range-more}
+use Rattle.laws.proofs.Ranges.{length-map-from, map-from-append}
 
 -- ---- the front of an array
 pub take-is : {A : Type 0} (f : A → ℕ) (d : A) (R : List ℕ) (L : List A) (n : ℕ) → length L ≡ n → n ≤ length R
@@ -52,9 +52,10 @@ put-more xs out i w e h =
     rw (drop-cons out i 0, add-one)
     (set-at xs (getD out i 0) (drop (suc i) out) w i e ∙ sym (append-snoc xs w (drop (suc i) out)))
 
--- one byte more of those that a function gives, place by place
-pub map-more : (f : ℕ → ℕ) (out₀ out : List ℕ) (i w : ℕ) → out ≡ map f (range i) ++ drop i out₀ → w ≡ f i
-    → i < length out₀ → set out i w ≡ map f (range (i + 1)) ++ drop (i + 1) out₀
-map-more f out₀ out i w b e h =
-    ap₂ (λ o v. set o i v) b e ∙ put-more (map f (range i)) out₀ i (f i) (length-map-range f i) h
-    ∙ ap (λ l. l ++ drop (i + 1) out₀) (sym (map-range-more f i))
+-- one byte more of those that a function gives, from the number `first` on
+pub map-more : (f : ℕ → ℕ) (first : ℕ) (out₀ out : List ℕ) (i w : ℕ) → out ≡ map f (from first i) ++ drop i out₀
+    → w ≡ f (first + i) → i < length out₀ → set out i w ≡ map f (from first (i + 1)) ++ drop (i + 1) out₀
+map-more f first out₀ out i w b e h =
+    ap₂ (λ o v. set o i v) b e
+    ∙ put-more (map f (from first i)) out₀ i (f (first + i)) (length-map-from f first i) h
+    ∙ ap (λ l. l ++ drop (i + 1) out₀) (sym (map-from-append f first i 1))

@@ -1,13 +1,14 @@
 -- Lists made from the numbers below a bound, and tests and sums over them.
--- In order: range-more, map-range-more, length-map-range, drop-map-range, is-map, map-range-same, map-places;
--- concat-more, length-run; any-range-more, any-range-no, any-range-same, all-range-true, all-range-false,
--- first-range-none, tot-more; any-false, any-true, tests over a list by its places.
+-- In order: from-append, range-more, map-from-append, length-map-from, map-range-more, length-map-range,
+-- drop-map-range, is-map, map-range-same, map-places; concat-more, length-run; any-range-more, any-range-no,
+-- any-range-same, all-range-true, all-range-false, first-range-none, tot-more; any-false, any-true, tests over a list
+-- by its places.
 -- Assumes nothing.
 use mathlib.Core.Path.{_≡_, refl, sym, ap, ap₂, _∙_}
 use mathlib.Core.Bool.{Bool, true, false, _&&_, _||_, and-false, or-false}
 use mathlib.Core.List.{List, [], _∷_, _++_, map, append-assoc, append-nil}
 use Prim.Native.Nat.{ℕ, zero, suc, _+_, _*_, _<_}
-use native.Mathlib.Nat.{add-zero, zero-add, zero-mul, suc-mul}
+use native.Mathlib.Nat.{add-zero, zero-add, suc-add, zero-mul, suc-mul}
 use native.Mathlib.Numerals.{add-one}
 use native.Mathlib.Omega.{arith}
 use lib.ListN.{length, getD, drop, length-map, length-append}
@@ -20,21 +21,27 @@ use Rattle.laws.proofs.Anys.{any-append, each-range}
 use Rattle.laws.proofs.Maps.{map-append, map-each}
 
 -- ---- the numbers below a bound
-from-more : (i n : ℕ) → from i (suc n) ≡ from i n ++ ((i + n) ∷ [])
-from-more i zero = ap (λ k. k ∷ []) (sym (add-zero i))
-from-more i (suc n) =
-    let e : suc i + n ≡ i + suc n = omega arith in
-    ap (λ l. i ∷ l) (from-more (suc i) n ∙ ap (λ k. from (suc i) n ++ (k ∷ [])) e)
+pub from-append : (i a b : ℕ) → from i (a + b) ≡ from i a ++ from (i + a) b
+from-append i zero b = rw (zero-add, add-zero)
+from-append i (suc a) b =
+    let e : suc i + a ≡ i + suc a = omega arith in
+    rw suc-add (ap (λ l. i ∷ l) (from-append (suc i) a b ∙ ap (λ k. from (suc i) a ++ from k b) e))
 
 pub range-more : (n : ℕ) → range (n + 1) ≡ range n ++ (n ∷ [])
-range-more n = ap (from 0) (add-one n) ∙ from-more 0 n ∙ ap (λ k. from 0 n ++ (k ∷ [])) (zero-add n)
+range-more n = from-append 0 n 1 ∙ ap (λ k. from 0 n ++ (k ∷ [])) (zero-add n)
 
 module _ {A : Type 0} (f : ℕ → A) where
+  pub map-from-append : (i a b : ℕ) → map f (from i (a + b)) ≡ map f (from i a) ++ map f (from (i + a) b)
+  map-from-append i a b = ap (map f) (from-append i a b) ∙ map-append f (from i a) (from (i + a) b)
+
+  pub length-map-from : (i n : ℕ) → length (map f (from i n)) ≡ n
+  length-map-from i n = length-map (from i n) f ∙ length-from i n
+
   pub map-range-more : (n : ℕ) → map f (range (n + 1)) ≡ map f (range n) ++ (f n ∷ [])
   map-range-more n = ap (map f) (range-more n) ∙ map-append f (range n) (n ∷ [])
 
   pub length-map-range : (n : ℕ) → length (map f (range n)) ≡ n
-  length-map-range n = length-map (range n) f ∙ length-from 0 n
+  length-map-range n = length-map-from 0 n
 
   pub drop-map-range : (n i : ℕ) (d : A) → i < n → drop i (map f (range n)) ≡ f i ∷ drop (suc i) (map f (range n))
   drop-map-range n i d h =

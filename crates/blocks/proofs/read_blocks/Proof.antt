@@ -1,6 +1,6 @@
 -- Each turn writes one block.
-use Rattle.laws.proofs.All.{_≡_, refl, ap, _∙_, _++_, map, ℕ, _+_, _-_, _≤_, arith, now, length, drop, length-set}
-use Rattle.laws.proofs.All.{range, map-more, needs}
+use Rattle.laws.proofs.All.{_≡_, refl, ap, _∙_, _++_, map, ℕ, _-_, _≤_, arith, now, length, drop, length-set}
+use Rattle.laws.proofs.All.{from, map-more, needs}
 use Rattle.table.specs.Edges.{arrays, rowsOf}
 use Rattle.stepping.specs.Reading.{block}
 use Rattle.stepping.specs.BlockParts.{under}
@@ -8,12 +8,12 @@ use Rattle.blocks.proofs.read_blocks.Statement.{statement}
 use Rattle.blocks.proofs.read_blocks.Tie as tie
 
 abbrev Inv-loop : tie.InvT-loop
-Inv-loop states n word next start order words m a count out₀ i₀ out i =
+Inv-loop states n word next start order words first m a count out₀ i₀ out i =
     (i ≤ count) × (count ≤ length out₀) × (length out ≡ length out₀)
-    × (out ≡ map (block (under (rowsOf (arrays states n word next)) m a) words) (range i) ++ drop i out₀)
+    × (out ≡ map (block (under (rowsOf (arrays states n word next)) m a) words) (from first i) ++ drop i out₀)
 
 abbrev μ-loop : tie.MeasureT-loop
-μ-loop states n word next start order words m a count out₀ i₀ out i = count - i
+μ-loop states n word next start order words first m a count out₀ i₀ out i = count - i
 
 abbrev blockAt : tie.Start Inv-loop μ-loop → ℕ → ℕ
 blockAt s =
@@ -30,7 +30,7 @@ loop-again c =
       omega arith,
       l .inv .1,
       length-set (l .out) (l .i) (c .read-block .result) ∙ l .inv .2,
-      map-more (blockAt s) (now (s .args .out)) (l .out) (l .i) (c .read-block .result) (l .inv .3)
+      map-more (blockAt s) (s .args .first) (now (s .args .out)) (l .out) (l .i) (c .read-block .result) (l .inv .3)
           (c .read-block .ensures) (omega arith),
     )
 
@@ -42,11 +42,11 @@ returns c =
     let s = c .before .before .before .before in
     let l = c .before .loop in
     let e : l .i ≡ s .args .count = omega arith in
-    l .inv .3 ∙ ap (λ k. map (blockAt s) (range k) ++ drop k (now (s .args .out))) e
+    l .inv .3 ∙ ap (λ k. map (blockAt s) (from (s .args .first) k) ++ drop k (now (s .args .out))) e
 
 pub read-blocks-spec : {M : Type 1} → statement M
 read-blocks-spec =
     tie.close
     (tie.spec
-    Inv-loop μ-loop loop-holds (λ c κs. search needs) (λ c. search needs) (λ c. search needs) (λ c. search needs)
-    loop-again same-length returns)
+    Inv-loop μ-loop loop-holds (λ c. search needs) (λ c κs. search needs) (λ c. search needs) (λ c. search needs)
+    (λ c. search needs) loop-again same-length returns)

@@ -1,7 +1,7 @@
 -- `packing::reading::get_words` meets its contract: each turn gets one word, at its bit place.
 -- Assumes nothing.
-use Rattle.laws.proofs.All.{_≡_, refl, sym, ap, _∙_, _++_, map, _-_, _*_, _≤_, arith, now, length, drop, length-set}
-use Rattle.laws.proofs.All.{range, map-more, needs}
+use Rattle.laws.proofs.All.{_≡_, refl, sym, ap, _∙_, _++_, map, _+_, _-_, _*_, _≤_, arith, now, length, drop}
+use Rattle.laws.proofs.All.{length-set, range, map-more, needs}
 use Rattle.bits.specs.Fields.{bitsOf, field}
 use Rattle.packing.proofs.Streams.{few-bits, place-in, wordOf, unpacked-map}
 use Rattle.packing.proofs.reading.get_words.Statement.{statement}
@@ -35,12 +35,13 @@ add-at c =
 loop-again : tie.Need-loop-again Inv-loop μ-loop
 loop-again c =
     let a = c .before .before .before .before .before .args in
-    let l = c .before .before .loop in (
+    let l = c .before .before .loop in
+    let e : l .at ≡ (0 + l .i) * a .q = omega arith in (
       omega arith,
       omega arith,
       length-set (l .out) (l .i) (c .get .result) ∙ l .inv .2,
-      map-more (wordOf (a .q) (now (a .bytes))) (now (a .out)) (l .out) (l .i) (c .get .result) (l .inv .3)
-          (c .get .ensures ∙ ap (λ n. field (bitsOf (now (a .bytes))) n (a .q)) (l .inv .1)) (omega arith),
+      map-more (wordOf (a .q) (now (a .bytes))) 0 (now (a .out)) (l .out) (l .i) (c .get .result) (l .inv .3)
+          (c .get .ensures ∙ ap (λ n. field (bitsOf (now (a .bytes))) n (a .q)) e) (omega arith),
     )
 
 same-length : tie.Need-same-length Inv-loop μ-loop
