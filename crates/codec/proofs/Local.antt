@@ -1,8 +1,8 @@
 -- The reading of a block depends on its window of words alone.
--- In order: past-later, past-early; readWindow; block-later, block-early; block-local, block-local-start.
+-- In order: past-later, past-early; readWindow; block-later, block-early; block-local, block-local-start; block-part.
 -- Assumes nothing.
-use Rattle.laws.proofs.All.{_≡_, sym, ap, _∙_, Bool, List, ℕ, suc, _+_, _-_, _≤_, _<_, arith, getD, take, drop}
-use Rattle.laws.proofs.All.{lt-ltb, le-ltb, take-take, getD-take, getD-drop, drop-take, drop-drop}
+use Rattle.laws.proofs.All.{_≡_, sym, ap, _∙_, _⊎_, inl, inr, Bool, List, ℕ, suc, _+_, _-_, _≤_, _<_, arith}
+use Rattle.laws.proofs.All.{decLe, getD, take, drop, lt-ltb, le-ltb, take-take, getD-take, getD-drop, drop-take, drop-drop}
 use Rattle.table.specs.Rows.{Rows, Code}
 use Rattle.stepping.specs.StateSets.{everyState, oneState, alongAll}
 use Rattle.stepping.specs.Reading.{reading, past, block}
@@ -68,3 +68,32 @@ module _ (c : Code) where
       → block c L j ≡ block c L′ j
   block-local-start L L′ j h e =
       block-early L j h ∙ ap (readWindow t (oneState t 0) j) (rw (wide j) at e) ∙ sym (block-early L′ j h)
+
+  -- words that agree on k places have the same windows there
+  same-window : (X M : List ℕ) (k n w : ℕ) → n + w ≤ k → take k M ≡ take k X → take w (drop n X) ≡ take w (drop n M)
+  same-window X M k n w h e =
+      sym (drop-take n w X)
+      ∙ ap (drop n) (sym (take-take (n + w) k X h) ∙ ap (take (n + w)) (sym e) ∙ take-take (n + w) k M h)
+      ∙ drop-take n w M
+
+  -- a block is read from the words M that hold k words of L, those from the place `base` on, where its window lies
+  -- among them, or begins with them at the first word of all
+  module _ (L M : List ℕ) (base k i : ℕ) (in-front : i + a < base + k) (e : take k M ≡ take k (drop base L)) where
+    part-later : base + m ≤ i → block c L i ≡ block c M (i - base)
+    part-later h =
+        let n = i - base - m in
+        let p : base + n ≡ i - m = omega arith in
+        block-local L M i (i - base) (omega arith) (omega arith)
+        (ap (λ o. take (m + 1 + a) (drop o L)) (sym p) ∙ ap (take (m + 1 + a)) (sym (drop-drop n base L))
+        ∙ same-window (drop base L) M k n (m + 1 + a) (omega arith) e)
+
+    pub block-part : (base ≡ 0) ⊎ (base + m ≤ i) → base ≤ i → block c L i ≡ block c M (i - base)
+    block-part (inr h) l = part-later h
+    block-part (inl z) l = elim (decLe m i) [
+      | yes h ↦ part-later (omega arith)
+      | no h ↦
+          let p : i - base ≡ i = omega arith in
+          block-local-start L M i (omega arith)
+          (same-window L M k 0 (i + 1 + a) (omega arith) (e ∙ ap (λ o. take k (drop o L)) z))
+          ∙ ap (block c M) (sym p)
+    ]

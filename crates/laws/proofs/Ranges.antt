@@ -1,6 +1,6 @@
 -- Lists made from the numbers below a bound, and tests and sums over them.
 -- In order: from-append, range-more, map-from-append, length-map-from, map-range-more, length-map-range,
--- drop-map-range, is-map, map-range-same, map-places; concat-more, length-run; any-range-more, any-range-no,
+-- drop-map-range, map-from-same, is-map, map-range-same, map-places; concat-more, length-run; any-range-more, any-range-no,
 -- any-range-same, all-range-true, all-range-false, first-range-none, tot-more; any-false, any-true, tests over a list
 -- by its places.
 -- Assumes nothing.
@@ -47,6 +47,17 @@ module _ {A : Type 0} (f : ℕ → A) where
   drop-map-range n i d h =
       drop-cons (map f (range n)) i d (rw (length-map-range n) h)
       ∙ ap (λ x. x ∷ drop (suc i) (map f (range n))) (map-range-at f n i d h)
+
+-- two functions that agree number by number, each from its own start on
+pub map-from-same : {A : Type 0} (f g : ℕ → A) (i j n : ℕ) → ((x : ℕ) → x < n → f (i + x) ≡ g (j + x))
+    → map f (from i n) ≡ map g (from j n)
+map-from-same f g i j zero h = refl
+map-from-same f g i j (suc n) h =
+    ap₂ (λ a l. a ∷ l) (rw (add-zero i, add-zero j) at (h 0 (omega arith)))
+    (map-from-same f g (suc i) (suc j) n (λ x l. next x (h (suc x) (omega arith))))
+  where
+    next : (x : ℕ) → f (i + suc x) ≡ g (j + suc x) → f (suc i + x) ≡ g (suc j + x)
+    next x e = let a : suc i + x ≡ i + suc x = omega arith in let b : suc j + x ≡ j + suc x = omega arith in rw (a, b) e
 
 -- a list is f of the numbers below n if it has n places and each is f of its number
 pub is-map : {A : Type 0} (d : A) (f : ℕ → A) (n : ℕ) (R : List A) → length R ≡ n

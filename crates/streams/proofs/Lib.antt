@@ -1,3 +1,4 @@
 pub mod Written
 pub mod Decoded
 pub mod Returns
+pub mod Read
