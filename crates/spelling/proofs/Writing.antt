@@ -3,16 +3,16 @@
 -- recorded-in, blocks and closing words.
 -- Assumes nothing.
 use Rattle.laws.proofs.All.{_≡_, refl, sym, ap, ap₂, _∙_, List, [], _∷_, _++_, append-assoc, append-nil, ℕ, _+_}
-use Rattle.laws.proofs.All.{_-_, _*_, _^_, _≤_, _<_, add-one, arith, length, take, drop, getD, set, length-set}
-use Rattle.laws.proofs.All.{length-append, take-suc, take-all, take-at, drop-at, drop-drop, length-take-le}
+use Rattle.laws.proofs.All.{_-_, _*_, _^_, _≤_, _<_, arith, length, take, drop, getD, set, length-set}
+use Rattle.laws.proofs.All.{length-append, take-all, take-at, drop-at, drop-drop, length-take-le}
 use Rattle.laws.proofs.All.{put-more}
 use Rattle.table.specs.declared.Table.{Table}
-use Rattle.table.specs.Rows.{Rows, at}
+use Rattle.table.specs.Rows.{Rows}
 use Rattle.table.specs.Paths.{ends, spells, closing, recording}
 use Rattle.table.specs.Value.{codeIn}
-use Rattle.table.specs.Edges.{Arrays, Fits, arrays, edgeOf, rowsOf}
-use Rattle.table.proofs.Paths.{length-spells, spells-append, spells-more, ends-more}
-use Rattle.table.proofs.RowsOf.{edge-at, place-next}
+use Rattle.table.specs.Edges.{Arrays, Fits, arrays, rowsOf}
+use Rattle.table.proofs.Paths.{length-spells, spells-append}
+use Rattle.table.proofs.RowsOf.{place-next, next-state, next-words}
 
 -- ---- the words of a path
 -- behind the front, out holds the words of the first k data of the path; i is the next place and s the state there
@@ -42,19 +42,15 @@ module _ (t : Arrays) (front : List ℕ) (first : ℕ) (ds out₀ : List ℕ) wh
     place = omega (arith, m .place);
     long = length-set out i (getD (t .word) (s * 16 + getD ds k 0) 0) ∙ m .long;
     inside = place-next t s (getD ds k 0) g (m .inside) d;
-    state = sym (ends-more (rowsOf t) first ds k h ∙ ap (λ x. x .next) here);
+    state = next-state t first ds k s (m .state) (m .inside) h d;
     bytes = ap (λ o. set o i (getD (t .word) (s * 16 + getD ds k 0) 0)) (m .bytes)
         ∙ put-more (front ++ spells (rowsOf t) first (take k ds)) out₀ i (getD (t .word) (s * 16 + getD ds k 0) 0)
         long-so-far l
         ∙ ap (λ x. x ++ drop (i + 1) out₀) (append-assoc front (spells (rowsOf t) first (take k ds))
         (getD (t .word) (s * 16 + getD ds k 0) 0 ∷ [])
-        ∙ ap (λ x. front ++ x) (sym (spells-more (rowsOf t) first ds k h
-        ∙ ap (λ x. spells (rowsOf t) first (take k ds) ++ x .word ∷ []) here)));
+        ∙ ap (λ x. front ++ x) (sym (next-words t first ds k s (m .state) (m .inside) h d)));
   })
     where
-      here : at (rowsOf t) (ends (rowsOf t) first (take k ds)) (getD ds k 0) ≡ edgeOf t s (getD ds k 0)
-      here = rw (← m .state) (edge-at t s (getD ds k 0) (m .inside) d)
-
       long-so-far : length (front ++ spells (rowsOf t) first (take k ds)) ≡ i
       long-so-far =
           length-append front (spells (rowsOf t) first (take k ds))

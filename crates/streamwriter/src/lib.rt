@@ -26,7 +26,6 @@ use table::ready::is_ready;
 // Block i, and the closing datum 0 behind the last block.
 fn datum_at(blocks: &[u8], i: usize) -> usize
     ensures answer { λ r. ⌜ r ≡ getD (now (blocks .entry)) i 0 ⌝ }
-    ensures past { λ r. ⌜ r < 256 ⌝ }
 {
     if i < blocks.len() {
         return blocks[i] as usize;
@@ -80,7 +79,8 @@ pub fn encode_stream_with(t: Table, blocks: &[u8], out: &mut [u8]) -> Answer
     if !is_ready(t) {
         return Answer::Refused(Refusal::Field);
     }
-    if LIMIT - t.lookahead < blocks.len() {
+    let most = LIMIT - t.lookahead;
+    if most < blocks.len() {
         return Answer::Refused(Refusal::Stream);
     }
     let count = blocks.len() + t.lookahead;

@@ -1,0 +1,86 @@
+-- The words of a path put into bytes as a stream, edge by edge; the closing data are zeros behind the blocks.
+-- In order: Puts, puts-none, puts-more, puts-room, puts-end; closed, length-closed, closed-datum, closed-below;
+-- recorded-size, recorded-in, a recording under a table by value.
+-- Assumes nothing.
+use Rattle.laws.proofs.All.{_≡_, refl, sym, ap, subst, _∙_, List, [], _∷_, _++_, ℕ, _+_, _-_, _*_, _≤_, _<_, arith}
+use Rattle.laws.proofs.All.{_^_, length, take, drop, getD, replicate, length-append, length-replicate, length-take-le}
+use Rattle.laws.proofs.All.{take-all, below-append, below-at, below-zeros, getD-padded, Below}
+use Rattle.bits.specs.Fields.{bits, uniform}
+use Rattle.table.specs.declared.Table.{Table}
+use Rattle.table.specs.Paths.{ends, spells, closing, recording}
+use Rattle.table.specs.Value.{codeIn}
+use Rattle.table.specs.Edges.{Arrays, Fits, arrays, rowsOf, wordOf, nextOf}
+use Rattle.table.proofs.Paths.{length-spells, length-recording}
+use Rattle.table.proofs.RowsOf.{place-next, next-state, next-words}
+use Rattle.packing.specs.declared.writing.Waiting.{Waiting}
+use Rattle.packing.specs.Streams.{streamSize, packed}
+use Rattle.packing.specs.Waiting.{Waits}
+use Rattle.packing.proofs.Streams.{packed-size}
+use Rattle.packing.proofs.Waiting.{waiting, waits-none, waits-word, waits-room}
+
+-- ---- the words of the first k data of the path from state 0 are put; s is the state there
+pub record Puts (t : Arrays) (q : ℕ) (ds lent : List ℕ) (k s : ℕ) (p : Waiting) (out : List ℕ) : Type 0 where
+  pub inside : s < t .states
+  pub state : s ≡ ends (rowsOf t) 0 (take k ds)
+  pub waits : Waits (uniform q (spells (rowsOf t) 0 (take k ds))) p lent out
+
+module _ (t : Arrays) (q : ℕ) (ds lent : List ℕ) where
+  pub puts-none : 0 < t .states → Puts t q ds lent 0 0 (waiting 0 0 0) lent
+  puts-none h = record { inside = h; state = refl; waits = waits-none lent }
+
+  module _ (k s : ℕ) (p : Waiting) (out : List ℕ) (m : Puts t q ds lent k s p out) where
+    pub puts-more : Fits t → k < length ds → getD ds k 0 < t .ways → (e : ℕ) → e ≡ s * 16 + getD ds k 0
+        → (p′ : Waiting) (out′ : List ℕ)
+        → Waits (uniform q (spells (rowsOf t) 0 (take k ds)) ++ bits q (wordOf t e)) p′ lent out′
+        → Puts t q ds lent (k + 1) (nextOf t e) p′ out′
+    puts-more g h d e r p′ out′ w = record {
+      inside = rw r (place-next t s (getD ds k 0) g (m .inside) d);
+      state = ap (nextOf t) r ∙ next-state t 0 ds k s (m .state) (m .inside) h d;
+      waits = waits-word q (spells (rowsOf t) 0 (take k ds)) lent out′ p′ (wordOf t e)
+          (spells (rowsOf t) 0 (take (k + 1) ds))
+          (next-words t 0 ds k s (m .state) (m .inside) h d
+          ∙ ap (λ x. spells (rowsOf t) 0 (take k ds) ++ wordOf t x ∷ []) (sym r)) w;
+    }
+
+    -- j more words find room
+    pub puts-room : (j n : ℕ) → k + j ≤ n → k ≤ length ds → streamSize q n ≤ length lent
+        → p .at * 8 + p .count + j * q ≤ 8 * length out
+    puts-room j n h l =
+        waits-room q (spells (rowsOf t) 0 (take k ds)) lent out p j n (m .waits)
+        (rw (length-spells (rowsOf t) (take k ds) 0, length-take-le k ds l) h)
+
+    -- all words
+    pub puts-end : length ds ≤ k → Waits (uniform q (spells (rowsOf t) 0 ds)) p lent out
+    puts-end h = subst (λ x. Waits (uniform q (spells (rowsOf t) 0 x)) p lent out) (take-all k ds h) (m .waits)
+
+-- ---- blocks with closing data behind them, n in all
+abbrev pub closed : List ℕ → ℕ → List ℕ
+closed ds n = ds ++ replicate (n - length ds) 0
+
+module _ (ds : List ℕ) (n : ℕ) where
+  pub length-closed : length ds ≤ n → length (closed ds n) ≡ n
+  length-closed h =
+      length-append ds (replicate (n - length ds) 0) ∙ ap (λ k. length ds + k) (length-replicate (n - length ds) 0)
+      ∙ omega arith
+
+  -- the datum at a place, read from the blocks
+  pub closed-datum : (i : ℕ) → getD ds i 0 ≡ getD (closed ds n) i 0
+  closed-datum i = sym (getD-padded ds (n - length ds) i)
+
+  pub closed-below : (m i : ℕ) → Below m ds → 0 < m → i < n → length ds ≤ n → getD (closed ds n) i 0 < m
+  closed-below m i b h l g =
+      below-at m (closed ds n) i
+      (below-append m ds (replicate (n - length ds) 0) b (below-zeros m (n - length ds) h))
+      (rw (length-closed g) l)
+
+-- ---- under a table by value, with the number of data and the size that the code has computed
+module _ (t : Table) (ds : List ℕ) (size : ℕ) (z : size ≡ streamSize (t .q) (length ds + t .lookahead)) where
+  pub recorded-size : size ≡ length (packed (t .q) (recording (codeIn t) ds))
+  recorded-size =
+      z ∙ sym (packed-size (t .q) (recording (codeIn t) ds) ∙ ap (streamSize (t .q)) (length-recording (codeIn t) ds))
+
+  pub recorded-in : (n : ℕ) (lent out : List ℕ) → n ≡ 2 ^ t .p
+      → out ≡ packed (t .q) (spells (rowsOf (arrays (t .states) n (t .word) (t .next))) 0 (ds ++ closing (codeIn t)))
+      ++ drop (streamSize (t .q) (length ds + t .lookahead)) lent
+      → out ≡ packed (t .q) (recording (codeIn t) ds) ++ drop size lent
+  recorded-in n lent out e w = w ∙ rw (e, z)

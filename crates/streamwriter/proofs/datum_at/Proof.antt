@@ -1,0 +1,15 @@
+-- A block by its place; behind the last one a list reads as 0.
+-- Assumes nothing.
+use Rattle.laws.proofs.All.{sym, arith, now, List·getD-eq-default, needs}
+use Rattle.streamwriter.proofs.datum_at.Statement.{statement}
+use Rattle.streamwriter.proofs.datum_at.Tie as tie
+
+cast-result : tie.Need-cast-result
+cast-result c = omega (arith, c .shared-slice-known .given (c .before .before .args .i))
+
+returns-2 : tie.Need-returns-2
+returns-2 c =
+    let a = c .before .args in sym (List·getD-eq-default (now (a .blocks)) 0 {n = a .i} (c .if1 .left))
+
+pub datum-at-spec : {M : Type 1} → statement M
+datum-at-spec = tie.close (tie.spec (λ c. search needs) cast-result (λ c. search needs) returns-2)
