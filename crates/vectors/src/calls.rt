@@ -52,9 +52,9 @@ fn list_or_tell(job: &[u8], out: &mut [u8]) -> Answer {
 }
 
 // Byte i, and 0 past the end.
-fn byte_at(bytes: &[u8], i: usize) -> usize {
+fn byte_at(bytes: &[u8], i: usize) -> u8 {
     if i < bytes.len() {
-        return bytes[i] as usize;
+        return bytes[i];
     }
     0
 }
@@ -66,7 +66,7 @@ fn number_at(bytes: &[u8], at: usize) -> usize
     let mut n: usize = 0;
     let mut i = 0;
     while i < 8 {
-        n = (n << 8) | byte_at(bytes, at + i);
+        n = (n << 8) | (byte_at(bytes, at + i) as usize);
         i += 1;
     }
     n
@@ -84,10 +84,10 @@ fn decode_counted(record: &[u8], counted: &[u8], out: &mut [u8]) -> Answer {
 // The call of a kind on streams: 9 packs, 10 unpacks, 11 encodes, and any other decodes.
 fn call_stream(kind: usize, first: &[u8], second: &[u8], out: &mut [u8]) -> Answer {
     if kind == 9 {
-        return pack(byte_at(first, 0), second, out);
+        return pack(byte_at(first, 0) as usize, second, out);
     }
     if kind == 10 {
-        return unpack(byte_at(first, 0), number_at(first, 1), second, out);
+        return unpack(byte_at(first, 0) as usize, number_at(first, 1), second, out);
     }
     if kind == 11 {
         return encode_stream(first, second, out);
