@@ -1,8 +1,8 @@
 -- The reading of a block depends on its window of words alone.
 -- In order: past-later, past-early; readWindow; block-later, block-early; block-local, block-local-start; block-part.
 -- Assumes nothing.
-use Rattle.laws.proofs.All.{_≡_, sym, ap, _∙_, _⊎_, inl, inr, Bool, List, ℕ, suc, _+_, _-_, _≤_, _<_, arith}
-use Rattle.laws.proofs.All.{decLe, getD, take, drop, lt-ltb, le-ltb, take-take, getD-take, getD-drop, drop-take, drop-drop}
+use Rattle.laws.proofs.All.{_≡_, sym, ap, _∙_, _⊎_, inl, inr, Bool, List, ℕ, suc, _+_, _-_, _≤_, _<_, arith, decLe}
+use Rattle.laws.proofs.All.{getD, take, drop, lt-ltb, le-ltb, take-take, getD-take, getD-drop, drop-take, drop-drop}
 use Rattle.table.specs.Rows.{Rows, Code}
 use Rattle.stepping.specs.StateSets.{everyState, oneState, alongAll}
 use Rattle.stepping.specs.Reading.{reading, past, block}

@@ -119,7 +119,22 @@ fn read_parts(
     let mut i = 0;
     while i < blocks {
         let end = smaller(i + 1024, blocks);
-        read_part(states, n, word, next, start, order, stream, q, count, m, a, i, end, out);
+        read_part(
+            states,
+            n,
+            word,
+            next,
+            start,
+            order,
+            stream,
+            q,
+            count,
+            m,
+            a,
+            i,
+            end,
+            out,
+        );
         i += 1024;
     }
 }
@@ -136,10 +151,11 @@ pub fn decode_stream_with(t: Table, count: usize, stream: &[u8], out: &mut [u8])
     if !is_ready(t) {
         return Answer::Refused(Refusal::Field);
     }
-    if !is_stream(t.q, count, stream) {
+    let a = t.lookahead;
+    let good = is_stream(t.q, count, stream);
+    if !good {
         return Answer::Refused(Refusal::Stream);
     }
-    let a = t.lookahead;
     if count < a {
         return Answer::Refused(Refusal::TooFewWords);
     }
