@@ -17,6 +17,7 @@ use answer::Refusal;
 use blocks::read_blocks;
 use packing::is_stream;
 use packing::reading::get_words;
+use reading::blocks::less;
 use runs::laying::lay;
 use table::Table;
 use table::chains::ways;
@@ -30,17 +31,6 @@ fn smaller(x: usize, y: usize) -> usize
         return x;
     }
     y
-}
-
-// The word with which the part of block i starts: 16 words before it, which is no less than any memory and
-// starts a byte, or the first of all.
-fn first_word(i: usize) -> usize
-    ensures answer { λ r. ⌜ r ≡ i - 16 ⌝ }
-{
-    if i < 16 {
-        return 0;
-    }
-    i - 16
 }
 
 // The blocks from i on to `end` of the words of a stream, up to 1,024 of them, at their places.
@@ -71,7 +61,8 @@ fn read_part(
         (unpacked q count (now (stream .entry)))) (from i (end - i)))
         ++ drop end (now (out .entry)) ⌝ }
 {
-    let base = first_word(i);
+    // 16 words before block i, which no memory exceeds and where a byte starts, or the first of all.
+    let base = less(i, 16);
     let skip = base / 8 * q;
     let mut words = [0u8; 1055];
     get_words(&stream[skip..], q, smaller(count - base, 1055), &mut words);

@@ -9,11 +9,11 @@ use Rattle.streamreader.proofs.read_part.Statement.{statement}
 use Rattle.streamreader.proofs.read_part.Tie as tie
 
 skip : (c : tie.After-first-word) → let a = c .before .before .before .args in
-    c .first-word .result / 8 * a .q ≤ length (now (a .stream))
+    c .less .result / 8 * a .q ≤ length (now (a .stream))
 skip c =
     let s = c .before .before .before in
     let a = s .args in
-    skip-in (a .q) (a .count) (c .first-word .result) (length (now (a .stream))) (omega (arith, c .first-word .ensures))
+    skip-in (a .q) (a .count) (c .less .result) (length (now (a .stream))) (omega (arith, c .less .ensures))
     (s .pre .3)
 
 mul-skip : tie.Need-mul-skip
@@ -24,15 +24,15 @@ part-get-words-start c = skip c
 
 -- the part's words are words of the stream
 words-in : (c : tie.After-smaller) → let f = c .before .before in
-    f .first-word .result + c .smaller .result ≤ f .before .before .before .args .count
+    f .less .result + c .smaller .result ≤ f .before .before .before .args .count
 words-in c =
     let f = c .before .before in
     omega (
       arith,
-      f .first-word .ensures,
+      f .less .ensures,
       c .smaller .ensures,
       min-le-left
-          (f .before .before .before .args .count - f .first-word .result) 1055,
+          (f .before .before .before .args .count - f .less .result) 1055,
     )
 
 get-words-requires : tie.Need-get-words-requires
@@ -42,8 +42,8 @@ get-words-requires c κs =
     let s = f .before .before .before in
     let a = s .args in
     let xs = now (a .stream) in
-    let base = f .first-word .result in
-    let b : base ≡ a .i - 16 = f .first-word .ensures in
+    let base = f .less .result in
+    let b : base ≡ a .i - 16 = f .less .ensures in
     let few : k .smaller .result ≤ 1055 =
     omega (arith, k .smaller .ensures, min-le-right (a .count - base) 1055) in (
       s .pre .1,
@@ -62,7 +62,7 @@ read-blocks-requires c κs =
     let f = c .before .before .before .before .before .before .before in
     let s = f .before .before .before in
     let a = s .args in
-    let b : f .first-word .result ≡ a .i - 16 = f .first-word .ensures in (
+    let b : f .less .result ≡ a .i - 16 = f .less .ensures in (
       s .pre .0,
       omega (arith, c .before .before .words2 .given),
       omega (arith, ap length (take-rest (a .i) (now (a .out))), length-drop (a .i) (now (a .out))),
@@ -77,8 +77,8 @@ returns c =
     let s = f .before .before .before in
     let a = s .args in
     let xs = now (a .stream) in
-    let base = f .first-word .result in
-    let b : base ≡ a .i - 16 = f .first-word .ensures in
+    let base = f .less .result in
+    let b : base ≡ a .i - 16 = f .less .ensures in
     part-read (under (rowsOf (arrays (a .states) (a .n) (now (a .word)) (now (a .next)))) (a .m) (a .a)) (a .q)
     (a .count) base (k .smaller .result) (a .i) (a .end) xs _ _ _ b (s .pre .6) (s .pre .4) (words-in k) (s .pre .7)
     (part-reach (a .count) base (k .smaller .result) (a .i) (a .end) (a .a) b (k .smaller .ensures) (s .pre .7)
