@@ -8,7 +8,7 @@ use Rattle.streamreader.proofs.Parts.{skip-in, part-holds, part-reach, 
 use Rattle.streamreader.proofs.read_part.Statement.{statement}
 use Rattle.streamreader.proofs.read_part.Tie as tie
 
-skip : (c : tie.After-first-word) → let a = c .before .before .before .args in
+skip : (c : tie.After-less) → let a = c .before .before .before .args in
     c .less .result / 8 * a .q ≤ length (now (a .stream))
 skip c =
     let s = c .before .before .before in
