@@ -20,7 +20,7 @@ module _ (o : Outcome Code) (r : TableAnswer) (e : outcomeIn r ≡ o) where
   pub under-read : r .verdict ≡ Good → o ≡ done (codeIn (r .table))
   under-read q = rw (← e, q)
 
-  -- a check of a table that is ready passes, and what is done under it is done with what was read
+  -- what is done under a table that is ready is done with what was read
   pub under-good : (f : Code → Outcome (List ℕ)) → r .verdict ≡ Good → T (ready (r .table))
       → unless Field (ready (r .table)) (f (codeIn (r .table))) ≡ onward o f
   under-good f q k = rw (T→true (ready (r .table)) k, under-read q)

@@ -4,9 +4,9 @@
 -- Assumes nothing.
 use Rattle.laws.proofs.All.{_≡_, refl, sym, ap, ap₂, _∙_, List, [], _∷_, _++_, append-assoc, append-nil, ℕ, suc}
 use Rattle.laws.proofs.All.{_+_, _*_, _-_, _/_, _%_, _^_, _≤_, _<_, add-zero, add-one, add-mul, mod-lt, arith, length}
-use Rattle.laws.proofs.All.{mul-le-mul-right, take, drop, set}
-use Rattle.laws.proofs.All.{length-append, length-set, length-take-le, take-suc-set, set-split, drop-set-lt, drop-drop}
-use Rattle.laws.proofs.All.{take-append-drop, append-snoc, pow-pos, shl-exact, below-append, below-take, Below}
+use Rattle.laws.proofs.All.{mul-le-mul-right, take, drop, set, length-append, length-set, length-take-le, take-suc-set}
+use Rattle.laws.proofs.All.{set-split, drop-set-lt, drop-drop, take-append-drop, append-snoc, pow-pos, shl-exact}
+use Rattle.laws.proofs.All.{below-append, below-take, Below}
 use Rattle.bits.specs.Fields.{bits, uniform, bitsOf}
 use Rattle.bits.proofs.Fields.{length-bits}
 use Rattle.bits.proofs.Places.{bits-split, bits-join}
@@ -17,6 +17,7 @@ use Rattle.packing.specs.Streams.{streamSize, packed}
 use Rattle.packing.specs.Waiting.{Waits}
 use Rattle.packing.proofs.Sizes.{stream-holds, packed-is}
 
+-- so many bits wait, this number, for the byte at this place
 abbrev pub waiting : ℕ → ℕ → ℕ → Waiting
 waiting at count held = record { at = at; count = count; held = held }
 

@@ -1,7 +1,7 @@
 -- Parts of a record put one behind the other among lent bits.
 -- In order: put-low-is; put-absent, put-present; spliced-none; length-fields; Putting, front-spliced.
 -- Assumes nothing.
-use Rattle.laws.proofs.All.{_≡_, refl, sym, ap, ap₂, _∙_, false, List, [], _∷_, _++_, append-assoc, append-nil, ℕ}
+use Rattle.laws.proofs.All.{_≡_, refl, sym, ap, ap₂, _∙_, false, List, [], _∷_, _++_, append-nil, ℕ}
 use Rattle.laws.proofs.All.{_+_, _-_, _*_, _%_, _^_, _≤_, _<_, mod-lt, add-zero, arith, ne-eqb, eqb, length, take}
 use Rattle.laws.proofs.All.{drop, length-append, length-take, length-drop, take-append-drop, pow-pos, sum}
 use Rattle.bits.specs.Fields.{bits, write}
