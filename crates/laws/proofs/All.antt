@@ -58,9 +58,9 @@ pub use Rattle.laws.proofs.Pigeon.{Twice, once-fits, pigeon}
 pub use Rattle.laws.proofs.Places.{mod-diff, place-lt, quotient-of, remainder-of}
 pub use Rattle.laws.proofs.Ranges.{all-range-false, all-range-true, any-each-same, any-false, any-range-more}
 pub use Rattle.laws.proofs.Ranges.{any-range-no, any-range-same, any-true, concat-more, drop-map-range}
-pub use Rattle.laws.proofs.Ranges.{first-range-none, from-append, is-map, length-map-from, length-map-range}
-pub use Rattle.laws.proofs.Ranges.{length-run, map-from-append, map-from-same, map-places, map-range-more}
-pub use Rattle.laws.proofs.Ranges.{map-range-same, range-more, tot-more}
+pub use Rattle.laws.proofs.Ranges.{first-range-none, is-map, length-map-range, length-run, map-from-append}
+pub use Rattle.laws.proofs.Ranges.{map-from-same, map-places, map-range-more, map-range-same, range-more}
+pub use Rattle.laws.proofs.Ranges.{tot-more}
 pub use Rattle.laws.proofs.Settle.{iterate-fixed, iterate-keeps, iterate-suc, settles}
 pub use Rattle.laws.proofs.Sums.{any-each, any→count, count→any, each-always, each-any, each-append}
 pub use Rattle.laws.proofs.Sums.{each-back, each-both, each-drop, each-filter, each-front, each-image}

@@ -1,6 +1,6 @@
 -- Decoding part by part: where the words of a part stand in the stream, the blocks that they give, and the places of
 -- these in the output.
--- In order: skip-in, part-holds, part-reach, part-blocks; part-read; part-end, parts-more.
+-- In order: skip-in, part-holds, part-reach; part-read; part-end, parts-more.
 -- Assumes nothing.
 use Rattle.laws.proofs.All.{_≡_, sym, ap, ap₂, _∙_, _⊎_, inl, inr, List, [], _++_, map, append-assoc, append-nil, ℕ}
 use Rattle.laws.proofs.All.{_+_, _-_, _*_, _/_, _%_, _≤_, _<_, min, min-le-left, min-le-right, le-min}
@@ -55,7 +55,7 @@ module _ (c : Code) (q count base k i end : ℕ) (xs M P rest : List ℕ) (b : b
   before : (x : ℕ) → (base ≡ 0) ⊎ (base + c .window .memory ≤ i + x)
   before x = elim (decLe 16 i) [ yes y ↦ inr (omega arith) | no n ↦ inl (omega arith) ]
 
-  pub part-blocks : map (block c M) (from (i - base) (end - i))
+  part-blocks : map (block c M) (from (i - base) (end - i))
       ≡ map (block c (unpacked q count xs)) (from i (end - i))
   part-blocks =
       map-from-same (block c M) (block c (unpacked q count xs)) (i - base) i (end - i)
