@@ -89,8 +89,8 @@ pub extern "C" fn sbc_decode_checked(bytes: &[u8], words: &[u8], out: &mut [u8])
     word(recording::decoding::decode_checked(bytes, words, out))
 }
 
-// Words of q bits as a bit stream: 1 for a q out of range, 15 for too many words, 13, 11 with the place of the first bad
-// word; otherwise how many bytes were written.
+// Words of q bits as a bit stream: 1 for a q out of range, 15 for too many words, 13, 11 with the place of the first
+// bad word; otherwise how many bytes were written.
 #[no_mangle]
 pub extern "C" fn sbc_pack(q: u64, words: &[u8], out: &mut [u8]) -> u64
     ensures answer { λ r. ⌜ r ≡ wordOf (answerOf (packInto q (length (now (out .entry))) (now (words .entry)))) ⌝ }

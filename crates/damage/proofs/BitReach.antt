@@ -1,9 +1,9 @@
 -- The reach of damage in channel bits: bits f to l lie in words f / q to l / q, and those words reach so far.
 -- In order: words-same, damage to bits as damage to words; good-same; bits-reach.
 -- Assumes nothing.
-use Rattle.laws.proofs.All.{_≡_, sym, ap, ap₂, subst, _∙_, _⊎_, inl, inr, List, ℕ, suc, _+_, _-_, _*_, _/_, _^_, _≤_}
-use Rattle.laws.proofs.All.{_<_, _&&_, arith, decLt, T, leb, eqb, length, getD, Below, List·getD-eq-default, le-div-iff-mul-le}
-use Rattle.laws.proofs.All.{div-lt-iff-lt-mul}
+use Rattle.laws.proofs.All.{_≡_, sym, ap, ap₂, subst, _∙_, _⊎_, inl, inr, List, ℕ, suc, _+_, _*_, _/_, _≤_, _<_}
+use Rattle.laws.proofs.All.{_&&_, arith, decLt, T, leb, eqb, length, getD, Below, List·getD-eq-default}
+use Rattle.laws.proofs.All.{le-div-iff-mul-le, div-lt-iff-lt-mul}
 use Rattle.answer.specs.Outcomes.{done}
 use Rattle.bits.specs.Fields.{value, bitsOf, field}
 use Rattle.bits.proofs.Puts.{length-bitsOf}

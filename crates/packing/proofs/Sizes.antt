@@ -1,5 +1,5 @@
 -- How many bytes and bits of fill words take, and bytes that are their stream.
--- In order: stream-holds, stream-tight, stream-sized; stream-bits; packed-is.
+-- In order: stream-holds, stream-sized; stream-bits; packed-is.
 -- Assumes nothing.
 use Rattle.laws.proofs.All.{_≡_, sym, ap, ap₂, _∙_, List, [], _∷_, _++_, append-nil, ℕ, _+_, _*_, _≤_, _<_, arith}
 use Rattle.laws.proofs.All.{length, length-append, length-replicate, replicate, Below}
@@ -12,9 +12,6 @@ use Rattle.packing.specs.Streams.{streamSize, streamFill, streamWidths, 
 -- the bytes hold the words, with fewer than eight bits to spare
 pub stream-holds : (q count : ℕ) → count * q ≤ 8 * streamSize q count
 stream-holds q count = size-holds (count * q)
-
-pub stream-tight : (q count : ℕ) → 8 * streamSize q count ≤ count * q + 7
-stream-tight q count = let b = count * q in omega arith
 
 -- n bytes of the words and fewer than eight bits are the stream's
 pub stream-sized : (q count n f : ℕ) → n * 8 ≡ count * q + f → f < 8

@@ -1,11 +1,11 @@
 -- Words as a bit stream and back: packing and unpacking undo each other for every q, since words below 2^q are what
 -- fits fields of q bits.
--- In order: packed-size, below-packed, uniform-packed; few-bits, place-in, wordOf, length-unpacked, below-unpacked,
--- unpacked-at, unpacked-map, unpacked-part; Good, good-stream→, →good-stream; unpacked-packed, packed-unpacked.
+-- In order: packed-size, uniform-packed; few-bits, place-in, wordOf, length-unpacked, below-unpacked, unpacked-at,
+-- unpacked-map, unpacked-part; Good, good-stream→, →good-stream; unpacked-packed, packed-unpacked; good-streams.
 -- Assumes nothing.
-use Rattle.laws.proofs.All.{_≡_, sym, ap, ap₂, subst, _∙_, _↔_, _&&_, List, [], _∷_, _++_, map, ℕ, _+_, _*_, _/_, _%_, _^_}
-use Rattle.laws.proofs.All.{_≤_, _<_, mod-eq-of-lt, mul-le-mul, mul-le-mul-right, arith, T, leb, eqb, le→leb, leb→le}
-use Rattle.laws.proofs.All.{eqb→eq, eqb-refl, length, take, drop, getD, replicate, length-append, length-drop}
+use Rattle.laws.proofs.All.{_≡_, sym, ap, ap₂, subst, _∙_, _↔_, _&&_, List, [], _∷_, _++_, map, ℕ, _+_, _*_, _/_, _%_}
+use Rattle.laws.proofs.All.{_^_, _≤_, _<_, mod-eq-of-lt, mul-le-mul, mul-le-mul-right, arith, T, leb, eqb, le→leb}
+use Rattle.laws.proofs.All.{leb→le, eqb→eq, eqb-refl, length, take, drop, getD, replicate, length-append, length-drop}
 use Rattle.laws.proofs.All.{length-take-le, take-all, drop-at, drop-drop, ext-getD, getD-take, getD-drop, pow-pos}
 use Rattle.laws.proofs.All.{and→, →and, sum, sum-append, sum-replicate, below-append, range, is-map, Below}
 use Rattle.bits.specs.Fields.{bits, value, write, read, uniform, bitsOf, field}
@@ -21,12 +21,6 @@ module _ (q : ℕ) (ws : List ℕ) where
   pub packed-size : length (packed q ws) ≡ streamSize q (length ws)
   unfolding packed
   packed-size = read-count 8 (streamSize q (length ws)) (write (streamWidths q (length ws)) (ws ++ 0 ∷ []))
-
-  pub below-packed : Below 256 (packed q ws)
-  unfolding packed
-  below-packed =
-      below-read 8 (streamSize q (length ws)) (write (streamWidths q (length ws)) (ws ++ 0 ∷ []))
-      (below-write (streamWidths q (length ws)) (ws ++ 0 ∷ []))
 
   -- the bits of the words, then the fill
   pub uniform-packed : bitsOf (packed q ws) ≡ uniform q ws ++ bits (streamFill q (length ws)) 0

@@ -82,7 +82,7 @@ pub good-streams : (q count : ℕ) (xs : List ℕ) → Below 256 xs → T (goodS
     ↔ ((count ≤ limit) × ((ws : List ℕ) × Below (2 ^ q) ws × (length ws ≡ count) × (packed q ws ≡ xs)))
 good-streams = Rattle.packing.proofs.Streams.good-streams
 
--- A stream is recorded as the recording's words, packed, and read as its words are: what Main says of words holds of it.
+-- A stream is recorded as the recording's words, packed, and read as its words are: all that Main says of words holds.
 pub stream-words : (rec : List ℕ) (c : Code) → parse rec ≡ done c → ((room : ℕ) (ds xs : List ℕ)
     → encodeStream rec room ds ≡ done xs → (R : List ℕ)
     × (encodeUnder rec (length ds + c .window .lookahead) ds ≡ done R) × (packed (c .q) R ≡ xs))
