@@ -1,5 +1,5 @@
 -- Demands 2 and 3 from bytes to bytes: of the record's bytes, the blocks and the words.
--- In order: demand-2-returns; demand-2-recognised; demand-3; different-data.
+-- In order: facts; demand-2-returns; demand-2-recognised; demand-3; different-data.
 -- Assumes nothing.
 use Rattle.laws.proofs.All.{_≡_, sym, _∙_, _↔_, List, ℕ, _-_, _^_, _≤_, _<_, length, getD, Below}
 use Rattle.answer.specs.Outcomes.{done, onward}
