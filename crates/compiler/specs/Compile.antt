@@ -18,6 +18,7 @@ use Rattle.graph.specs.Weights.{Enough, weights}
 use Rattle.graph.specs.Component.{componentStates, componentGraph}
 use Rattle.graph.specs.Splitting.{crowded, splitAll}
 use Rattle.finish.specs.TableOf.{tableOf}
+use Rattle.labels.specs.Labels.{relabelled}
 use Rattle.job.specs.Jobs.{Job, readJob, readRunLength, readJoined}
 
 -- "Let n = 2^p."
@@ -50,9 +51,9 @@ startOf j = getD (componentStates (weightsOf j) (graphOf j)) 0 0
 abbrev pub finishedOf : Job → Work
 finishedOf j = splitAll (ways j) (componentOf j)
 
--- the table of that graph
+-- the table of that graph, with the data of its edges
 abbrev pub tableFor : Job → Rows
-tableFor j = tableOf (ways j) (finishedOf j)
+tableFor j = relabelled (ways j) (tableOf (ways j) (finishedOf j))
 
 -- the code with the table t and its least window
 abbrev pub code : Job → Rows → Code

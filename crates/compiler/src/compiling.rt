@@ -1,4 +1,4 @@
-// A job compiled: weights, component, splits, table, window, with refusals "3, 4, 5, 6" in this order.
+// A job compiled: weights, component, splits, table, data, window, with refusals "3, 4, 5, 6" in this order.
 ghost use mathlib.Core.Path.{_≡_};
 ghost use Rattle.answer.specs.declared.Verdict.the-variants.{Good};
 ghost use Rattle.record.specs.Checks.{outcomeIn};
@@ -15,6 +15,7 @@ use constraint::power::power_codes;
 use finish::finish_table::finish_table;
 use graph::Graph;
 use job::JobValue;
+use labels::relabel;
 use record::TableAnswer;
 use record::declined;
 use splitting::split_graph::split_all;
@@ -47,7 +48,7 @@ fn split_and_window(j: JobValue, n: usize, g: Graph, start: usize) -> TableAnswe
         return declined(Refusal::TooManyEdges);
     }
     let h = all.graph;
-    let rows = finish_table(h, n);
+    let rows = relabel(finish_table(h, n), n);
     let constraint = j.constraint;
     let word = rows.word;
     let next = rows.next;

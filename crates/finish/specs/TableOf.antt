@@ -1,5 +1,6 @@
 -- "Table. Each state keeps its first n edges in order of word, then target; they carry data 0 to n − 1. States not
--- reachable from the start are removed, the others renumbered in order."
+-- reachable from the start are removed, the others renumbered in order." The edges stand in that order here; which
+-- datum each carries is said in `labels`.
 -- In order: row; firstEdges, tableStates; named, tableRow, tableOf.
 -- Assumes nothing.
 use mathlib.Core.List.{List, map}

@@ -1,4 +1,4 @@
--- E1 to E10 of document 01 as one statement, proved by computing: from bytes where the document gives bytes.
+-- E1 to E10 as one statement, proved by computing: from bytes where the documents give bytes.
 -- In order: compiled, weighed, what run-length jobs come to; the tables and the records that the examples speak of;
 -- Examples, the statement; examples, its proof.
 -- Assumes nothing.
@@ -24,6 +24,7 @@ use Rattle.graph.specs.Weights.{weights}
 use Rattle.graph.specs.Component.{componentStates, componentGraph}
 use Rattle.graph.specs.Splitting.{split, splits, splitAll}
 use Rattle.finish.specs.TableOf.{tableStates, tableOf}
+use Rattle.labels.specs.Labels.{dataOf, relabelled}
 use Rattle.job.specs.Jobs.{readJob, readRunLength}
 use Rattle.compiler.specs.Compile.{weightsOf, componentOf, compile, compileRunLength}
 use mathlib.Core.Bool.{true}
@@ -47,19 +48,33 @@ codeAt p q m a c t = record {
   table = t;
 }
 
--- E1: "state 0 gives 01/0, 10/1 (word/next); state 1 gives 10/1, 11/0; m 1, a 0"
+-- E1: "state 0 gives 01/0, 10/1 (word/next)"; state 1 gives 11/0, 10/1, with 10 for 1 in both; m 0, a 0
 abbrev pub code1 : Code
-code1 = codeAt 1 2 1 0 (runLength 0 1) ((edge 1 0 ∷ edge 2 1 ∷ []) ∷ (edge 2 1 ∷ edge 3 0 ∷ []) ∷ [])
+code1 = codeAt 1 2 0 0 (runLength 0 1) ((edge 1 0 ∷ edge 2 1 ∷ []) ∷ (edge 3 0 ∷ edge 2 1 ∷ []) ∷ [])
 
--- E2: "its record, hexadecimal: 24 04 40 42 30 04 10 10 18 0E 00"
+-- its record
 abbrev pub record1 : List ℕ
-record1 = 0x24 ∷ 0x04 ∷ 0x40 ∷ 0x42 ∷ 0x30 ∷ 0x04 ∷ 0x10 ∷ 0x10 ∷ 0x18 ∷ 0x0E ∷ 0x00 ∷ []
+record1 = 0x24 ∷ 0x04 ∷ 0x00 ∷ 0x42 ∷ 0x30 ∷ 0x04 ∷ 0x10 ∷ 0x10 ∷ 0x1C ∷ 0x04 ∷ 0x04 ∷ []
 
--- E7: "three states, m 1, a 0"
+-- E2: the table that document 01 first gave under E1: "state 1 gives 10/1, 11/0; m 1, a 0"
+abbrev pub code2 : Code
+code2 = codeAt 1 2 1 0 (runLength 0 1) ((edge 1 0 ∷ edge 2 1 ∷ []) ∷ (edge 2 1 ∷ edge 3 0 ∷ []) ∷ [])
+
+-- "its record, hexadecimal: 24 04 40 42 30 04 10 10 18 0E 00"
+abbrev pub record2 : List ℕ
+record2 = 0x24 ∷ 0x04 ∷ 0x40 ∷ 0x42 ∷ 0x30 ∷ 0x04 ∷ 0x10 ∷ 0x10 ∷ 0x18 ∷ 0x0E ∷ 0x00 ∷ []
+
+-- E7: three states, "E7 now has m 0", a 0
 abbrev pub code7 : Code
 code7 =
-    codeAt 1 2 1 0 (runLength 1 3)
-    ((edge 0 2 ∷ edge 1 0 ∷ []) ∷ (edge 1 0 ∷ edge 2 1 ∷ []) ∷ (edge 1 0 ∷ edge 2 1 ∷ []) ∷ [])
+    codeAt 1 2 0 0 (runLength 1 3)
+    ((edge 0 2 ∷ edge 1 0 ∷ []) ∷ (edge 2 1 ∷ edge 1 0 ∷ []) ∷ (edge 2 1 ∷ edge 1 0 ∷ []) ∷ [])
+
+-- its record
+abbrev pub record7 : List ℕ
+record7 =
+    0x24 ∷ 0x08 ∷ 0x00 ∷ 0xC2 ∷ 0x20 ∷ 0x94 ∷ 0x27 ∷ 0x00 ∷ 0x40 ∷ 0x04 ∷ 0x80 ∷ 0x80 ∷ 0xA0 ∷ 0x20 ∷ 0x28
+    ∷ 0x00 ∷ []
 
 -- E8: "MFM: state 0 gives 00/1, 01/0; state 1 gives 10/1, 01/0", for (1,3), m 0, a 0
 abbrev pub code8 : Code
@@ -85,55 +100,67 @@ code9 =
     let nexts : List ℕ = 1 ∷ 2 ∷ 3 ∷ 4 ∷ 5 ∷ 6 ∷ 7 ∷ 0 ∷ [] in
     codeAt 1 1 0 0 (ladder nexts) (ladderRows nexts)
 
--- the table listed below E10
+-- the table of the listing, worked afresh: m 0, a 1
 abbrev pub code10 : Code
 code10 =
-    codeAt 2 3 1 1 (runLength 0 1)
-    ((edge 3 0 ∷ edge 3 2 ∷ edge 5 0 ∷ edge 5 2 ∷ []) ∷ (edge 5 0 ∷ edge 5 2 ∷ edge 6 1 ∷ edge 7 0 ∷ [])
-    ∷ (edge 2 1 ∷ edge 6 1 ∷ edge 7 0 ∷ edge 7 2 ∷ []) ∷ [])
+    codeAt 2 3 0 1 (runLength 0 1)
+    ((edge 3 0 ∷ edge 3 2 ∷ edge 5 0 ∷ edge 5 2 ∷ []) ∷ (edge 6 1 ∷ edge 7 0 ∷ edge 5 0 ∷ edge 5 2 ∷ [])
+    ∷ (edge 6 1 ∷ edge 7 0 ∷ edge 2 1 ∷ edge 7 2 ∷ []) ∷ [])
 
--- document 01's examples
+-- its record
+abbrev pub record10 : List ℕ
+record10 =
+    0x46 ∷ 0x08 ∷ 0x04 ∷ 0x42 ∷ 0x30 ∷ 0x04 ∷ 0x18 ∷ 0x06 ∷ 0x0A ∷ 0x80 ∷ 0xA0 ∷ 0xB0 ∷ 0x1E ∷ 0x02 ∷ 0x80
+    ∷ 0xA0 ∷ 0xB0 ∷ 0x1E ∷ 0x01 ∷ 0x01 ∷ 0xE0 ∷ 0x80 ∷ []
+
+-- document 01's examples, as document 02 has worked them afresh
 pub record Examples : Type 0 where
-  -- E1 (0,1), p 1, q 2, cap 1: weights 1, 1; and the table
+  -- E1 (0,1), p 1, q 2, cap 1: weights 1, 1; the table; its record
   pub e1-weights : weighed 0 1 1 2 1 ≡ done (1 ∷ 1 ∷ [])
   pub e1-table : compiled 0 1 1 2 1 ≡ done code1
-  -- E2 its record, and the record read
-  pub e2-written : compileRunLength (0 ∷ 1 ∷ 1 ∷ 2 ∷ 1 ∷ []) 11 ≡ done record1
-  pub e2-read : parse record1 ≡ done code1
-  -- E3 blocks 1 0 1 1 under E1 give words 2 2 3 2
-  pub e3 : encodeUnder record1 4 (1 ∷ 0 ∷ 1 ∷ 1 ∷ []) ≡ done (2 ∷ 2 ∷ 3 ∷ 2 ∷ [])
+  pub e1-written : compileRunLength (0 ∷ 1 ∷ 1 ∷ 2 ∷ 1 ∷ []) 11 ≡ done record1
+  -- E2 "E2's old bytes remain an accepted record", of the old table
+  pub e2-read : parse record2 ≡ done code2
+  pub e2-packed : pack code2 ≡ record2
+  -- E3 blocks 1 0 1 1 under E1 give words 2 3 2 2, and under E2's record 2 2 3 2
+  pub e3 : encodeUnder record1 4 (1 ∷ 0 ∷ 1 ∷ 1 ∷ []) ≡ done (2 ∷ 3 ∷ 2 ∷ 2 ∷ [])
+  pub e3-old : encodeUnder record2 4 (1 ∷ 0 ∷ 1 ∷ 1 ∷ []) ≡ done (2 ∷ 2 ∷ 3 ∷ 2 ∷ [])
   -- E4 under E2's record, words 2 3 3 2 decode to 1 1 255 1
-  pub e4 : decodeUnder record1 4 (2 ∷ 3 ∷ 3 ∷ 2 ∷ []) ≡ done (1 ∷ 1 ∷ 255 ∷ 1 ∷ [])
+  pub e4 : decodeUnder record2 4 (2 ∷ 3 ∷ 3 ∷ 2 ∷ []) ≡ done (1 ∷ 1 ∷ 255 ∷ 1 ∷ [])
   -- E5 (0,1), 2 to 3: cap 1 gives refusal 3, cap 2 weights 2, 1
   pub e5-none : compiled 0 1 2 3 1 ≡ refused NoCode
   pub e5-weights : weighed 0 1 2 3 2 ≡ done (2 ∷ 1 ∷ [])
   -- E6 (2,7), 1 to 2: cap 3 gives refusal 3; cap 4 gives 2 3 4 4 3 3 2 1
   pub e6-none : compiled 2 7 1 2 3 ≡ refused NoCode
   pub e6-weights : weighed 2 7 1 2 4 ≡ done (2 ∷ 3 ∷ 4 ∷ 4 ∷ 3 ∷ 3 ∷ 2 ∷ 1 ∷ [])
-  -- E7 (1,3), 1 to 2, cap 1: weights 1 1 1 0, three states, m 1, a 0
+  -- E7 (1,3), 1 to 2, cap 1: weights 1 1 1 0, three states, m 0, a 0; its record
   pub e7-weights : weighed 1 3 1 2 1 ≡ done (1 ∷ 1 ∷ 1 ∷ 0 ∷ [])
   pub e7-table : compiled 1 3 1 2 1 ≡ done code7
+  pub e7-written : compileRunLength (1 ∷ 3 ∷ 1 ∷ 2 ∷ 1 ∷ []) 16 ≡ done record7
   -- E8 MFM is accepted for (1,3)
   pub e8-accepted : accepted code8 ≡ true
   pub e8-read : parse (pack code8) ≡ done code8
   -- E9 the refusal 4 row with 8 states: sum 128, compiled
   pub e9-sum : onward (readJob job9) (λ j. done (sum (componentOf j .weights))) ≡ done 128
   pub e9-table : onward (readJob job9) compile ≡ done code9
-  -- E10 no data under the table listed below gives one word, 3
+  -- E10 no data under the table of the listing gives one word, 3
   pub e10-table : compiled 0 1 2 3 2 ≡ done code10
-  pub e10 : encodeUnder (pack code10) 1 [] ≡ done (3 ∷ [])
+  pub e10-packed : pack code10 ≡ record10
+  pub e10 : encodeUnder record10 1 [] ≡ done (3 ∷ [])
 
 -- they hold
 pub examples : Examples
 unfolding readJob readRunLength compile compileRunLength packInto pack fieldsChecked parse encoded decoded
     encodeUnder decodeUnder works sizes window obeys power weights componentStates componentGraph split splits
-    splitAll tableStates tableOf
+    splitAll tableStates tableOf dataOf relabelled
 examples = record {
   e1-weights = refl;
   e1-table = refl;
-  e2-written = refl;
+  e1-written = refl;
   e2-read = refl;
+  e2-packed = refl;
   e3 = refl;
+  e3-old = refl;
   e4 = refl;
   e5-none = refl;
   e5-weights = refl;
@@ -141,10 +168,12 @@ examples = record {
   e6-weights = refl;
   e7-weights = refl;
   e7-table = refl;
+  e7-written = refl;
   e8-accepted = refl;
   e8-read = refl;
   e9-sum = refl;
   e9-table = refl;
   e10-table = refl;
+  e10-packed = refl;
   e10 = refl;
 }

@@ -1,0 +1,49 @@
+-- What the parts of giving the data answer, on the arrays that hold a table.
+-- In order: rowAt, the entries of a state in a column of the table; gaveAt, the data that state gave a word; Worded, a
+-- column that holds a table's words; Homes, for each word the lowest state that has it; noted, its home when a state is
+-- added; Reordered, a column of which the entries of one state are otherwise placed.
+-- Assumes nothing.
+use mathlib.Core.Path.{_≡_}
+use mathlib.Core.Bool.{_&&_}
+use mathlib.Core.Logic.{_⊎_}
+use mathlib.Core.List.{List, []}
+use Prim.Native.Nat.{ℕ, _+_, _*_, _≤_, _<_}
+use lib.Dec.{eqb, ltb}
+use lib.ListN.{length, getD, take, drop}
+use Rattle.laws.specs.Lists.{if_then_else_, range, filter, first, elem, indexOf}
+use Rattle.table.specs.Rows.{Rows, edges, at}
+use Rattle.table.specs.Paths.{Full}
+use Rattle.labels.specs.Labels.{hasWord, carries}
+
+-- the 16 entries of state s in a column of a table
+abbrev pub rowAt : List ℕ → ℕ → List ℕ
+rowAt column s = take 16 (drop (s * 16) column)
+
+-- the data, rising, that the state with these words gave to w
+abbrev pub gave : ℕ → List ℕ → ℕ → List ℕ
+gave n ws w = filter (carries ws w) (range n)
+
+-- the same of state h of a column; none where h is no state
+abbrev pub gaveAt : ℕ → List ℕ → ℕ → ℕ → List ℕ
+gaveAt n column h w = if ltb h 128 then gave n (rowAt column h) w else []
+
+-- the column holds the words of a table with n edges a state
+pub record Worded (n : ℕ) (t : Rows) (column : List ℕ) : Type 0 where
+  pub few : length t ≤ 128
+  pub full : Full n t
+  pub words : (s d : ℕ) → s < length t → d < n → at t s d .word ≡ getD column (s * 16 + d) 0
+
+-- for each word the lowest state of the table that has it, or 128
+pub record Homes (t : Rows) (home : List ℕ) : Type 0 where
+  pub state : (w : ℕ) → w < 256 → (getD home w 0 < length t) ⊎ (getD home w 0 ≡ 128)
+  pub found : (w : ℕ) → w < 256 → edges t (getD home w 0) ≡ first (hasWord w) [] t
+
+-- the home of the word w when state i, whose edges have the words ws, is added
+abbrev pub noted : List ℕ → ℕ → List ℕ → ℕ → ℕ
+noted ws i home w = let h = getD home w 0 in if eqb h 128 && elem w ws then i else h
+
+-- entry d of state i is now the one whose edge has the datum d, for the n edges of that state; all others stay
+pub record Reordered (n i : ℕ) (ds old column : List ℕ) : Type 0 where
+  pub long : length column ≡ 2048
+  pub moved : (d : ℕ) → d < n → getD column (i * 16 + d) 0 ≡ getD old (i * 16 + indexOf d ds) 0
+  pub kept : (x : ℕ) → (x < i * 16) ⊎ (i * 16 + n ≤ x) → getD column x 0 ≡ getD old x 0
