@@ -233,7 +233,7 @@ uint64_t sbc_listing(const uint8_t *job, uint64_t job_length, uint8_t *out, uint
 uint64_t sbc_phrase(uint64_t refusal, uint8_t *out, uint64_t out_length);
 
 /* The version of the library, and no answer: 10,000 times the major number, plus 100 times the minor number, plus the
- * patch. 10000 is 1.0.0. */
+ * patch. 10100 is 1.1.0. */
 uint64_t sbc_version(void);
 
 #ifdef __cplusplus

@@ -1,6 +1,6 @@
 //! Compiles the (0,1) code of rate 1 to 2, records four blocks under it, and reads them back. It prints
-//!   record: [36, 4, 64, 66, 48, 4, 16, 16, 24, 14, 0]
-//!   words: [2, 2, 3, 2]
+//!   record: [36, 4, 0, 66, 48, 4, 16, 16, 28, 4, 4]
+//!   words: [2, 3, 2, 2]
 //!   blocks: [1, 0, 1, 1]
 //! Build: rustc -O bench/examples/example.rs -L native=target/staticlib -l static=api -o target/example
 extern "C" {

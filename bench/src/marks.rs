@@ -21,7 +21,7 @@ struct Tally {
 pub fn all(folder: &str) {
     println!("| Record | Bits flipped, one at a time | Data right | Wrong, some block marked | Wrong, no block marked |");
     println!("|---|---|---|---|---|");
-    for name in ["listed-0-1", "mfm-1-3", "ach-2-7", "ahm-1-7", "ibm-2-7", "xerox-2-7"] {
+    for name in ["listed-0-1", "listed-first-0-1", "mfm-1-3", "ach-2-7", "ahm-1-7", "ibm-2-7", "xerox-2-7"] {
         let bytes = std::fs::read(format!("{folder}/{name}.sbc")).expect(name);
         let t = flipped(&bytes);
         println!("| `{name}.sbc` | {} | {} | {} | {} |", t.cases, t.right, t.marked, t.unmarked);

@@ -6,6 +6,15 @@ use std::time::Instant;
 
 const ROUNDS: usize = 31;
 
+/// E2's record.
+const E2: [u8; 11] = [0x24, 0x04, 0x40, 0x42, 0x30, 0x04, 0x10, 0x10, 0x18, 0x0e, 0x00];
+
+/// The record of the listed code as document 01 first printed it, m 1 and a 1: today's compiler gives that job m 0.
+const LISTED_FIRST: [u8; 22] = [
+    0x46, 0x08, 0x44, 0x42, 0x30, 0x04, 0x18, 0x06, 0x0a, 0x80, 0xa0, 0xa8, 0x0a, 0x0b, 0x01, 0xe0, 0x10, 0x1c, 0x07,
+    0x80, 0xe0, 0x80,
+];
+
 /// The record of a run-length job.
 pub fn record(job: [u8; 5]) -> Vec<u8> {
     reference::calls::compile_run_length(&job, 65535).output
@@ -35,8 +44,7 @@ pub fn medians(candidates: &mut [&mut dyn FnMut()]) -> Vec<f64> {
 
 fn check() {
     println!("check, us a call");
-    for (name, job, calls) in [("E2", [0, 1, 1, 2, 1], 1000), ("2 7 4 8 16", [2, 7, 4, 8, 16], 20)] {
-        let record = record(job);
+    for (name, record, calls) in [("E2", E2.to_vec(), 1000), ("2 7 4 8 16", record([2, 7, 4, 8, 16]), 20)] {
         assert_eq!(library::check(&record), (0, 0), "the record of {name} is accepted");
         let t = medians(&mut [
             &mut || (0..calls).for_each(|_| assert_eq!(library::check(&record).0, 0)),
@@ -68,25 +76,24 @@ fn encode() {
     println!("  ratio with a loaded table {:.2}, with loading {:.2}", t[1] / loaded, t[1] / t[0]);
 }
 
-fn decode(name: &str, job: [u8; 5]) {
-    let record = record(job);
-    let table = Chains::of(&reference::accept::load(&record).expect("accepted"));
+fn decode(name: &str, record: &[u8]) {
+    let table = Chains::of(&reference::accept::load(record).expect("accepted"));
     let mut numbers = Numbers::new();
     let blocks: Vec<u8> = (0..1 << 20).map(|_| numbers.below(1 << table.p) as u8).collect();
-    let words = reference::calls::encode(&record, &blocks, 1 << 21).output;
+    let words = reference::calls::encode(record, &blocks, 1 << 21).output;
     let few = &words[..(1 << 15) + table.lookahead];
     let mut ours = vec![0; words.len()];
     let mut theirs = ours.clone();
     let mut slow = ours.clone();
-    assert_eq!(library::decode(&record, &words, &mut ours), (0, blocks.len() as u64));
+    assert_eq!(library::decode(record, &words, &mut ours), (0, blocks.len() as u64));
     assert_eq!(table.decode(&words, &mut theirs), blocks.len());
     assert_eq!(plain::decode(&table, few, &mut slow), 1 << 15);
     assert!(ours[..blocks.len()] == blocks && theirs[..blocks.len()] == blocks && slow[..1 << 15] == blocks[..1 << 15]);
     let t = medians(&mut [
-        &mut || assert_eq!(library::decode(&record, &words, &mut ours).0, 0),
+        &mut || assert_eq!(library::decode(record, &words, &mut ours).0, 0),
         &mut || assert_eq!(table.decode(&words, &mut theirs), blocks.len()),
         &mut || assert_eq!(plain::decode(&table, few, &mut slow), 1 << 15),
-        &mut || assert_eq!(library::check(&record).0, 0),
+        &mut || assert_eq!(library::check(record).0, 0),
     ]);
     let ns = |t: f64, n: f64| t * 1e9 / n;
     let (ours, rust, c) = (ns(t[0] - t[3], 1048576.0), ns(t[1], 1048576.0), ns(t[2], 32768.0));
@@ -142,8 +149,9 @@ pub fn all() {
     check();
     compile();
     encode();
-    decode("listed code", [0, 1, 2, 3, 2]);
-    decode("2 7 4 8 16", [2, 7, 4, 8, 16]);
+    decode("listed code", &record([0, 1, 2, 3, 2]));
+    decode("listed code as first printed", &LISTED_FIRST);
+    decode("2 7 4 8 16", &record([2, 7, 4, 8, 16]));
     checked("listed code", [0, 1, 2, 3, 2]);
     checked("1 13 4 6 9", [1, 13, 4, 6, 9]);
     crate::streams::all();

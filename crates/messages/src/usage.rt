@@ -225,5 +225,5 @@ pub fn print_use(a: Action) -> Status
 pub fn print_version() -> Status
     ensures past { λ s. ⌜ statusOf s ≤ 1 ⌝ }
 {
-    print(b"sbc 1.0\n")
+    print(b"sbc 1.1\n")
 }

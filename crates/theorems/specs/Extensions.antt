@@ -1,14 +1,14 @@
 -- The theorems of what was asked for after the first delivery, each written out in full as on the main page.
 -- In order: (a) joint, joined-pairs, numbered, too-many-pairs, joined-job, both-obeyed; (b) streams, good-streams,
--- stream-words, stream-returns, bits-reach.
+-- stream-words, stream-returns, bits-reach; (c) labels, labels-rule, labels-hold.
 -- Assumes nothing.
 use mathlib.Core.Path.{_≡_}
 use mathlib.Core.Logic.{_⊎_, _↔_}
 use mathlib.Core.List.{List}
 use Prim.Native.Nat.{ℕ, _+_, _*_, _/_, _%_, _^_, _≤_, _<_}
 use lib.Dec.{T}
-use lib.ListN.{length, getD}
-use Rattle.laws.specs.Lists.{elem}
+use lib.ListN.{length, getD, take}
+use Rattle.laws.specs.Lists.{sum, elem}
 use Rattle.laws.specs.Sums.{Each, Once, Below}
 use Rattle.answer.specs.declared.Refusal.the-variants.{TooManyPairs}
 use Rattle.answer.specs.Outcomes.{done, refused}
@@ -16,14 +16,16 @@ use Rattle.bits.specs.Fields.{bitsOf}
 use Rattle.constraint.specs.Walking.{Constraint, Lawful}
 use Rattle.constraint.specs.Follow.{Finds, channel}
 use Rattle.joining.specs.Joined.{pairOf, pairs, joined, Reachable, FirstMet}
-use Rattle.table.specs.Rows.{Code}
-use Rattle.table.specs.Paths.{Blocks, recording}
+use Rattle.table.specs.Rows.{Rows, edges, Code}
+use Rattle.table.specs.Paths.{Blocks, recording, Full}
 use Rattle.checker.specs.Parse.{parse}
 use Rattle.stepping.specs.Reading.{mark}
 use Rattle.codec.specs.Answers.{encodeUnder, decodeUnder}
 use Rattle.codec.specs.Damage.{SameOutside}
-use Rattle.job.specs.Jobs.{Job, readJoined, Joins}
-use Rattle.compiler.specs.Compile.{compileJoined}
+use Rattle.finish.specs.TableOf.{tableOf}
+use Rattle.labels.specs.Labels.{relabelledRow, relabelled, Rearranged}
+use Rattle.job.specs.Jobs.{Job, Allowed, readJoined, Joins}
+use Rattle.compiler.specs.Compile.{ways, componentOf, finishedOf, compileJoined}
 use Rattle.packing.specs.Streams.{limit, packed, unpacked, goodStream}
 use Rattle.streams.specs.Recorded.{encodeStream, decodeStream}
 use Rattle.damage.specs.declared.BitNo.{BitNo}
@@ -105,3 +107,22 @@ pub bits-reach : (rec : List ℕ) → Below 256 rec → (c : Code) → parse rec
     × ((j : BlockNo) → j .0 < length ds → (j .0 < firstBlock (c .q) (c .window .lookahead) (f .0))
     ⊎ (lastBlock (c .q) (c .window .memory) (l .0) < j .0) → getD out (j .0) mark ≡ getD ds (j .0) 0)
 bits-reach = Rattle.damage.proofs.BitReach.bits-reach
+
+-- ---- (c) One word, one datum where it can be: `relabelled` gives the data of a table afresh. Main's `tableFor` is the
+-- table of the finished graph, relabelled, so what Main says of tables, windows and records is said of the new data.
+
+-- Giving the data afresh keeps state 0, and in every other state each edge, with each datum once.
+pub labels : (n : ℕ) (t : Rows) → Full n t → (edges (relabelled n t) 0 ≡ edges t 0)
+    × (length (relabelled n t) ≡ length t)
+    × ((s : ℕ) → s < length t → Rearranged n (edges t s) (edges (relabelled n t) s))
+labels = Rattle.labels.proofs.Labels.labels
+
+-- An edge takes the lowest free datum that the lowest earlier state with its word gave that word, and else a free one, rising.
+pub labels-rule : (n : ℕ) (t : Rows) → Full n t → (s : ℕ) → 0 < s → s < length t
+    → edges (relabelled n t) s ≡ relabelledRow n (take s (relabelled n t)) (edges t s)
+labels-rule = Rattle.labels.proofs.Labels.labels-rule
+
+-- Both hold of every table that is compiled: it has n edges a state when its data are given.
+pub labels-hold : (j : Job) → Allowed j → 0 < sum (componentOf j .weights) → length (finishedOf j .arcs) ≤ 2048
+    → Full (ways j) (tableOf (ways j) (finishedOf j))
+labels-hold = Rattle.compiler.proofs.Accepted.labelled-full

@@ -27,7 +27,7 @@ stages j =
     componentLine (componentStates (weightsOf j) (graphOf j)) (sum (c .weights))
     ++ (if ltb 128 (sum (c .weights)) || crowded c then [] else splitText (j .q) (ways j) c))
 
--- "window of memory 1 and lookahead 1"
+-- "window of memory 0 and lookahead 1"
 abbrev pub windowLine : ℕ → ℕ → List ℕ
 windowLine m a = said "window of memory # and lookahead #\n" (m ∷ a ∷ [])
 
