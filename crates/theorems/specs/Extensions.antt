@@ -117,7 +117,7 @@ pub labels : (n : ℕ) (t : Rows) → Full n t → (edges (relabelled n t) 0 ≡
     × ((s : ℕ) → s < length t → Rearranged n (edges t s) (edges (relabelled n t) s))
 labels = Rattle.labels.proofs.Labels.labels
 
--- An edge takes the lowest free datum that the lowest earlier state with its word gave that word, and else a free one, rising.
+-- Edges take the lowest free datum that the lowest earlier state with their word gave it; others the free data, rising.
 pub labels-rule : (n : ℕ) (t : Rows) → Full n t → (s : ℕ) → 0 < s → s < length t
     → edges (relabelled n t) s ≡ relabelledRow n (take s (relabelled n t)) (edges t s)
 labels-rule = Rattle.labels.proofs.Labels.labels-rule
