@@ -89,7 +89,8 @@ static inline uint64_t sbc_value(uint64_t answer)
     return answer & (((uint64_t)1 << 56) - 1);
 }
 
-/* Compiles a job to a record.
+/* Compiles a job to a record. Since version 1.1.0 the tables of all three calls that compile carry other data than
+ * before; older records stay good, and a recording is read under the record that it was written under.
  * job: p (1 to 4), q (1 to 8), cap (1 to 16), K (1 to 16), then for each of K states the next states for channel bits
  * 0 and 1, with 255 for none.
  * out: the packed record; SBC_RECORD_MAX bytes are always enough. It lies apart from job.
