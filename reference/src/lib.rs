@@ -1,7 +1,7 @@
 //! An outside implementation of the sliding-block code workshop.
 //!
 //! It is written from the scope document ("the document" in all comments), from the list of later change requests
-//! (so far "request (a)" and "request (b)") and from the table of readings of their unclear places ("the readings").
+//! (so far "request (a)" to "request (c)") and from the table of readings of their unclear places ("the readings").
 //! It shares no code with the proved crates. `calls` holds every call as a function from bytes to an answer; the other
 //! modules follow the sections of the document and the requests.
 
@@ -15,6 +15,7 @@ pub mod checksum;
 pub mod compile;
 pub mod component;
 pub mod constraint;
+pub mod data;
 pub mod decode;
 pub mod edges;
 pub mod encode;

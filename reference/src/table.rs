@@ -1,4 +1,4 @@
-//! "Compiling", step 4: the table.
+//! "Compiling", step 4: the table, with rising data in each state. Request (c) then gives the data anew.
 
 use crate::component::Graph;
 

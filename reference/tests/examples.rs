@@ -1,14 +1,33 @@
-//! E1 to E10 and the listing, as printed in the document.
+//! E1 to E10 and the listing. E1, E3, E7 and the listing are those of request (c), "worked afresh"; E2 and E4 are as
+//! the document first printed them, and so is the first listing, whose record stays a good one.
 
 use reference::accept::load;
 use reference::calls::{check, compile_job, compile_run_length, decode, encode, listing};
+use reference::compile::{rising, with_window};
 use reference::job::Job;
 use reference::record::Record;
+use reference::vectors::data::{E1, FIRST_LISTED};
 use reference::vectors::fixed::{heavy, mfm, E2, LISTED};
 use reference::vectors::hex;
 use reference::weights::greatest;
 
-const LISTING: &str = "2 3 3 1 1
+const LISTING: &str = "2 3 3 0 1
+0 0 011 0
+0 1 011 2
+0 2 101 0
+0 3 101 2
+1 0 110 1
+1 1 111 0
+1 2 101 0
+1 3 101 2
+2 0 110 1
+2 1 111 0
+2 2 010 1
+2 3 111 2
+";
+
+/// The listing as the document first printed it.
+const FIRST_LISTING: &str = "2 3 3 1 1
 0 0 011 0
 0 1 011 2
 0 2 101 0
@@ -34,6 +53,13 @@ fn record(job: &[u8]) -> Record {
     load(&answer.output).unwrap()
 }
 
+/// The record of a job as it was before request (c).
+fn before(job: &[u8]) -> Record {
+    let job = Job::run_length(job).unwrap();
+    let (table, start) = rising(&job).unwrap();
+    with_window(&job, start, table).unwrap()
+}
+
 fn rows(record: &Record) -> Vec<Vec<(u8, usize)>> {
     let pairs = |row: &Vec<_>| row.iter().map(|e: &reference::table::Entry| (e.word, e.next)).collect();
     record.table.rows.iter().map(pairs).collect()
@@ -41,23 +67,32 @@ fn rows(record: &Record) -> Vec<Vec<(u8, usize)>> {
 
 #[test]
 fn e1_weights_table_and_window() {
-    let job = [0, 1, 1, 2, 1];
-    assert_eq!(weights(&job), [1, 1]);
-    let record = record(&job);
-    assert_eq!(rows(&record), [[(1, 0), (2, 1)], [(2, 1), (3, 0)]]);
-    assert_eq!((record.m, record.a, record.start), (1, 0, 0));
+    assert_eq!(weights(&E1), [1, 1]);
+    let record = record(&E1);
+    assert_eq!(rows(&record), [[(1, 0), (2, 1)], [(3, 0), (2, 1)]]);
+    assert_eq!((record.m, record.a, record.start), (0, 0, 0));
+    assert_eq!(compile_run_length(&E1, 11).output, hex("24 04 00 42 30 04 10 10 1c 04 04"));
 }
 
+/// "E2's old bytes remain an accepted record": the record that E1's job had before request (c).
 #[test]
 fn e2_record() {
-    assert_eq!(compile_run_length(&[0, 1, 1, 2, 1], 11).output, hex(E2));
     assert_eq!(check(&hex(E2)).refusal, 0);
+    let record = load(&hex(E2)).unwrap();
+    assert_eq!(rows(&record), [[(1, 0), (2, 1)], [(2, 1), (3, 0)]]);
+    assert_eq!((record.m, record.a, record.start), (1, 0, 0));
+    assert_eq!(before(&E1), record);
 }
 
 #[test]
 fn e3_encoding() {
-    let answer = encode(&hex(E2), &[1, 0, 1, 1], 4);
-    assert_eq!((answer.refusal, answer.value, answer.output), (0, 4, vec![2, 2, 3, 2]));
+    let compiled = compile_run_length(&E1, 11).output;
+    for (record, words) in [(compiled, vec![2, 3, 2, 2]), (hex(E2), vec![2, 2, 3, 2])] {
+        let answer = encode(&record, &[1, 0, 1, 1], 4);
+        assert_eq!((answer.refusal, answer.value), (0, 4));
+        assert_eq!(answer.output, words);
+        assert_eq!(decode(&record, &words, 4).output, [1, 0, 1, 1]);
+    }
 }
 
 #[test]
@@ -83,8 +118,9 @@ fn e6_two_seven() {
 fn e7_one_three() {
     assert_eq!(weights(&[1, 3, 1, 2, 1]), [1, 1, 1, 0]);
     let record = record(&[1, 3, 1, 2, 1]);
-    assert_eq!((record.table.states(), record.m, record.a), (3, 1, 0));
-    assert_eq!(record.constraint.states(), 4);
+    assert_eq!(rows(&record), [[(0, 2), (1, 0)], [(2, 1), (1, 0)], [(2, 1), (1, 0)]]);
+    assert_eq!((record.m, record.a, record.constraint.states()), (0, 0, 4));
+    assert_eq!(record.pack(), hex("24 08 00 c2 20 94 27 00 40 04 80 80 a0 20 28 00"));
 }
 
 #[test]
@@ -106,6 +142,7 @@ fn e10_no_data() {
     let record = compile_run_length(&LISTED, 4096).output;
     let answer = encode(&record, &[], 1);
     assert_eq!((answer.refusal, answer.output), (0, vec![3]));
+    assert_eq!(encode(&hex(FIRST_LISTED), &[], 1).output, [3]);
 }
 
 #[test]
@@ -114,4 +151,23 @@ fn the_listing() {
     assert_eq!((answer.refusal, answer.value as usize), (0, LISTING.len()));
     assert_eq!(String::from_utf8(answer.output).unwrap(), LISTING);
     assert_eq!(listing(&LISTED, LISTING.len() - 1).refusal, 13);
+    let record = compile_run_length(&LISTED, 22).output;
+    assert_eq!(record, hex("46 08 04 42 30 04 18 06 0a 80 a0 b0 1e 02 80 a0 b0 1e 01 01 e0 80"));
+}
+
+/// The record of the first listing has its entries line by line, is the one that the job had before request (c), and is
+/// accepted; words decode under it with memory 1.
+#[test]
+fn the_first_listing_stays_a_record() {
+    let record = load(&hex(FIRST_LISTED)).unwrap();
+    let mut text = format!("{} {} {} {} {}\n", record.p, record.q, record.table.states(), record.m, record.a);
+    for (state, row) in rows(&record).iter().enumerate() {
+        let lines = row.iter().enumerate().map(|(datum, (word, next))| format!("{state} {datum} {word:03b} {next}\n"));
+        text.extend(lines);
+    }
+    assert_eq!(text, FIRST_LISTING);
+    assert_eq!(before(&LISTED), record);
+    assert_eq!(check(&hex(FIRST_LISTED)).refusal, 0);
+    assert_eq!(encode(&hex(FIRST_LISTED), &[1, 0, 1, 1], 5).output, [3, 2, 5, 6, 5]);
+    assert_eq!(decode(&hex(FIRST_LISTED), &[3, 2, 5, 6, 5], 4).output, [1, 0, 1, 1]);
 }

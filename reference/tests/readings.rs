@@ -2,9 +2,11 @@
 
 use reference::accept::load;
 use reference::calls::{check, compile_job, compile_run_length, decode, encode, listing, set};
+use reference::compile::rising;
 use reference::component::component;
 use reference::job::Job;
 use reference::record::{Header, Record};
+use reference::vectors::data::TIE;
 use reference::vectors::fixed::{loops, LISTED};
 use reference::vectors::hex;
 use reference::window::Search;
@@ -81,12 +83,20 @@ fn the_constraint_start_may_be_above_0() {
     assert_eq!(compiled("01 01 01 02 00 ff 01 01").start, 1);
 }
 
+/// The input of the readings tells on its table with rising data; with the data of request (c) it needs no window, and
+/// another job tells.
 #[test]
 fn least_m_plus_a_then_least_a() {
-    let record = compiled("01 02 01 03 02 02 00 01 ff 01");
+    let named = "01 02 01 03 02 02 00 01 ff 01";
+    let record = compiled(TIE);
     assert_eq!((record.m, record.a), (1, 0));
-    assert!(Search::of(&record.table).works(0, 1));
-    assert!(!Search::of(&record.table).works(0, 0));
+    for table in [rising(&Job::general(&hex(named)).unwrap()).unwrap().0, record.table] {
+        let mut search = Search::of(&table);
+        assert_eq!(search.least(), Some((1, 0)));
+        assert!(search.works(0, 1) && !search.works(0, 0));
+    }
+    let record = compiled(named);
+    assert_eq!((record.m, record.a), (0, 0));
 }
 
 #[test]

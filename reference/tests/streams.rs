@@ -8,6 +8,7 @@ use reference::constraint::Constraint;
 use reference::record::Record;
 use reference::streams::{BlockNumber, MOST_WORDS};
 use reference::table::{Entry, Table};
+use reference::vectors::data::FIRST_LISTED;
 use reference::vectors::file::{DECODE_STREAM, ENCODE_STREAM, PACK, UNPACK};
 use reference::vectors::fixed::{mfm, E2};
 use reference::vectors::hex;
@@ -102,8 +103,10 @@ fn plain(q: usize, m: usize, a: usize) -> Vec<u8> {
 #[test]
 fn the_reach_as_told() {
     let blocks = |first, last| Ok((BlockNumber(first), BlockNumber(last)));
-    assert_eq!(reach(&listed(), 15, 15), blocks(4, 6));
-    assert_eq!(reach(&listed(), 0, 2), blocks(0, 1));
+    assert_eq!(reach(&hex(FIRST_LISTED), 15, 15), blocks(4, 6));
+    assert_eq!(reach(&hex(FIRST_LISTED), 0, 2), blocks(0, 1));
+    assert_eq!(reach(&listed(), 15, 15), blocks(4, 5), "m is 0 since request (c)");
+    assert_eq!(reach(&listed(), 0, 2), blocks(0, 0));
     assert_eq!(reach(&plain(3, 1, 1), 15, 15), blocks(4, 6));
     assert_eq!(reach(&plain(3, 0, 1), 16, 20), blocks(4, 6));
     assert_eq!(reach(&plain(8, 0, 0), 7, 8), blocks(0, 1));
@@ -152,7 +155,7 @@ fn a_million_words() {
 #[test]
 fn a_million_words_under_records() {
     let mut random = Random::seeded(22);
-    for (record, a, bits) in [(hex(E2), 0, 2), (listed(), 1, 3)] {
+    for (record, a, bits) in [(hex(E2), 0, 2), (hex(FIRST_LISTED), 1, 3), (listed(), 1, 3)] {
         let p = load(&record).unwrap().p;
         let mut blocks = random.bytes(1_000_000 - a, 1 << p);
         let stream = encode_stream(&record, &blocks, 125_000 * bits);

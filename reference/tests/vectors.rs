@@ -1,8 +1,10 @@
 //! The file of test vectors: its format, its contents, its size.
 
 use reference::checksum::Checksum;
-use reference::vectors::file::{call, Case, Walk, COMPILE_JOINED, KINDS, RECORD_ROOM};
-use reference::vectors::fixed::TELLING;
+use reference::vectors::data;
+use reference::vectors::file::{call, Case, Walk, CHECK, COMPILE_JOB, COMPILE_JOINED, COMPILE_RUN_LENGTH, DECODE};
+use reference::vectors::file::{ENCODE, KINDS, LISTING, RECORD_ROOM};
+use reference::vectors::fixed::{E2, TELLING};
 use reference::vectors::stream_borders::telling;
 use reference::vectors::{generate, hex};
 use std::collections::HashSet;
@@ -62,12 +64,27 @@ fn the_file_has_the_streams_that_tell() {
     assert!(telling().iter().all(|call| inputs.contains(call)));
 }
 
+/// So does every input that tells for request (c), and the records as the document first printed them are checked,
+/// encoded and decoded under.
+#[test]
+fn the_file_has_the_data_that_tell() {
+    let bytes = generate(1);
+    let inputs: HashSet<_> = Walk(&bytes).map(|case| (case.kind, case.first)).collect();
+    for job in data::RUN_LENGTH {
+        assert!([COMPILE_RUN_LENGTH, LISTING].iter().all(|kind| inputs.contains(&(*kind, job.to_vec()))), "{job:?}");
+    }
+    assert!(data::GENERAL.iter().chain([&data::TIE]).all(|job| inputs.contains(&(COMPILE_JOB, hex(job)))));
+    for record in [E2, data::FIRST_LISTED] {
+        assert!([CHECK, ENCODE, DECODE].iter().all(|kind| inputs.contains(&(*kind, hex(record)))), "{record}");
+    }
+}
+
 /// The numbers that the README states.
 #[test]
 fn the_file_is_the_one_described() {
     let bytes = generate(1);
     let mut checksum = Checksum::default();
     checksum.add(&bytes);
-    assert_eq!((Walk(&bytes).count(), bytes.len()), (10_941, 795_547));
-    assert_eq!(checksum.value(), 0x1e8a_c9ac_4fce_1b6b);
+    assert_eq!((Walk(&bytes).count(), bytes.len()), (11_042, 798_456));
+    assert_eq!(checksum.value(), 0x0524_7992_43b3_0687);
 }

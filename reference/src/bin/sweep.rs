@@ -2,21 +2,15 @@
 
 use reference::calls::compile_run_length;
 use reference::checksum::Checksum;
+use reference::vectors::jobs::every_run_length;
 use std::time::Instant;
-
-/// All run-length jobs in order of their bytes: 136 pairs d, k, and 512 choices of p, q and cap for each.
-fn jobs() -> impl Iterator<Item = [u8; 5]> {
-    let pairs = (0..=15).flat_map(|d| (d..=15).map(move |k| (d, k)));
-    let rates = || (1..=4).flat_map(|p| (1..=8).flat_map(move |q| (1..=16).map(move |cap| (p, q, cap))));
-    pairs.flat_map(move |(d, k)| rates().map(move |(p, q, cap)| [d, k, p, q, cap]))
-}
 
 fn main() {
     let begun = Instant::now();
     let mut counts = [0u32; 14];
     let mut longest = (0, [0; 5]);
     let mut checksum = Checksum::default();
-    for job in jobs() {
+    for job in every_run_length() {
         let answer = compile_run_length(&job, 4096);
         counts[usize::from(answer.refusal)] += 1;
         checksum.add(&job);

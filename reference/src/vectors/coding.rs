@@ -5,6 +5,7 @@ use super::file::{File, DECODE, ENCODE};
 use super::pool::{Good, Pool};
 use super::random::Random;
 use crate::encode;
+use std::collections::HashSet;
 
 pub fn add(file: &mut File, random: &mut Random, pool: &Pool, scale: usize) {
     for _ in 0..407 * scale {
@@ -19,11 +20,20 @@ pub fn add(file: &mut File, random: &mut Random, pool: &Pool, scale: usize) {
         let good = pool.any(random);
         refused(file, random, good);
     }
+    long_recordings(file, random, pool);
+}
+
+/// Long recordings under large records, of those of one length the first only.
+fn long_recordings(file: &mut File, random: &mut Random, pool: &Pool) {
+    let mut lengths = HashSet::new();
     for good in pool.large.iter().take(8) {
         let blocks = random.bytes(200, 1 << good.record.p);
         let words = encode::words(&good.record, &blocks);
-        file.add(ENCODE, words.len(), &good.bytes, &blocks);
-        file.add(DECODE, blocks.len(), &good.bytes, &damage::words(random, &words, good.record.q));
+        let damaged = damage::words(random, &words, good.record.q);
+        if lengths.insert(good.bytes.len()) {
+            file.add(ENCODE, words.len(), &good.bytes, &blocks);
+            file.add(DECODE, blocks.len(), &good.bytes, &damaged);
+        }
     }
 }
 

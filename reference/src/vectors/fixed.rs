@@ -11,7 +11,7 @@ use crate::constraint::Constraint;
 use crate::record::Record;
 use crate::table::{Entry, Table};
 
-/// E2: the record of E1.
+/// E2: the record that E1 had before request (c). It stays a good one.
 pub const E2: &str = "24 04 40 42 30 04 10 10 18 0e 00";
 
 /// The job of the listing.
@@ -75,7 +75,7 @@ const GENERAL: [&str; 24] = [
     "02 03 02 02 01 00 00 ff",       // refusal 6
     "01 02 01 02 01 01 00 00",       // the component is reached by words
     "01 01 01 02 00 ff 01 01",       // constraint start 1
-    "01 02 01 03 02 02 00 01 ff 01", // a tie of windows
+    "01 02 01 03 02 02 00 01 ff 01", // a tie of windows before request (c)
     "",
     "01",
     "01 01 01",

@@ -27,6 +27,13 @@ pub fn add(file: &mut File, random: &mut Random, scale: usize) {
     }
 }
 
+/// All 69,632 run-length jobs in order of their bytes: 136 pairs d, k, and 512 choices of p, q and cap for each.
+pub fn every_run_length() -> impl Iterator<Item = [u8; 5]> {
+    let pairs = (0..=15).flat_map(|d| (d..=15).map(move |k| (d, k)));
+    let rates = || (1..=4).flat_map(|p| (1..=8).flat_map(move |q| (1..=16).map(move |cap| (p, q, cap))));
+    pairs.flat_map(move |(d, k)| rates().map(move |(p, q, cap)| [d, k, p, q, cap]))
+}
+
 /// Any run-length job, all equally likely but for d and k.
 pub fn any_run_length(random: &mut Random) -> [u8; 5] {
     let k = random.within(0, 15);

@@ -2,6 +2,7 @@
 
 pub mod coding;
 pub mod damage;
+pub mod data;
 pub mod file;
 pub mod fixed;
 pub mod foreign;
@@ -30,6 +31,7 @@ pub fn generate(scale: usize) -> Vec<u8> {
     groups::add(&mut file, &mut Random::seeded(4), &pool, scale);
     joined::add(&mut file, &mut Random::seeded(5), scale);
     streams::add(&mut file, &mut Random::seeded(6), &pool, scale);
+    data::add(&mut file);
     file.ended()
 }
 
