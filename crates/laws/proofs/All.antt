@@ -38,9 +38,10 @@ pub use native.Mathlib.Omega.{arith}
 pub use Rattle.laws.proofs.Anys.{any-append, any-concat, any-filter, any-image, any-map, any-none, any-union}
 pub use Rattle.laws.proofs.Anys.{each-range, each-union}
 pub use Rattle.laws.proofs.Arrays.{Filled, fill-more, fill-none, map-more, put-more, take-is, take-same}
-pub use Rattle.laws.proofs.Elems.{all-each, all-of, at-index, each-at, each-elem, elem-each, elem-filter}
-pub use Rattle.laws.proofs.Elems.{elem-range, index-at, index-lt, not-all, range-once, tot-filter-le}
-pub use Rattle.laws.proofs.Elems.{→elem-filter}
+pub use Rattle.laws.proofs.Elems.{all-each, all-of, at-index, each-at, each-below, each-elem, elem-below}
+pub use Rattle.laws.proofs.Elems.{elem-each, elem-filter, elem-range, index-at, index-lt, not-all, once-more}
+pub use Rattle.laws.proofs.Elems.{range-once, times-none, tot-filter-le, →elem-filter}
+pub use Rattle.laws.proofs.Extend.{extend-at, extend-more, extend-start, length-extend}
 pub use Rattle.laws.proofs.Filters.{concat-first, concat-none, filter-first, filter-none, filter-pos}
 pub use Rattle.laws.proofs.Filters.{filter-some, first-head, pick-range}
 pub use Rattle.laws.proofs.Firsts.{FirstList, first-at, first-image, first-least, first-no, first-none}
@@ -54,7 +55,7 @@ pub use Rattle.laws.proofs.Maps.{all-filter, filter-append, filter-both
 pub use Rattle.laws.proofs.Maps.{filter-fuse, filter-map, filter-never, filter-same, first-filter}
 pub use Rattle.laws.proofs.Maps.{map-append, map-concat, map-drop, map-each, map-map, map-take}
 pub use Rattle.laws.proofs.Members.{member-blank, member-lt, put-member}
-pub use Rattle.laws.proofs.Pigeon.{Twice, once-fits, pigeon}
+pub use Rattle.laws.proofs.Pigeon.{Twice, once-fits, once-onto, pigeon}
 pub use Rattle.laws.proofs.Places.{mod-diff, place-lt, quotient-of, remainder-of}
 pub use Rattle.laws.proofs.Ranges.{all-range-false, all-range-true, any-each-same, any-false, any-range-more}
 pub use Rattle.laws.proofs.Ranges.{any-range-no, any-range-same, any-true, concat-more, drop-map-range}
@@ -72,7 +73,7 @@ pub use Rattle.laws.proofs.Tests.{getD-map-lt, imp→, length-from, map
 pub use Rattle.laws.proofs.Tests.{→all, →all-below, →and, →any, →any-below, →imp, →orL, →orR, →tab}
 pub use Rattle.laws.proofs.Totals.{each-for, each-set, length-le-sum, never, tot-drop-le, tot-take-add}
 pub use Rattle.laws.proofs.Totals.{tot-take-le, tot-take-more, tot-union, union-each}
-pub use Rattle.laws.specs.Lists.{all, any, concat, elem, filter, first, from, if_then_else_, indexOf, iterate}
-pub use Rattle.laws.specs.Lists.{range, repeat, sum}
+pub use Rattle.laws.specs.Lists.{all, any, concat, elem, extend, filter, first, from, if_then_else_, indexOf}
+pub use Rattle.laws.specs.Lists.{iterate, range, repeat, sum}
 pub use Rattle.laws.specs.Sets.{Pairs, grid, has, member}
 pub use Rattle.laws.specs.Sums.{Below, Each, Once, mask, one, times, tot}
