@@ -3,9 +3,9 @@
 -- adjoin-each, adjoin-once.
 -- Assumes nothing.
 use Rattle.laws.proofs.All.{_≡_, refl, sym, ap, subst, _∙_, Bool, true, false, List, [], _∷_, _++_, append-assoc}
-use Rattle.laws.proofs.All.{append-nil, ℕ, _+_, _≤_, _<_, arith, decLt, T, eqb, eqb-refl, length, getD, length-append}
+use Rattle.laws.proofs.All.{append-nil, ℕ, _≤_, _<_, arith, T, eqb, eqb-refl, length, getD, length-append}
 use Rattle.laws.proofs.All.{List·getD-append, if_then_else_, elem, any-append, →orL, →orR, Each, each-append, Once}
-use Rattle.laws.proofs.All.{one, times, tot-append, count→any, Whether, so, nay, eqb-is}
+use Rattle.laws.proofs.All.{one, tot-append, once-more}
 use Rattle.joining.specs.Joined.{adjoin}
 
 -- qs is ps with more behind it
@@ -59,13 +59,7 @@ module _ (z : ℕ) (ps : List ℕ) where
   pub adjoin-once : Once ps → Once (adjoin z ps)
   adjoin-once h = go (elem z ps) refl
     where
-      last : elem z ps ≡ false → (x : ℕ) → Whether (x ≡ z) (eqb x z) → times x (z ∷ []) + times x ps ≤ 1
-      last e x (so q f) = elim (decLt 0 (times x ps)) [
-        | yes k ↦ absurd (subst T (ap (λ y. elem y ps) q ∙ e) (count→any (eqb x) ps k))
-        | no k ↦ rw f (omega arith)
-      ]
-      last e x (nay q f) = rw f (omega (arith, h x))
-
       go : (b : Bool) → elem z ps ≡ b → Once (if b then ps else ps ++ z ∷ [])
       go true e = h
-      go false e = λ x. omega (arith, tot-append (one (eqb x)) ps (z ∷ []), last e x (eqb-is x z))
+      go false e = λ x.
+          omega (arith, tot-append (one (eqb x)) ps (z ∷ []), once-more z ps h (λ t. subst T e t) x)
