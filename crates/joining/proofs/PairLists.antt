@@ -1,13 +1,11 @@
 -- Laws of the list of pairs that the struct holds, and of its walks.
--- In order: index-here, index-later, index-end, a pair looked for; adjoin-old, adjoin-new; pairs-long, pairs-at,
--- pairs-more, pairs-map; allowed-no, allowed-second, leads-small, met-when, next-when; walked-past, walked-at;
--- walked-on, walked-end, pairs-start, the walks of all pairs.
+-- In order: adjoin-old, adjoin-new; pairs-long, pairs-at, pairs-more, pairs-map; allowed-no, allowed-second,
+-- leads-small, met-when, next-when; walked-past, walked-at; walked-on, walked-end, pairs-start, the walks of all pairs.
 -- Assumes nothing.
-use Rattle.laws.proofs.All.{_≡_, refl, sym, ap, subst, _∙_, Bool, true, false, not, _&&_, _||_, List, []}
-use Rattle.laws.proofs.All.{_∷_, _++_, map, ℕ, suc, _+_, _-_, _/_, _%_, _≤_, _<_, add-one, le-of-suc-le-suc, arith}
-use Rattle.laws.proofs.All.{lt-ltb, le-ltb, eq-eqb, ne-eqb, T, eqb, length, getD, take, drop, set, drop-of-length-le}
-use Rattle.laws.proofs.All.{drop-cons, length-take-le, getD-take, take-suc-set, if_then_else_, elem, indexOf, range}
-use Rattle.laws.proofs.All.{index-lt, map-places, map-range-same}
+use Rattle.laws.proofs.All.{_≡_, refl, sym, ap, subst, _∙_, Bool, true, false, not, _&&_, List, [], _∷_, _++_, map, ℕ}
+use Rattle.laws.proofs.All.{suc, _+_, _-_, _/_, _%_, _≤_, _<_, add-one, arith, lt-ltb, le-ltb, eq-eqb, ne-eqb, T, eqb}
+use Rattle.laws.proofs.All.{length, getD, take, set, length-take-le, getD-take, take-suc-set, if_then_else_, elem}
+use Rattle.laws.proofs.All.{indexOf, range, index-elem, index-lt, map-places, map-range-same}
 use Rattle.constraint.specs.Walking.{none, Constraint, after, Lawful}
 use Rattle.constraint.proofs.Walking.{after-small}
 use Rattle.joining.specs.declared.PairList.{PairList}
@@ -15,27 +13,7 @@ use Rattle.joining.specs.Joined.{allowed, leadsTo, adjoin, met, walked, 
 use Rattle.joining.specs.PairLists.{pairsIn}
 use Rattle.joining.proofs.Pairs.{allowed-both}
 
--- ---- a number looked for from place i on
-module _ (z : ℕ) (l : List ℕ) (i : ℕ) where
-  pub index-here : i < length l → getD l i 0 ≡ z → indexOf z (drop i l) ≡ 0
-  index-here h e = rw (drop-cons l i 0, eq-eqb z (getD l i 0) (sym e))
-
-  pub index-later : i < length l → (getD l i 0 ≡ z → ⊥) → indexOf z (drop i l) ≡ suc (indexOf z (drop (i + 1) l))
-  index-later h n = rw (drop-cons l i 0, ne-eqb z (getD l i 0) (λ e. n (sym e)), add-one)
-
-  pub index-end : length l ≤ i → indexOf z (drop i l) ≡ 0
-  index-end h = rw (drop-of-length-le l h)
-
 -- ---- a number adjoined
-index-elem : (z : ℕ) (l : List ℕ) → indexOf z l < length l → elem z l ≡ true
-index-elem z [] h = absurd (omega arith)
-index-elem z (y ∷ l) h = go (eqb z y) h (index-elem z l)
-  where
-    go : (b : Bool) → (if b then 0 else suc (indexOf z l)) < suc (length l)
-        → (indexOf z l < length l → elem z l ≡ true) → (b || elem z l) ≡ true
-    go true h f = refl
-    go false h f = f (le-of-suc-le-suc h)
-
 module _ (z : ℕ) (l : List ℕ) where
   pub adjoin-old : indexOf z l < length l → adjoin z l ≡ l
   adjoin-old h = rw (index-elem z l h)

@@ -18,7 +18,7 @@ pub use lib.Seq.{append-snoc, drop-append-add, drop-append-le, drop-at, drop-con
 pub use lib.Seq.{drop-paste, drop-set-lt, ext-getD, getD-append-seam, getD-drop, getD-set-other, getD-set-same}
 pub use lib.Seq.{getD-take, length-paste, length-take-le, paste, paste-suc, paste-zero, set-split, slice}
 pub use lib.Seq.{slice-cons, slice-empty, split-at, take-all, take-append-add, take-append-le, take-append-seam}
-pub use lib.Seq.{take-at, take-nil, take-paste, take-suc, take-suc-set, take-take}
+pub use lib.Seq.{take-at, take-nil, take-paste, take-set-lt, take-suc, take-suc-set, take-take}
 pub use mathlib.Core.Bool.{Bool, Bool·beq, _&&_, _||_, and-assoc, and-false, and-true, false, not, or-assoc}
 pub use mathlib.Core.Bool.{or-comm, or-false, true}
 pub use mathlib.Core.List.{List, [], _++_, _∷_, append-assoc, append-nil, map}
@@ -45,9 +45,10 @@ pub use Rattle.laws.proofs.Extend.{extend-at, extend-more, extend-start
 pub use Rattle.laws.proofs.Filters.{concat-first, concat-none, filter-first, filter-none, filter-pos}
 pub use Rattle.laws.proofs.Filters.{filter-some, first-head, pick-range}
 pub use Rattle.laws.proofs.Firsts.{FirstList, first-at, first-image, first-least, first-no, first-none}
-pub use Rattle.laws.proofs.Firsts.{first-part, first-union, first-yes, none-lower}
+pub use Rattle.laws.proofs.Firsts.{first-nowhere, first-part, first-place, first-union, first-yes, none-lower}
 pub use Rattle.laws.proofs.Grids.{grid→, grow-sub, missing-le, rests, →grid}
 unfoldable pub use Rattle.laws.proofs.Grids.{missing}
+pub use Rattle.laws.proofs.Indexes.{index-elem, index-end, index-free, index-here, index-later}
 pub use Rattle.laws.proofs.Lists.{below-all, below-append, below-at, below-drop, below-take, below-zeros}
 pub use Rattle.laws.proofs.Lists.{drop-min, drop-take, getD-any, getD-padded, length-repeat, sum-append}
 pub use Rattle.laws.proofs.Lists.{sum-repeat, sum-replicate, take-replicate, take-rest}

@@ -1,15 +1,16 @@
 -- The first element that passes: in a joined list, in a list of images, of lists in a row, among numbers the lowest.
--- In order: first-yes, first-no, any-yes, any-no; first-front, first-back; first-image; FirstList, first-union;
--- first-at; first-part, first-none; first-least, none-lower.
+-- In order: first-yes, first-no, any-yes, any-no; first-place, first-nowhere; first-front, first-back; first-image;
+-- FirstList, first-union; first-at; first-part, first-none; first-least, none-lower.
 -- Assumes nothing.
 use mathlib.Core.Path.{_≡_, refl, sym, ap, subst, _∙_}
 use mathlib.Core.Bool.{Bool, true, false, _||_}
 use mathlib.Core.List.{List, [], _∷_, _++_, map}
-use Prim.Native.Nat.{ℕ, zero, suc, _+_, _≤_, _<_}
-use native.Mathlib.Nat.{le-refl, add-zero, zero-add, not-suc-le-zero}
+use Prim.Native.Nat.{ℕ, zero, suc, _+_, _≤_, _<_, zero-le, suc-le-suc}
+use native.Mathlib.Nat.{le-refl, le-of-suc-le-suc, add-zero, zero-add, not-suc-le-zero}
 use native.Mathlib.Omega.{arith}
 use native.Mathlib.Decide.{decLt}
 use lib.Dec.{T}
+use lib.ListN.{length, getD}
 use Rattle.laws.specs.Lists.{if_then_else_, from, range, any, first, concat}
 use Rattle.laws.proofs.Anys.{any-append}
 
@@ -25,6 +26,20 @@ module _ {A : Type 0} (p : A → Bool) (d : A) where
 
   pub any-no : (x : A) (l : List A) → p x ≡ false → any p (x ∷ l) ≡ any p l
   any-no x l e = rw e
+
+  -- the first that passes stands at j
+  pub first-place : (l : List A) (j : ℕ) → j < length l → p (getD l j d) ≡ true
+      → ((k : ℕ) → k < j → p (getD l k d) ≡ false) → first p d l ≡ getD l j d
+  first-place [] j h e f = absurd (not-suc-le-zero h)
+  first-place (x ∷ l) zero h e f = first-yes x l e
+  first-place (x ∷ l) (suc j) h e f =
+      first-no x l (f 0 (suc-le-suc zero-le))
+      ∙ first-place l j (le-of-suc-le-suc h) e (λ k b. f (suc k) (suc-le-suc b))
+
+  pub first-nowhere : (l : List A) → ((k : ℕ) → k < length l → p (getD l k d) ≡ false) → first p d l ≡ d
+  first-nowhere [] f = refl
+  first-nowhere (x ∷ l) f =
+      first-no x l (f 0 (suc-le-suc zero-le)) ∙ first-nowhere l (λ k b. f (suc k) (suc-le-suc b))
 
   pub first-front : (k l : List A) → T (any p k) → first p d (k ++ l) ≡ first p d k
   first-front [] l t = absurd t

@@ -1,8 +1,9 @@
 -- `number_of` meets its contract. The loop's invariant: the pair is none of those passed. The measure is what is left.
 -- Assumes nothing.
-use Rattle.laws.proofs.All.{_≡_, sym, _∙_, _+_, _-_, _≤_, arith, length, drop, indexOf, needs}
+use Rattle.laws.proofs.All.{_≡_, sym, _∙_, _+_, _-_, _≤_, arith, length, drop, indexOf, index-here, index-later}
+use Rattle.laws.proofs.All.{index-end, needs}
 use Rattle.joining.specs.PairLists.{pairsIn}
-use Rattle.joining.proofs.PairLists.{index-here, index-later, index-end, pairs-long, pairs-at}
+use Rattle.joining.proofs.PairLists.{pairs-long, pairs-at}
 use Rattle.joining.proofs.number_of.Statement.{statement}
 use Rattle.joining.proofs.number_of.Tie as tie
 
