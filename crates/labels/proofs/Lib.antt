@@ -1,2 +1,5 @@
 pub mod Data
 pub mod Labels
+pub mod Columns
+pub mod Homes
+pub mod Passes

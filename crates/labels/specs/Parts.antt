@@ -1,16 +1,16 @@
 -- What the parts of giving the data answer, on the arrays that hold a table.
 -- In order: rowAt, the entries of a state in a column of the table; gaveAt, the data that state gave a word; Worded, a
--- column that holds a table's words; Homes, for each word the lowest state that has it; noted, its home when a state is
--- added; Reordered, a column of which the entries of one state are otherwise placed.
+-- column that holds a table's words; Home, Homes, for each word the lowest state that has it; noted, its home when a
+-- state is added; Reordered, a column of which the entries of one state are otherwise placed.
 -- Assumes nothing.
 use mathlib.Core.Path.{_≡_}
-use mathlib.Core.Bool.{_&&_}
+use mathlib.Core.Bool.{true, false, _&&_}
 use mathlib.Core.Logic.{_⊎_}
 use mathlib.Core.List.{List, []}
 use Prim.Native.Nat.{ℕ, _+_, _*_, _≤_, _<_}
 use lib.Dec.{eqb, ltb}
 use lib.ListN.{length, getD, take, drop}
-use Rattle.laws.specs.Lists.{if_then_else_, range, filter, first, elem, indexOf}
+use Rattle.laws.specs.Lists.{if_then_else_, range, filter, elem, indexOf}
 use Rattle.table.specs.Rows.{Rows, edges, at}
 use Rattle.table.specs.Paths.{Full}
 use Rattle.labels.specs.Labels.{hasWord, carries}
@@ -33,10 +33,15 @@ pub record Worded (n : ℕ) (t : Rows) (column : List ℕ) : Type 0 where
   pub full : Full n t
   pub words : (s d : ℕ) → s < length t → d < n → at t s d .word ≡ getD column (s * 16 + d) 0
 
+-- h is the lowest state of the table that has the word w, or 128 where none has it
+abbrev pub Home : Rows → ℕ → ℕ → Type 0
+Home t w h =
+    ((h < length t) × (hasWord w (edges t h) ≡ true) × ((s : ℕ) → s < h → hasWord w (edges t s) ≡ false))
+    ⊎ ((h ≡ 128) × ((s : ℕ) → s < length t → hasWord w (edges t s) ≡ false))
+
 -- for each word the lowest state of the table that has it, or 128
-pub record Homes (t : Rows) (home : List ℕ) : Type 0 where
-  pub state : (w : ℕ) → w < 256 → (getD home w 0 < length t) ⊎ (getD home w 0 ≡ 128)
-  pub found : (w : ℕ) → w < 256 → edges t (getD home w 0) ≡ first (hasWord w) [] t
+abbrev pub Homes : Rows → List ℕ → Type 0
+Homes t home = (w : ℕ) → w < 256 → Home t w (getD home w 0)
 
 -- the home of the word w when state i, whose edges have the words ws, is added
 abbrev pub noted : List ℕ → ℕ → List ℕ → ℕ → ℕ

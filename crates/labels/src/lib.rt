@@ -2,6 +2,7 @@
 // earlier state with its word gave that word; edges with no such datum then take the free data, rising."
 // A column is the words, or the next states, of a table: the entry of state s and datum d stands at s * 16 + d.
 use finish::finish_table::TableRows;
+use table::chains::wide;
 ghost use mathlib.Core.Path.{_≡_};
 ghost use mathlib.Core.Bool.{_&&_};
 ghost use mathlib.Core.List.{[]};
@@ -16,7 +17,7 @@ ghost use Rattle.labels.specs.Parts.{rowAt, gave, gaveAt, Worded, Homes,
 
 // The 16 entries of state s.
 fn row_of(column: &[u8; 2048], s: usize) -> [u8; 16]
-    requires { ⌜ (length (now (column .entry)) ≡ 2048) × (s < 128) ⌝ }
+    requires { ⌜ (length (now column) ≡ 2048) × (s < 128) ⌝ }
     ensures answer { λ r. ⌜ r ≡ rowAt (now (column .entry)) s ⌝ }
 {
     let mut r = [0u8; 16];
@@ -79,7 +80,7 @@ fn lowest_given(words: [u8; 16], n: usize, w: u8, ds: [u8; 16], k: usize) -> usi
 
 // The same for the words of state h; n if h is no state.
 fn asked_datum(column: &[u8; 2048], h: u8, n: usize, w: u8, ds: [u8; 16], k: usize) -> usize
-    requires { ⌜ (length (now (column .entry)) ≡ 2048) × (n ≤ 16) × (k ≤ 16) ⌝ }
+    requires { ⌜ (length (now column) ≡ 2048) × (n ≤ 16) × (k ≤ 16) ⌝ }
     ensures answer { λ r. ⌜ (r ≡ first (free (take k ds)) n (gaveAt n (now (column .entry)) h w)) × (r ≤ n) ⌝ }
 {
     if h >= 128 {
@@ -91,7 +92,7 @@ fn asked_datum(column: &[u8; 2048], h: u8, n: usize, w: u8, ds: [u8; 16], k: usi
 
 // What the n edges with these words first take, n for no datum; `home` has for each word the lowest earlier state.
 fn ask(column: &[u8; 2048], home: [u8; 256], words: [u8; 16], n: usize) -> [u8; 16]
-    requires { ⌜ (length (now (column .entry)) ≡ 2048) × (n ≤ 16) ⌝ }
+    requires { ⌜ (length (now column) ≡ 2048) × (n ≤ 16) ⌝ }
     ensures answer { λ r. ⌜ ((t : Rows) → Worded n t (now (column .entry)) → Homes t home
         → take n r ≡ extend (asked n t) [] (take n words)) ⌝ }
 {
@@ -128,7 +129,7 @@ fn serve(asked: [u8; 16], n: usize) -> [u8; 16]
     let mut ds = asked;
     let mut k = 0;
     while k < n {
-        if ds[k] as usize >= n {
+        if wide(ds[k]) >= n {
             ds[k] = lowest_free(ds, n) as u8;
         }
         k += 1;
@@ -138,7 +139,7 @@ fn serve(asked: [u8; 16], n: usize) -> [u8; 16]
 
 // The data of the n edges of state i.
 fn data_of(column: &[u8; 2048], home: [u8; 256], n: usize, i: usize) -> [u8; 16]
-    requires { ⌜ (length (now (column .entry)) ≡ 2048) × (n ≤ 16) × (i < 128) ⌝ }
+    requires { ⌜ (length (now column) ≡ 2048) × (n ≤ 16) × (i < 128) ⌝ }
     ensures answer { λ r. ⌜ ((t : Rows) → Worded n t (now (column .entry)) → Homes t home
         → take n r ≡ dataOf n t (take n (rowAt (now (column .entry)) i))) ⌝ }
 {
@@ -201,5 +202,9 @@ pub fn relabel(rows: TableRows, n: usize) -> TableRows
         home = more;
         i += 1;
     }
-    TableRows { states: count, word: word, next: next }
+    TableRows {
+        states: count,
+        word: word,
+        next: next,
+    }
 }
