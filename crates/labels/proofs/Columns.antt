@@ -33,7 +33,8 @@ module _ (t : Arrays) where
   worded-rows i h = record {
     few = omega (arith, lengths);
     full = λ s k. ap length (front s k) ∙ row-long t s (inside s k);
-    words = λ s d k l. ap (λ r. getD r d (edge 0 0) .word) (front s k) ∙ ap (λ e. e .word) (edge-at t s d (inside s k) l);
+    words = λ s d k l. ap (λ r. getD r d (edge 0 0) .word) (front s k)
+        ∙ ap (λ e. e .word) (edge-at t s d (inside s k) l);
   }
     where
       lengths : length (take i (rowsOf t)) ≡ min i (t .states)

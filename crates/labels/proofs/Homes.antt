@@ -1,18 +1,27 @@
 -- For each word the lowest state that has it: what that state gave the word, and a state added.
--- In order: given-home; homes-none, homes-more; noted-none, noted-more, note-put, note-skip, the words of a state one by one.
+-- In order: gave-state, gave-none, given-home; homes-none, homes-more; noted-none, noted-more, note-put, note-skip, the
+-- words of a state one by one.
 -- Assumes nothing.
 use Rattle.laws.proofs.All.{_≡_, refl, sym, ap, subst, _∙_, inl, inr, Bool, true, false, _&&_, _||_, and-false, List}
-use Rattle.laws.proofs.All.{[], _∷_, _++_, ℕ, _+_, _≤_, _<_, add-one, arith, lt-ltb, eq-eqb, ne-eqb, eqb, length, getD}
-use Rattle.laws.proofs.All.{take, set, replicate, length-append, length-map, getD-replicate, List·getD-append}
-use Rattle.laws.proofs.All.{getD-append-seam, take-suc, getD-set-same, getD-set-other, below-more, if_then_else_, range}
-use Rattle.laws.proofs.All.{filter, elem, any-append, Whether, so, nay, eqb-is, each-range, each-map, filter-same}
-use Rattle.laws.proofs.All.{getD-map-lt, first-place, first-nowhere}
+use Rattle.laws.proofs.All.{[], _∷_, _++_, ℕ, _+_, _≤_, _<_, add-one, arith, lt-ltb, le-ltb, eq-eqb, ne-eqb, eqb}
+use Rattle.laws.proofs.All.{length, getD, take, set, replicate, length-append, length-map, getD-replicate}
+use Rattle.laws.proofs.All.{List·getD-append, getD-append-seam, take-suc, getD-set-same, getD-set-other, below-more}
+use Rattle.laws.proofs.All.{if_then_else_, range, filter, elem, any-append, Whether, so, nay, eqb-is, each-range}
+use Rattle.laws.proofs.All.{each-map, filter-same, getD-map-lt, first-place, first-nowhere}
 use Rattle.table.specs.Rows.{Edge, edge, Rows, edges}
 use Rattle.labels.specs.Labels.{wordsOf, hasWord, carries, given}
 use Rattle.labels.specs.Parts.{rowAt, gave, gaveAt, Worded, Home, Homes, noted}
 use Rattle.labels.proofs.Columns.{row-entry}
 
--- what the lowest earlier state with the word gave it, read off the column
+-- ---- what a state gave a word, read off the column
+module _ (n : ℕ) (column : List ℕ) (h w : ℕ) where
+  pub gave-state : h < 128 → gaveAt n column h w ≡ gave n (rowAt column h) w
+  gave-state l = ap (λ b. if b then gave n (rowAt column h) w else []) (lt-ltb h 128 l)
+
+  pub gave-none : 128 ≤ h → gaveAt n column h w ≡ []
+  gave-none l = ap (λ b. if b then gave n (rowAt column h) w else []) (le-ltb h 128 l)
+
+-- what the lowest earlier state with the word gave it
 pub given-home : (n : ℕ) (t : Rows) (column : List ℕ) → n ≤ 16 → Worded n t column → (w h : ℕ) → Home t w h
     → given t w ≡ gaveAt n column h w
 given-home n t column few W w h (inl (l, e, f)) =
@@ -23,11 +32,10 @@ given-home n t column few W w h (inl (l, e, f)) =
     (each-map (λ d. d < n) _ (λ d k. ap (λ x. eqb x w)
     (getD-map-lt (λ (e : Edge). e .word) (edges t h) d (edge 0 0) 0 (rw (W .full h l) k)
     ∙ W .words h d l k ∙ sym (row-entry column h d (omega arith)))) (range n) (each-range n))
-    ∙ ap (λ b. if b then gave n (rowAt column h) w else [])
-    (sym (lt-ltb h 128 (let k = W .few in omega arith)))
+    ∙ sym (gave-state n column h w (let k = W .few in omega arith))
 given-home n t column few W w h (inr (e, f)) =
     ap (λ es. filter (carries (wordsOf es) w) (range (length (wordsOf es)))) (first-nowhere (hasWord w) [] t f)
-    ∙ ap (λ k. gaveAt n column k w) (sym e)
+    ∙ sym (gave-none n column h w (omega arith))
 
 -- ---- a state added
 pub homes-none : Homes [] (replicate 256 128)
@@ -61,7 +69,11 @@ module _ (t : Rows) (es : List Edge) (i : ℕ) (l : length t ≡ i) (few : i < 1
       go : (b : Bool) → hasWord w es ≡ b → Home more w (if b then i else h)
       go true q = inl (omega (arith, long), ap (hasWord w) here ∙ q, lower)
       go false q =
-          inr (e, λ s k. below-more (λ s. hasWord w (edges more s) ≡ false) i lower (ap (hasWord w) here ∙ q) s (rw long at k))
+          inr (
+            e,
+            λ s k. below-more (λ s. hasWord w (edges more s) ≡ false) i lower (ap (hasWord w) here ∙ q) s
+                (rw long at k),
+          )
 
 pub homes-more : (t : Rows) (es : List Edge) (i : ℕ) (home home′ : List ℕ) → length t ≡ i → i < 128 → Homes t home
     → ((w : ℕ) → w < 256 → getD home′ w 0 ≡ noted (wordsOf es) i home w) → Homes (t ++ es ∷ []) home′

@@ -3,3 +3,4 @@ pub mod Labels
 pub mod Columns
 pub mod Homes
 pub mod Passes
+pub mod Relabelling

@@ -58,7 +58,8 @@ module _ (n k : ℕ) (ds : List ℕ) (hk : k < n) (hn : n ≤ length ds) where
       ∙ ap (λ j. served n (take j ds) (drop j (take n ds))) (sym (add-one k))
 
   pub serve-put : n ≤ x → (e : ℕ) → e ≡ first (free (take n ds)) n (range n)
-      → served n (take k ds) (drop k (take n ds)) ≡ served n (take (k + 1) (set ds k e)) (drop (k + 1) (take n (set ds k e)))
+      → served n (take k ds) (drop k (take n ds))
+      ≡ served n (take (k + 1) (set ds k e)) (drop (k + 1) (take n (set ds k e)))
   serve-put h e q =
       ap (served n (take k ds)) cons
       ∙ ap (λ b. served n (take k ds ++ (if b then x else first (free (take k ds ++ x ∷ rest)) n (range n)) ∷ []) rest)

@@ -15,9 +15,9 @@ pub use lib.ListN.{length-take, replicate, set, take, take-append-drop}
 pub use lib.Pow.{field, high, low, mod-mod-pow, mod-pow-add, pow-add, pow-mono, pow-pos, shl-exact, shr-lt, shr-shr}
 pub use lib.Pow.{split}
 pub use lib.Seq.{append-snoc, drop-append-add, drop-append-le, drop-at, drop-cons, drop-drop, drop-length, drop-nil}
-pub use lib.Seq.{drop-paste, drop-set-lt, ext-getD, getD-append-seam, getD-drop, getD-set-other, getD-set-same}
-pub use lib.Seq.{getD-take, length-paste, length-take-le, paste, paste-suc, paste-zero, set-split, slice}
-pub use lib.Seq.{slice-cons, slice-empty, split-at, take-all, take-append-add, take-append-le, take-append-seam}
+pub use lib.Seq.{drop-paste, drop-set-lt, ext-getD, getD-append-seam, getD-at, getD-drop, getD-set-other}
+pub use lib.Seq.{getD-set-same, getD-take, length-paste, length-take-le, paste, paste-suc, paste-zero, set-split}
+pub use lib.Seq.{slice, slice-cons, slice-empty, split-at, take-all, take-append-add, take-append-le, take-append-seam}
 pub use lib.Seq.{take-at, take-nil, take-paste, take-set-lt, take-suc, take-suc-set, take-take}
 pub use mathlib.Core.Bool.{Bool, Bool·beq, _&&_, _||_, and-assoc, and-false, and-true, false, not, or-assoc}
 pub use mathlib.Core.Bool.{or-comm, or-false, true}
@@ -37,7 +37,7 @@ pub use native.Mathlib.Numerals.{add-one}
 pub use native.Mathlib.Omega.{arith}
 pub use Rattle.laws.proofs.Anys.{any-append, any-concat, any-filter, any-image, any-map, any-none, any-union}
 pub use Rattle.laws.proofs.Anys.{each-range, each-union}
-pub use Rattle.laws.proofs.Arrays.{Filled, fill-more, fill-none, map-more, put-more, take-is, take-same}
+pub use Rattle.laws.proofs.Arrays.{Filled, fill-more, fill-none, map-more, put-at, put-more, take-is, take-same}
 pub use Rattle.laws.proofs.Elems.{all-each, all-of, at-index, each-at, each-below, each-elem, elem-below}
 pub use Rattle.laws.proofs.Elems.{elem-each, elem-filter, elem-range, index-at, index-lt, not-all, once-more}
 pub use Rattle.laws.proofs.Elems.{range-once, times-none, tot-filter-le, →elem-filter}

@@ -1,6 +1,6 @@
 -- Arrays: their front as a list, and loops that fill them from the front.
--- In order: take-is, take-same; Filled, fill-none, fill-more, an array filled from the front; put-more, map-more, bytes
--- written behind one another.
+-- In order: take-is, take-same; Filled, fill-none, fill-more, an array filled from the front; put-at, put-more,
+-- map-more, elements and bytes written behind one another.
 -- Assumes nothing.
 use mathlib.Core.Path.{_≡_, sym, ap, ap₂, _∙_}
 use mathlib.Core.List.{List, [], _∷_, _++_, map}
@@ -46,11 +46,15 @@ fill-more d f k i R v h e m = record {
 }
 
 -- ---- bytes written behind one another
+pub put-at : {A : Type 0} (d : A) (xs out : List A) (i : ℕ) (w : A) → length xs ≡ i → i < length out
+    → set (xs ++ drop i out) i w ≡ (xs ++ w ∷ []) ++ drop (i + 1) out
+put-at d xs out i w e h =
+    rw (drop-cons out i d, add-one)
+    (set-at xs (getD out i d) (drop (suc i) out) w i e ∙ sym (append-snoc xs w (drop (suc i) out)))
+
 pub put-more : (xs out : List ℕ) (i w : ℕ) → length xs ≡ i → i < length out
     → set (xs ++ drop i out) i w ≡ (xs ++ w ∷ []) ++ drop (i + 1) out
-put-more xs out i w e h =
-    rw (drop-cons out i 0, add-one)
-    (set-at xs (getD out i 0) (drop (suc i) out) w i e ∙ sym (append-snoc xs w (drop (suc i) out)))
+put-more = put-at 0
 
 -- one byte more of those that a function gives, from the number `first` on
 pub map-more : (f : ℕ → ℕ) (first : ℕ) (out₀ out : List ℕ) (i w : ℕ) → out ≡ map f (from first i) ++ drop i out₀

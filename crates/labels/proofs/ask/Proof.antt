@@ -53,4 +53,5 @@ ask-spec =
     tie.close
     (tie.spec
     Inv-loop μ-loop loop-holds (λ c. search needs) (λ c. search needs) word-small (λ c κs. search needs)
-    (λ c. omega (arith, c .asked-datum .ensures .1)) (λ c. search needs) (λ c. search needs) (λ c. search needs) loop-again returns)
+    (λ c. omega (arith, c .asked-datum .ensures .1)) (λ c. search needs) (λ c. search needs) (λ c. search needs)
+    loop-again returns)

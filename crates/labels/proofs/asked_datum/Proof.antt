@@ -1,28 +1,26 @@
 -- The two answers by whether h is a state.
-use Rattle.laws.proofs.All.{sym, ap, _∙_, [], arith, lt-ltb, le-ltb, le-refl, now, take, if_then_else_, first, needs}
+use Rattle.laws.proofs.All.{sym, ap, _∙_, arith, le-refl, now, take, first, needs}
 use Rattle.labels.specs.Labels.{free}
-use Rattle.labels.specs.Parts.{rowAt, gave}
+use Rattle.labels.specs.Parts.{gave}
+use Rattle.labels.proofs.Homes.{gave-state, gave-none}
 use Rattle.labels.proofs.asked_datum.Statement.{statement}
 use Rattle.labels.proofs.asked_datum.Tie as tie
 
 returns : tie.Need-returns
 returns c =
     let a = c .before .args in (
-      sym (ap (λ b. first (free (take (a .k) (a .ds))) (a .n)
-          (if b then gave (a .n) (rowAt (now (a .column)) (a .h)) (a .w) else []))
-          (le-ltb (a .h) 128 (c .if1 .taken))),
+      sym (ap (first (free (take (a .k) (a .ds))) (a .n))
+          (gave-none (a .n) (now (a .column)) (a .h) (a .w) (c .if1 .taken))),
       le-refl (a .n),
     )
 
 returns-2 : tie.Need-returns-2
 returns-2 c =
-    let a = c .before .before .before .args in
-    let p = free (take (a .k) (a .ds)) in (
+    let a = c .before .before .before .args in (
       c .lowest-given .ensures .0
-          ∙ ap (λ r. first (free (take (a .k) (a .ds))) (a .n) (gave (a .n) r (a .w))) (c .before .row-of .ensures)
-          ∙ sym (ap (λ b. first (free (take (a .k) (a .ds))) (a .n)
-          (if b then gave (a .n) (rowAt (now (a .column)) (a .h)) (a .w) else []))
-          (lt-ltb (a .h) 128 (omega arith))),
+          ∙ ap (first (free (take (a .k) (a .ds))) (a .n))
+          (ap (λ r. gave (a .n) r (a .w)) (c .before .row-of .ensures)
+          ∙ sym (gave-state (a .n) (now (a .column)) (a .h) (a .w) (omega arith))),
       c .lowest-given .ensures .1,
     )
 

@@ -62,5 +62,5 @@ pub note-spec : {M : Type 1} → statement M
 note-spec =
     tie.close
     (tie.spec
-    Inv-loop μ-loop loop-holds (λ c. search needs) (λ c. search needs) word-small (λ c. search needs) (λ c. word-small (c .before))
-    (λ c. search needs) (λ c. search needs) loop-again returns)
+    Inv-loop μ-loop loop-holds (λ c. search needs) (λ c. search needs) word-small (λ c. search needs)
+    (λ c. word-small (c .before)) (λ c. search needs) (λ c. search needs) loop-again returns)

@@ -55,5 +55,5 @@ serve-spec =
     tie.close
     (tie.spec
     Inv-loop μ-loop loop-holds (λ c. search needs) (λ c κs. search needs) (λ c κs. search needs)
-    (λ c. omega (arith, c .lowest-free .ensures .1))
-    (λ c. search needs) (λ c. search needs) (λ c. search needs) loop-again returns)
+    (λ c. omega (arith, c .lowest-free .ensures .1)) (λ c. search needs) (λ c. search needs) (λ c. search needs)
+    loop-again returns)
