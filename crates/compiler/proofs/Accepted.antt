@@ -1,9 +1,9 @@
 -- The compiler's code passes the checker: its fields are in range, every recording obeys, its window works.
--- In order: Made, made; made-formed; made-obeys; compiled-code; compile-parses; compiled-ready.
+-- In order: labelled-full; Made, made; made-formed; made-obeys; compiled-code; compile-parses; compiled-ready.
 -- Assumes nothing.
-use Rattle.laws.proofs.All.{_≡_, sym, ap, subst, _∙_, inl, inr, [], ℕ, zero, _^_, _≤_, _<_, le-trans, arith, T, ltb}
-use Rattle.laws.proofs.All.{leb, eqb, lt→ltb, le→leb, eqb-refl, length, getD, sum, all, Each, →and, →orL, →orR}
-use Rattle.laws.proofs.All.{→all, each-at}
+use Rattle.laws.proofs.All.{_≡_, sym, ap, subst, _∙_, inl, inr, [], ℕ, zero, _^_, _≤_, _<_, le-trans, le-of-eq, arith, T}
+use Rattle.laws.proofs.All.{ltb, leb, eqb, lt→ltb, le→leb, eqb-refl, length, getD, sum, all, Each, →and, →orL}
+use Rattle.laws.proofs.All.{→orR, →all, each-at}
 use Rattle.answer.specs.Outcomes.{done}
 use Rattle.constraint.specs.Walking.{Constraint, none, nowhere, walk, Target}
 use Rattle.table.specs.Rows.{edge, Rows, edges, at, Code}
@@ -12,20 +12,38 @@ use Rattle.windows.specs.Search.{window}
 use Rattle.obeying.specs.Obeys.{obeys}
 use Rattle.table.specs.declared.Table.{Table}
 use Rattle.table.specs.Value.{codeIn, ready}
+use Rattle.table.specs.Paths.{Full}
 use Rattle.table.specs.Formed.{head, inRange, goodState, goodNext, goodEdge, goodRow, formed}
 use Rattle.obeying.proofs.AnyClosure.{obeys-by}
 use Rattle.record.specs.Layout.{pack}
 use Rattle.checker.specs.Parse.{parse}
 use Rattle.checker.proofs.Parse.{parse-pack-good}
 use Rattle.graph.specs.Arcs.{Reads}
+use Rattle.finish.specs.TableOf.{tableOf}
 use Rattle.finish.proofs.TableOf.{Tabled}
+use Rattle.labels.proofs.Labels.{relabelled-length, tabled-relabelled}
 use Rattle.windowing.proofs.Windowed.{window-found}
 use Rattle.job.specs.Jobs.{Job, Allowed}
 use Rattle.compiler.specs.Compile.{ways, componentOf, startOf, finishedOf, tableFor, code, compile}
 use Rattle.compiler.proofs.Compiled.{live-some, states-few, table-coded}
 use Rattle.compiler.proofs.Compile.{ways-pos, Reason, reason, coded}
 
--- what the table of a job is like: n edges a state, each a word that the constraint reads between the roots
+-- the table before its data are given: n edges a state, each a word that the constraint reads between the roots
+plain-table : (j : Job) → Allowed j → 0 < sum (componentOf j .weights) → length (finishedOf j .arcs) ≤ 2048
+    → (root : ℕ → ℕ) × Tabled (Reads (j .constraint) (j .q)) (ways j) (tableOf (ways j) (finishedOf j)) root
+    × (root 0 ≡ startOf j) × (length (tableOf (ways j) (finishedOf j)) ≤ sum (componentOf j .weights))
+plain-table j a h few =
+    let n = ways j in
+    let (z, ez) = live-some (j .constraint) (a .well) n (j .q) (j .cap) (ways-pos j) h in
+    let (root, t, s) = table-coded (j .constraint) (a .well) n (j .q) (j .cap) (ways-pos j) z ez few in
+    (root, t, s, states-few (j .constraint) (a .well) n (j .q) (j .cap) (ways-pos j) z ez)
+
+-- the table whose data are given has n edges in each state
+pub labelled-full : (j : Job) → Allowed j → 0 < sum (componentOf j .weights) → length (finishedOf j .arcs) ≤ 2048
+    → Full (ways j) (tableOf (ways j) (finishedOf j))
+labelled-full j a h few = plain-table j a h few .1 .full
+
+-- what the table of a job is like
 pub record Made (j : Job) : Type 0 where
   pub root : ℕ → ℕ
   pub table : Tabled (Reads (j .constraint) (j .q)) (ways j) (tableFor j) root
@@ -35,14 +53,13 @@ pub record Made (j : Job) : Type 0 where
 pub made : (j : Job) → Allowed j → 0 < sum (componentOf j .weights) → sum (componentOf j .weights) ≤ 128
     → length (finishedOf j .arcs) ≤ 2048 → Made j
 made j a h light few =
-    let n = ways j in
-    let (z, ez) = live-some (j .constraint) (a .well) n (j .q) (j .cap) (ways-pos j) h in
-    let (root, t, s) = table-coded (j .constraint) (a .well) n (j .q) (j .cap) (ways-pos j) z ez few in
+    let old = tableOf (ways j) (finishedOf j) in
+    let (root, t, s, l) = plain-table j a h few in
     record {
       root = root;
-      table = t;
+      table = tabled-relabelled (Reads (j .constraint) (j .q)) (ways j) old root t;
       start = s;
-      few = le-trans (states-few (j .constraint) (a .well) n (j .q) (j .cap) (ways-pos j) z ez) light;
+      few = le-trans (le-of-eq (relabelled-length (ways j) old)) (le-trans l light);
     }
 
 -- ---- every recording obeys

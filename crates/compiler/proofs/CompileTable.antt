@@ -18,6 +18,7 @@ use Rattle.graph.specs.Splitting.{crowded}
 use Rattle.finish.specs.TableOf.{tableOf}
 use Rattle.splitting.specs.SplitParts.{SplitAllInto}
 use Rattle.finish.specs.Finishing.{TableIn, rowsOfTable}
+use Rattle.labels.specs.Labels.{relabelled}
 use Rattle.job.specs.declared.JobValue.{JobValue}
 use Rattle.compiler.specs.Compile.{tableFor, compile}
 use Rattle.job.specs.JobValues.{jobIn, JobReady}
@@ -40,16 +41,17 @@ tableBy j start rows = record {
 }
 
 module _ (j : JobValue) (a : JobReady j) (n : ℕ) (g : Graph) (start : ℕ) (b : Begun (jobIn j) n g start)
-    (r : NextGraph) (s : SplitAllInto n g r) (e : r .crowded ≡ false) (rows : TableRows)
-    (i : TableIn n (r .graph) rows)
+    (r : NextGraph) (s : SplitAllInto n g r) (e : r .crowded ≡ false) (old : TableRows)
+    (i : TableIn n (r .graph) old) (rows : TableRows)
+    (u : (rowsOfTable n rows ≡ relabelled n (rowsOfTable n old)) × (rows .states ≡ old .states))
   where
     abbrev t : Table
     t = tableBy j start rows
 
     table-rows : rowsIn t ≡ tableFor (jobIn j)
     table-rows =
-        ap (λ m. rowsOfTable m rows) (sym (b .count)) ∙ i .rows
-        ∙ ap₂ tableOf (b .count) (begun-work (jobIn j) (a .allowed) n g start b r s e)
+        ap (λ m. rowsOfTable m rows) (sym (b .count)) ∙ u .0 ∙ ap (relabelled n) (i .rows)
+        ∙ ap₂ (λ m x. relabelled m (tableOf m x)) (b .count) (begun-work (jobIn j) (a .allowed) n g start b r s e)
 
     made-so : Made (jobIn j)
     made-so =
@@ -68,7 +70,7 @@ module _ (j : JobValue) (a : JobReady j) (n : ℕ) (g : Graph) (start : ℕ) (b 
         let m = made-so in
         record {
           some = subst (λ k. 1 ≤ k) long (m .table .some);
-          few = i .few;
+          few = rw (u .1) (i .few);
           narrow = a .allowed .p₂;
           short = a .allowed .q₂;
           reading = λ x d h l. subst (λ z. z .word < 2 ^ j .q) (at-is x d h l)

@@ -1,5 +1,5 @@
 -- `split_and_window` meets its contract: splitting ends with n ways out of each state or with too many edges, and the
--- table of the finished graph is the job's.
+-- table of the finished graph, with its data, is the job's.
 -- Assumes nothing.
 use Rattle.laws.proofs.All.{sym, _∙_, needs, needs}
 use Rattle.job.specs.JobValues.{jobIn}
@@ -33,26 +33,38 @@ finish-table-requires c κs =
     begun-finished (jobIn (a .j)) (b .pre .0 .allowed) (a .n) (a .g) (a .start) (b .pre .1) (s .result) (s .ensures)
     (c .before .if1 .left)
 
+relabel-requires : tie.Need-relabel-requires
+relabel-requires c κs =
+    let b = c .before .before .before .before in
+    let a = b .args in
+    let s = c .before .before .before .split-all in (
+      begun-finished (jobIn (a .j)) (b .pre .0 .allowed) (a .n) (a .g) (a .start) (b .pre .1) (s .result)
+          (s .ensures) (c .before .before .if1 .left) .few,
+      c .finish-table .ensures .few,
+    )
+
 with-window-requires : tie.Need-with-window-requires
 with-window-requires c κs =
-    let b = c .before .before .before .before .before .before .before in
-    let a = b .args in
-    let s = c .before .before .before .before .before .before .split-all in
-    let f = c .before .before .before .finish-table in
-    table-ready (a .j) (b .pre .0) (a .n) (a .g) (a .start) (b .pre .1) (s .result) (s .ensures)
-    (c .before .before .before .before .before .if1 .left)
-    (f .result) (f .ensures)
-
-returns-2 : tie.Need-returns-2
-returns-2 c =
     let b = c .before .before .before .before .before .before .before .before in
     let a = b .args in
     let s = c .before .before .before .before .before .before .before .split-all in
-    let f = c .before .before .before .before .finish-table in (
+    let f = c .before .before .before .before .finish-table in
+    let l = c .before .before .before .relabel in
+    table-ready (a .j) (b .pre .0) (a .n) (a .g) (a .start) (b .pre .1) (s .result) (s .ensures)
+    (c .before .before .before .before .before .before .if1 .left)
+    (f .result) (f .ensures) (l .result) (l .ensures)
+
+returns-2 : tie.Need-returns-2
+returns-2 c =
+    let b = c .before .before .before .before .before .before .before .before .before in
+    let a = b .args in
+    let s = c .before .before .before .before .before .before .before .before .split-all in
+    let f = c .before .before .before .before .before .finish-table in
+    let l = c .before .before .before .before .relabel in (
       c .with-window .ensures .0
           ∙ table-code (a .j) (b .pre .0) (a .n) (a .g) (a .start) (b .pre .1) (s .result) (s .ensures)
-          (c .before .before .before .before .before .before .if1 .left)
-          (f .result) (f .ensures),
+          (c .before .before .before .before .before .before .before .if1 .left)
+          (f .result) (f .ensures) (l .result) (l .ensures),
       c .with-window .ensures .1,
     )
 
@@ -60,4 +72,5 @@ pub split-and-window-spec : {M : Type 1} → statement M
 split-and-window-spec =
     tie.close
     (tie.spec
-    split-all-requires (λ c κs. search needs) returns finish-table-requires with-window-requires returns-2)
+    split-all-requires (λ c κs. search needs) returns finish-table-requires relabel-requires
+    with-window-requires returns-2)
