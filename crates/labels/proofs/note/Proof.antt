@@ -38,7 +38,7 @@ loop-again c =
       ap length (w .1) ∙ length-set (l .r) (getD (a .t1) (l .d) 0) (a .i) ∙ l .inv .4,
       λ x h. ap (λ r. getD r x 0) (w .1)
           ∙ note-put (a .t1) (a .i) (l .d) (a .home) (l .r) (omega arith) (l .inv .2) (l .inv .5) (l .inv .4)
-          (word-small i) (w .0 .taken) x h,
+          (word-small i) (omega (arith, w .0 .taken)) x h,
     ))
     (λ w. (
       omega arith,
