@@ -1,5 +1,5 @@
 -- The rows of a table in its columns: the entries of a state read and otherwise placed.
--- In order: length-row, row-entry, row-filled; worded-rows, words-row, the words of a state; reorder-none,
+-- In order: row-entry, length-row, row-filled; worded-rows, words-row, the words of a state; reorder-none,
 -- reorder-more; reordered-row, reordered-rows, the table whose columns are both otherwise placed.
 -- Assumes nothing.
 use Rattle.laws.proofs.All.{_≡_, refl, sym, ap, ap₂, _∙_, _⊎_, inl, inr, List, [], map, ℕ, _+_, _*_, _≤_, _<_, arith}

@@ -1,6 +1,6 @@
 -- For each word the lowest state that has it: what that state gave the word, and a state added.
--- In order: gave-state, gave-none, given-home; homes-none, homes-more; noted-none, noted-more, note-put, note-skip, the
--- words of a state one by one.
+-- In order: gave-state, gave-none, given-home; homes-none, home-more, homes-more; noted-none, noted-more, note-put,
+-- note-skip, the words of a state one by one.
 -- Assumes nothing.
 use Rattle.laws.proofs.All.{_≡_, refl, sym, ap, subst, _∙_, inl, inr, Bool, true, false, _&&_, _||_, and-false, List}
 use Rattle.laws.proofs.All.{[], _∷_, _++_, ℕ, _+_, _≤_, _<_, add-one, arith, lt-ltb, le-ltb, eq-eqb, ne-eqb, eqb}
@@ -54,7 +54,7 @@ module _ (t : Rows) (es : List Edge) (i : ℕ) (l : length t ≡ i) (few : i < 1
   here : edges more i ≡ es
   here = ap (edges more) (sym l) ∙ getD-append-seam t es [] []
 
-  pub home-more : (h : ℕ) → Home t w h → Home more w (if eqb h 128 && elem w (wordsOf es) then i else h)
+  home-more : (h : ℕ) → Home t w h → Home more w (if eqb h 128 && elem w (wordsOf es) then i else h)
   home-more h (inl (b, e, f)) =
       rw (ne-eqb h 128 (λ q. omega arith)) (inl (
         omega (arith, long),
@@ -84,7 +84,7 @@ homes-more t es i home home′ l few H e w h =
 pub noted-none : (i : ℕ) (home : List ℕ) (w : ℕ) → noted [] i home w ≡ getD home w 0
 noted-none i home w = ap (λ b. if b then i else getD home w 0) (and-false (eqb (getD home w 0) 128))
 
-pub noted-more : (xs : List ℕ) (v i : ℕ) (home : List ℕ) (w : ℕ) → i < 128 → noted (xs ++ v ∷ []) i home w
+noted-more : (xs : List ℕ) (v i : ℕ) (home : List ℕ) (w : ℕ) → i < 128 → noted (xs ++ v ∷ []) i home w
     ≡ (if eqb w v && eqb (noted xs i home w) 128 then i else noted xs i home w)
 noted-more xs v i home w few =
     ap (λ b. if eqb h 128 && b then i else h) (any-append (eqb w) xs (v ∷ []))

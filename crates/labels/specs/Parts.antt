@@ -1,6 +1,6 @@
 -- What the parts of giving the data answer, on the arrays that hold a table.
--- In order: rowAt, the entries of a state in a column of the table; gaveAt, the data that state gave a word; Worded, a
--- column that holds a table's words; Home, Homes, for each word the lowest state that has it; noted, its home when a
+-- In order: rowAt, the entries of a state in a column of the table; gave, gaveAt, the data that it gave a word; Worded,
+-- a column that holds a table's words; Home, Homes, for each word the lowest state that has it; noted, its home when a
 -- state is added; Reordered, a column of which the entries of one state are otherwise placed.
 -- Assumes nothing.
 use mathlib.Core.Path.{_≡_}
