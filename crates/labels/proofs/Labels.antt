@@ -1,6 +1,6 @@
 -- A table with its data given afresh has in each state the edges it had, otherwise placed.
--- In order: rearranged-row, rearranged-same, rearranged-at, one state; relabelled-length, relabelled-first, labels-rule,
--- labels, relabelled-full, relabelled-at, all states; tabled-relabelled, what holds of every edge still does.
+-- In order: rearranged-row, rearranged-same, rearranged-at, one state; relabelled-length, relabelled-first,
+-- labels-rule, labels, relabelled-full, relabelled-at, all states; tabled-relabelled, what holds of every edge.
 -- Assumes nothing.
 use Rattle.laws.proofs.All.{_≡_, refl, sym, ap, subst, _∙_, List, [], _∷_, ℕ, zero, suc, _+_, _<_, zero-le, suc-le-suc}
 use Rattle.laws.proofs.All.{le-of-suc-le-suc, not-suc-le-zero, arith, T, length, getD, take, drop, length-append}

@@ -1,7 +1,7 @@
 -- `split_and_window` meets its contract: splitting ends with n ways out of each state or with too many edges, and the
 -- table of the finished graph, with its data, is the job's.
 -- Assumes nothing.
-use Rattle.laws.proofs.All.{sym, _∙_, needs, needs}
+use Rattle.laws.proofs.All.{sym, _∙_, _≤_, arith, needs}
 use Rattle.job.specs.JobValues.{jobIn}
 use Rattle.compiler.proofs.CompileSteps.{compile-crowded, begun-splits, begun-crowded, begun-finished}
 use Rattle.compiler.proofs.CompileTable.{table-ready, table-code}
@@ -37,11 +37,10 @@ relabel-requires : tie.Need-relabel-requires
 relabel-requires c κs =
     let b = c .before .before .before .before in
     let a = b .args in
-    let s = c .before .before .before .split-all in (
-      begun-finished (jobIn (a .j)) (b .pre .0 .allowed) (a .n) (a .g) (a .start) (b .pre .1) (s .result)
-          (s .ensures) (c .before .before .if1 .left) .few,
-      c .finish-table .ensures .few,
-    )
+    let s = c .before .before .before .split-all in
+    let few : a .n ≤ 16 = begun-finished (jobIn (a .j)) (b .pre .0 .allowed) (a .n) (a .g) (a .start) (b .pre .1)
+    (s .result) (s .ensures) (c .before .before .if1 .left) .few in
+    (omega arith, c .finish-table .ensures .few)
 
 with-window-requires : tie.Need-with-window-requires
 with-window-requires c κs =
