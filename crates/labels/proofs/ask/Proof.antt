@@ -1,4 +1,5 @@
--- Edge by edge; what the lowest earlier state with the word gave it is read off the columns.
+-- `ask` meets its contract. Edge by edge; what the lowest earlier state with the word gave it is read off the columns.
+-- Assumes nothing.
 use mir.Syntax.{w8}
 use mir.Val.{Fits}
 use Rattle.laws.proofs.All.{_≡_, refl, sym, ap, subst, _∙_, [], _-_, _≤_, _<_, arith, now, length, getD, take}

@@ -1,4 +1,5 @@
--- The two answers by whether h is a state.
+-- `asked_datum` meets its contract. The two answers by whether h is a state.
+-- Assumes nothing.
 use Rattle.laws.proofs.All.{sym, ap, _∙_, arith, le-refl, now, take, first, needs}
 use Rattle.labels.specs.Labels.{free}
 use Rattle.labels.specs.Parts.{gave}

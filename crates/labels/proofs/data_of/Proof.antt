@@ -1,4 +1,5 @@
--- The two passes one after the other.
+-- `data_of` meets its contract. The two passes one after the other.
+-- Assumes nothing.
 use Rattle.laws.proofs.All.{ap, _∙_, [], take, extend, needs}
 use Rattle.labels.specs.Labels.{asked, served, dataOf}
 use Rattle.labels.proofs.data_of.Statement.{statement}

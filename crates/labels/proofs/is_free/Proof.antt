@@ -1,4 +1,5 @@
--- The place is k where the datum is not there.
+-- `is_free` meets its contract. The place is k where the datum is not there.
+-- Assumes nothing.
 use Rattle.laws.proofs.All.{_≡_, sym, ap₂, _∙_, arith, eqb, length, take, length-take-le, index-free, needs}
 use Rattle.labels.proofs.is_free.Statement.{statement}
 use Rattle.labels.proofs.is_free.Tie as tie

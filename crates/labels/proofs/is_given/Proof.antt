@@ -1,4 +1,5 @@
--- The two answers of the test of a word.
+-- `is_given` meets its contract. The two answers of the test of a word.
+-- Assumes nothing.
 use Rattle.laws.proofs.All.{sym, ap, _∙_, _&&_, take, eq-eqb, ne-eqb, needs}
 use Rattle.labels.specs.Labels.{free}
 use Rattle.labels.proofs.is_given.Statement.{statement}

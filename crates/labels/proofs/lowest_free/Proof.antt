@@ -1,4 +1,5 @@
--- The loop's invariant: none of the data passed is free.
+-- `lowest_free` meets its contract. The loop's invariant: none of the data passed is free.
+-- Assumes nothing.
 use Rattle.laws.proofs.All.{_≡_, sym, _∙_, false, ℕ, _-_, _≤_, _<_, arith, below-more, take, first-least}
 use Rattle.laws.proofs.All.{first-range-none, needs}
 use Rattle.labels.specs.Labels.{free}

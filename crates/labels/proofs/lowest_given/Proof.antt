@@ -1,4 +1,5 @@
--- The loop's invariant: none of the data passed is given and free.
+-- `lowest_given` meets its contract. The loop's invariant: none of the data passed is given and free.
+-- Assumes nothing.
 use Rattle.laws.proofs.All.{_≡_, sym, _∙_, false, _&&_, ℕ, _-_, _≤_, _<_, arith, below-more, take, needs}
 use Rattle.labels.specs.Labels.{carries, free}
 use Rattle.labels.proofs.Passes.{given-found, given-none}

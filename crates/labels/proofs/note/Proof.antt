@@ -1,4 +1,5 @@
--- Word by word.
+-- `note` meets its contract. Word by word: the homes are those with the words passed.
+-- Assumes nothing.
 use Rattle.laws.proofs.All.{_≡_, sym, ap, _∙_, ⊎-elim, ℕ, _-_, _≤_, _<_, arith, length, getD, take, length-set, needs}
 use mir.Syntax.{w8}
 use mir.Val.{Fits}

@@ -1,4 +1,5 @@
--- The loop's invariant: d is none of those passed.
+-- `place_of` meets its contract. The loop's invariant: d is none of those passed.
+-- Assumes nothing.
 use Rattle.laws.proofs.All.{_≡_, sym, _∙_, _+_, _-_, _≤_, arith, length, take, drop, length-take-le, getD-take, indexOf}
 use Rattle.laws.proofs.All.{index-here, index-later, index-end, needs}
 use Rattle.labels.proofs.place_of.Statement.{statement}

@@ -1,4 +1,5 @@
--- State by state.
+-- `relabel` meets its contract. State by state: those passed have their data, and the homes are theirs.
+-- Assumes nothing.
 use Rattle.laws.proofs.All.{_≡_, refl, ap, _∙_, ℕ, _-_, _≤_, _<_, T, arith, lit≤, length, take, replicate, elem, needs}
 use Rattle.table.specs.Edges.{arrays, rowsOf}
 use Rattle.labels.specs.Labels.{dataOf, relabelled}

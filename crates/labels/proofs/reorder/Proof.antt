@@ -1,4 +1,5 @@
--- Entry by entry.
+-- `reorder` meets its contract. Entry by entry.
+-- Assumes nothing.
 use Rattle.laws.proofs.All.{_≡_, sym, subst, _+_, _*_, _-_, _≤_, _<_, arith, length, getD, take, set, length-take-le}
 use Rattle.laws.proofs.All.{index-lt, needs}
 use Rattle.labels.specs.Parts.{Reordered}

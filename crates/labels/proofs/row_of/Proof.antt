@@ -1,4 +1,5 @@
--- Entry by entry.
+-- `row_of` meets its contract. Entry by entry.
+-- Assumes nothing.
 use Rattle.laws.proofs.All.{_+_, _-_, _*_, _≤_, _<_, _≡_, refl, arith, length, getD, Filled, fill-none, fill-more}
 use Rattle.laws.proofs.All.{needs}
 use Rattle.labels.proofs.Columns.{row-filled}

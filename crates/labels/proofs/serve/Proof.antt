@@ -1,4 +1,5 @@
--- Edge by edge: those passed have their data, and all others what they asked for.
+-- `serve` meets its contract. Edge by edge: those passed have their data, and all others what they asked for.
+-- Assumes nothing.
 use Rattle.laws.proofs.All.{_≡_, refl, ap, sym, _∙_, ⊎-elim, [], _+_, _-_, _≤_, arith, length, take, drop, length-set}
 use Rattle.laws.proofs.All.{slice-empty, needs}
 use Rattle.labels.specs.Labels.{served}
