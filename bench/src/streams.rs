@@ -161,6 +161,6 @@ pub fn all() {
     shifts(3);
     shifts(8);
     beside_bytes("listed code", [0, 1, 2, 3, 2]);
-    beside_bytes("MFM", [1, 3, 1, 2, 1]);
+    beside_bytes("1 3 1 2 1", [1, 3, 1, 2, 1]);
     beside_bytes("2 7 4 8 16", [2, 7, 4, 8, 16]);
 }
