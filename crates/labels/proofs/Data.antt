@@ -10,7 +10,9 @@ use Rattle.laws.proofs.All.{any-append, each-range, elem-below, elem-each, leng
 use Rattle.laws.proofs.All.{times-none, first-passes, tot-append, each-map, once-fits, once-onto, →any-below, →orL}
 use Rattle.laws.proofs.All.{→orR, eqb-refl, below-append, Whether, so, nay, eqb-is, Below, Once, one, times}
 use Rattle.table.specs.Rows.{Rows}
-use Rattle.labels.specs.Labels.{given, free, asked, served, dataOf}
+use Rattle.labels.specs.Labels.{given, free, asked, dataOf}
+use Rattle.labels.specs.Parts.{served}
+use Rattle.labels.proofs.Rising.{served-data}
 
 -- no number below n occurs twice
 abbrev Few : ℕ → List ℕ → Type 0
@@ -115,11 +117,11 @@ module _ (n : ℕ) (earlier : Rows) (ws : List ℕ) (long : length ws ≡ n) whe
   D = dataOf n earlier ws
 
   data-apart : Apart n D
-  unfolding dataOf
   data-apart =
-      served-once n [] (extend (asked n earlier) [] ws)
+      subst (Apart n) (served-data n earlier ws)
+      (served-once n [] (extend (asked n earlier) [] ws)
       (length-extend (asked n earlier) [] ws ∙ zero-add (length ws) ∙ long) tt
-      (asked-few n earlier [] ws (λ d h. zero-le))
+      (asked-few n earlier [] ws (λ d h. zero-le)))
 
   pub data-length : length D ≡ n
   data-length = data-apart .0

@@ -9,8 +9,8 @@ use Rattle.laws.proofs.All.{List·getD-append, getD-append-seam, take-suc, getD
 use Rattle.laws.proofs.All.{if_then_else_, range, filter, elem, any-append, Whether, so, nay, eqb-is, each-range}
 use Rattle.laws.proofs.All.{each-map, filter-same, getD-map-lt, first-place, first-nowhere}
 use Rattle.table.specs.Rows.{Edge, edge, Rows, edges}
-use Rattle.labels.specs.Labels.{wordsOf, hasWord, carries, given}
-use Rattle.labels.specs.Parts.{rowAt, gave, gaveAt, Worded, Home, Homes, noted}
+use Rattle.labels.specs.Labels.{wordsOf, hasWord, carries, gave, given}
+use Rattle.labels.specs.Parts.{rowAt, gaveAt, Worded, Home, Homes, noted}
 use Rattle.labels.proofs.Columns.{row-entry}
 
 -- ---- what a state gave a word, read off the column

@@ -1,3 +1,4 @@
+pub mod Rising
 pub mod Data
 pub mod Labels
 pub mod Columns

@@ -6,8 +6,8 @@ use Rattle.laws.proofs.All.{_≡_, sym, ap, ap₂, _∙_, true, false, _&&_, Li
 use Rattle.laws.proofs.All.{add-one, arith, lt-ltb, le-ltb, length, getD, take, drop, set, take-append-drop, take-take}
 use Rattle.laws.proofs.All.{take-suc, take-suc-set, take-set-lt, drop-set-lt, slice-cons, if_then_else_, range, first}
 use Rattle.laws.proofs.All.{extend, extend-more, first-filter, first-least, first-range-none}
-use Rattle.labels.specs.Labels.{carries, free, served}
-use Rattle.labels.specs.Parts.{gave}
+use Rattle.labels.specs.Labels.{carries, gave, free}
+use Rattle.labels.specs.Parts.{served}
 
 -- ---- the datum that an edge asks for
 module _ (n : ℕ) (ws : List ℕ) (w : ℕ) (ds : List ℕ) where

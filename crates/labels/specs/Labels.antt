@@ -1,13 +1,13 @@
 -- The data that the edges of a table carry: "State 0 stays. In each later state, in order, an edge first takes the
 -- lowest datum still free there that the lowest earlier state with its word gave that word; edges with no such datum
 -- then take the free data, rising."
--- In order: wordsOf, hasWord, carries, given, what an earlier state gave; free; asked, the first pass over a state's
--- edges; served, the second; dataOf, the data of a state's edges; bearer, relabelledRow, relabelled; Rearranged, the
--- same edges otherwise placed.
+-- In order: wordsOf, hasWord, carries, gave, given, what an earlier state gave; free; asked, the first pass over a
+-- state's edges; answered, the second; dataOf, the data of a state's edges; bearer, relabelledRow, relabelled;
+-- Rearranged, the same edges otherwise placed.
 -- Assumes nothing.
 use mathlib.Core.Path.{_≡_}
 use mathlib.Core.Bool.{Bool, not}
-use mathlib.Core.List.{List, [], _∷_, _++_, map}
+use mathlib.Core.List.{List, [], _∷_, map}
 use Prim.Native.Nat.{ℕ, _<_}
 use lib.Dec.{eqb, ltb}
 use lib.ListN.{length, getD, take, drop}
@@ -27,9 +27,13 @@ hasWord w es = elem w (wordsOf es)
 abbrev pub carries : List ℕ → ℕ → ℕ → Bool
 carries ws w d = eqb (getD ws d 0) w
 
+-- the data below n, rising, that a state whose edges have the words ws gave the word w
+abbrev pub gave : ℕ → List ℕ → ℕ → List ℕ
+gave n ws w = filter (carries ws w) (range n)
+
 -- the data, rising, "that the lowest earlier state with its word gave that word"
 abbrev pub given : Rows → ℕ → List ℕ
-given earlier w = let ws = wordsOf (first (hasWord w) [] earlier) in filter (carries ws w) (range (length ws))
+given earlier w = let ws = wordsOf (first (hasWord w) [] earlier) in gave (length ws) ws w
 
 -- "still free": no edge has the datum d
 abbrev pub free : List ℕ → ℕ → Bool
@@ -39,16 +43,18 @@ free ds d = not (elem d ds)
 abbrev pub asked : ℕ → Rows → List ℕ → ℕ → ℕ
 asked n earlier ds w = first (free ds) n (given earlier w)
 
--- "edges with no such datum then take the free data, rising": edges before have ds, this and later ones asked for xs
-abbrev pub served : ℕ → List ℕ → List ℕ → List ℕ
-served n ds [] = ds
-served n ds (x ∷ xs) =
-    let d = if ltb x n then x else first (free (ds ++ x ∷ xs)) n (range n) in
-    served n (ds ++ d ∷ []) xs
+-- "edges with no such datum then take the free data, rising": the edges asked for xs, and `left` are the data left
+abbrev pub answered : ℕ → List ℕ → List ℕ → List ℕ
+answered n left [] = []
+answered n left (x ∷ xs) =
+    let has = ltb x n in
+    (if has then x else getD left 0 n) ∷ answered n (if has then left else drop 1 left) xs
 
 -- the data of a state's edges, which have the words ws
 unfoldable pub dataOf : ℕ → Rows → List ℕ → List ℕ
-dataOf n earlier ws = served n [] (extend (asked n earlier) [] ws)
+dataOf n earlier ws =
+    let xs = extend (asked n earlier) [] ws in
+    answered n (filter (free xs) (range n)) xs
 
 -- the edge that has the datum d when the edges es have ds
 abbrev pub bearer : List Edge → List ℕ → ℕ → Edge

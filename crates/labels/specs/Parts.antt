@@ -1,29 +1,25 @@
 -- What the parts of giving the data answer, on the arrays that hold a table.
--- In order: rowAt, the entries of a state in a column of the table; gave, gaveAt, the data that it gave a word; Worded,
--- a column that holds a table's words; Home, Homes, for each word the lowest state that has it; noted, its home when a
--- state is added; Reordered, a column of which the entries of one state are otherwise placed.
+-- In order: rowAt, the entries of a state in a column of the table; gaveAt, the data that it gave a word; Worded, a
+-- column that holds a table's words; Home, Homes, for each word the lowest state that has it; noted, its home when a
+-- state is added; served, the second pass; Reordered, a column of which the entries of one state are otherwise placed.
 -- Assumes nothing.
 use mathlib.Core.Path.{_≡_}
 use mathlib.Core.Bool.{true, false, _&&_}
 use mathlib.Core.Logic.{_⊎_}
-use mathlib.Core.List.{List, []}
+use mathlib.Core.List.{List, [], _∷_, _++_}
 use Prim.Native.Nat.{ℕ, _+_, _*_, _≤_, _<_}
 use lib.Dec.{eqb, ltb}
 use lib.ListN.{length, getD, take, drop}
-use Rattle.laws.specs.Lists.{if_then_else_, range, filter, elem, indexOf}
+use Rattle.laws.specs.Lists.{if_then_else_, range, first, elem, indexOf}
 use Rattle.table.specs.Rows.{Rows, edges, at}
 use Rattle.table.specs.Paths.{Full}
-use Rattle.labels.specs.Labels.{hasWord, carries}
+use Rattle.labels.specs.Labels.{hasWord, gave, free}
 
 -- the 16 entries of state s in a column of a table
 abbrev pub rowAt : List ℕ → ℕ → List ℕ
 rowAt column s = take 16 (drop (s * 16) column)
 
--- the data, rising, that the state with these words gave to w
-abbrev pub gave : ℕ → List ℕ → ℕ → List ℕ
-gave n ws w = filter (carries ws w) (range n)
-
--- the same of state h of a column; none where h is no state
+-- the data, rising, that state h of a column gave the word w; none where h is no state
 abbrev pub gaveAt : ℕ → List ℕ → ℕ → ℕ → List ℕ
 gaveAt n column h w = if ltb h 128 then gave n (rowAt column h) w else []
 
@@ -46,6 +42,14 @@ Homes t home = (w : ℕ) → w < 256 → Home t w (getD home w 0)
 -- the home of the word w when state i, whose edges have the words ws, is added
 abbrev pub noted : List ℕ → ℕ → List ℕ → ℕ → ℕ
 noted ws i home w = let h = getD home w 0 in if eqb h 128 && elem w ws then i else h
+
+-- the second pass in place: edges before have ds, this and later ones asked for xs, and an edge with no datum takes the
+-- lowest that no edge has
+abbrev pub served : ℕ → List ℕ → List ℕ → List ℕ
+served n ds [] = ds
+served n ds (x ∷ xs) =
+    let d = if ltb x n then x else first (free (ds ++ x ∷ xs)) n (range n) in
+    served n (ds ++ d ∷ []) xs
 
 -- entry d of state i is now the one whose edge has the datum d, for the n edges of that state; all others stay
 pub record Reordered (n i : ℕ) (ds old column : List ℕ) : Type 0 where

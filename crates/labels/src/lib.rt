@@ -12,8 +12,8 @@ ghost use lib.ListN.{length, getD, take};
 ghost use Rattle.laws.specs.Lists.{range, first, extend, elem, indexOf};
 ghost use Rattle.table.specs.Rows.{Rows};
 ghost use Rattle.finish.specs.Finishing.{rowsOfTable};
-ghost use Rattle.labels.specs.Labels.{carries, free, asked, served, dataOf, relabelled};
-ghost use Rattle.labels.specs.Parts.{rowAt, gave, gaveAt, Worded, Homes, noted, Reordered};
+ghost use Rattle.labels.specs.Labels.{carries, gave, free, asked, dataOf, relabelled};
+ghost use Rattle.labels.specs.Parts.{rowAt, gaveAt, Worded, Homes, noted, served, Reordered};
 
 // The 16 entries of state s.
 fn row_of(column: &[u8; 2048], s: usize) -> [u8; 16]

@@ -43,6 +43,7 @@ pub use Rattle.laws.proofs.Elems.{elem-each, elem-filter, elem-range, i
 pub use Rattle.laws.proofs.Elems.{range-once, times-none, tot-filter-le, →elem-filter}
 pub use Rattle.laws.proofs.Extend.{extend-at, extend-more, extend-start, length-extend}
 pub use Rattle.laws.proofs.Filters.{concat-first, concat-none, filter-first, filter-none, filter-pos}
+pub use Rattle.laws.proofs.Filters.{filter-taken}
 pub use Rattle.laws.proofs.Filters.{filter-some, first-head, pick-range}
 pub use Rattle.laws.proofs.Firsts.{FirstList, first-at, first-image, first-least, first-no, first-none}
 pub use Rattle.laws.proofs.Firsts.{first-nowhere, first-part, first-place, first-union, first-yes, none-lower}

@@ -1,7 +1,8 @@
 -- Lists that a test leaves: when they are empty, their first element, and lists in a row of which few have elements.
--- In order: filter-pos, filter-some; first-head; filter-none, filter-first, concat-none, concat-first; pick-range.
+-- In order: filter-pos, filter-some; first-head; filter-taken; filter-none, filter-first, concat-none, concat-first;
+-- pick-range.
 -- Assumes nothing.
-use mathlib.Core.Path.{_≡_, refl, ap, ap₂, _∙_}
+use mathlib.Core.Path.{_≡_, refl, sym, ap, ap₂, _∙_}
 use mathlib.Core.Bool.{Bool, true, false, _||_}
 use mathlib.Core.List.{List, [], _∷_, _++_, map, append-nil}
 use Prim.Native.Nat.{ℕ, zero, suc, _+_, _≤_, _<_}
@@ -44,6 +45,33 @@ first-head p q d (x ∷ l) t h u = go (p x) (q x) t (h .0) u refl (λ t u. first
     go true false t k u e f = absurd (rw e at u)
     go false true t k u e f = absurd (k tt)
     go false false t k u e f = f t u
+
+-- ---- the numbers from i on by two tests
+module _ (p q : ℕ → Bool) where
+  filter-alike : (i k : ℕ) → ((d : ℕ) → i ≤ d → d < i + k → p d ≡ q d) → filter p (from i k) ≡ filter q (from i k)
+  filter-alike i zero h = refl
+  filter-alike i (suc k) h =
+      ap₂ (λ b r. if b then i ∷ r else r) (h i (omega arith) (omega arith))
+      (filter-alike (suc i) k (λ d a b. h d (omega arith) (omega arith)))
+
+  -- q passes what p passes, but not e, the first of them
+  pub filter-taken : (e : ℕ) → p e ≡ true → q e ≡ false → (i k : ℕ) → i ≤ e → e < i + k
+      → ((d : ℕ) → i ≤ d → d < e → p d ≡ false) → ((d : ℕ) → i ≤ d → d < i + k → (d ≡ e → ⊥) → q d ≡ p d)
+      → filter p (from i k) ≡ e ∷ filter q (from i k)
+  filter-taken e t f i zero a b low same = absurd (omega arith)
+  filter-taken e t f i (suc k) a b low same =
+      go (ℕ-discrete i e)
+      (λ l. filter-taken e t f (suc i) k l (omega arith) (λ d x y. low d (omega arith) y)
+      (λ d x y. same d (omega arith) (omega arith)))
+    where
+      go : Dec (i ≡ e) → (suc i ≤ e → filter p (from (suc i) k) ≡ e ∷ filter q (from (suc i) k))
+          → filter p (from i (suc k)) ≡ e ∷ filter q (from i (suc k))
+      go (yes z) r =
+          rw (z, t, f) (ap (λ l. e ∷ l)
+          (filter-alike (suc e) k (λ d x y. sym (same d (omega arith) (omega arith) (λ v. omega arith)))))
+      go (no z) r =
+          let u : p i ≡ false = low i (omega arith) (omega arith) in
+          rw (u, same i (omega arith) (omega arith) z ∙ u) (r (omega arith))
 
 -- ---- the first of the numbers from i on
 module _ (p : ℕ → Bool) where

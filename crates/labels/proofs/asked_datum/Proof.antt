@@ -2,7 +2,7 @@
 -- Assumes nothing.
 use Rattle.laws.proofs.All.{sym, ap, _∙_, arith, le-refl, now, take, first, needs}
 use Rattle.labels.specs.Labels.{free}
-use Rattle.labels.specs.Parts.{gave}
+use Rattle.labels.specs.Labels.{gave}
 use Rattle.labels.proofs.Homes.{gave-state, gave-none}
 use Rattle.labels.proofs.asked_datum.Statement.{statement}
 use Rattle.labels.proofs.asked_datum.Tie as tie

@@ -2,7 +2,7 @@
 -- Assumes nothing.
 use Rattle.laws.proofs.All.{_≡_, refl, ap, sym, _∙_, ⊎-elim, [], _+_, _-_, _≤_, arith, length, take, drop, length-set}
 use Rattle.laws.proofs.All.{slice-empty, needs}
-use Rattle.labels.specs.Labels.{served}
+use Rattle.labels.specs.Parts.{served}
 use Rattle.labels.proofs.Passes.{serve-kept, serve-put}
 use Rattle.labels.proofs.serve.Statement.{statement}
 use Rattle.labels.proofs.serve.Tie as tie
