@@ -1,4 +1,5 @@
 pub mod Answers
 pub mod Found
+pub mod Follows
 pub mod Damage
 pub mod With

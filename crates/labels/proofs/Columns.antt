@@ -7,10 +7,10 @@ use Rattle.laws.proofs.All.{decLt, T, length, getD, take, drop, set, length-tak
 use Rattle.laws.proofs.All.{length-set, getD-take, getD-drop, getD-set-same, getD-set-other, ext-getD, below-more}
 use Rattle.laws.proofs.All.{ℕ-discrete, range, elem, indexOf, index-lt, Filled, map-range-at, map-range-same, map-map}
 use Rattle.laws.proofs.All.{is-map, min}
-use Rattle.table.specs.Rows.{edge, edges, at}
+use Rattle.table.specs.Rows.{edge, edges, at, wordsOf}
 use Rattle.table.specs.Edges.{Arrays, arrays, edgeOf, rowOf, rowsOf}
 use Rattle.table.proofs.RowsOf.{length-rows, row-at, row-long, edge-at}
-use Rattle.labels.specs.Labels.{wordsOf, bearer}
+use Rattle.labels.specs.Labels.{bearer}
 use Rattle.labels.specs.Parts.{rowAt, Worded, Reordered}
 
 -- ---- the entries of state s

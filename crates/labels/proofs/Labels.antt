@@ -7,10 +7,10 @@ use Rattle.laws.proofs.All.{le-of-suc-le-suc, not-suc-le-zero, arith, T, length
 use Rattle.laws.proofs.All.{length-map, take-append-drop, getD-take, range, elem, indexOf, length-extend, extend-start}
 use Rattle.laws.proofs.All.{extend-at, length-map-range, map-range-at, range-at, length-from, below-at, each-below}
 use Rattle.laws.proofs.All.{each-range, range-once, index-at, index-lt, at-index, once-onto, Below, Once}
-use Rattle.table.specs.Rows.{Edge, edge, Rows, edges, at}
+use Rattle.table.specs.Rows.{Edge, edge, Rows, edges, at, wordsOf}
 use Rattle.table.specs.Paths.{Full}
 use Rattle.finish.proofs.TableOf.{Tabled}
-use Rattle.labels.specs.Labels.{wordsOf, dataOf, bearer, relabelledRow, relabelled, Rearranged}
+use Rattle.labels.specs.Labels.{dataOf, bearer, relabelledRow, relabelled, Rearranged}
 use Rattle.labels.proofs.Data.{data-length, data-below, data-once}
 
 -- ---- one state

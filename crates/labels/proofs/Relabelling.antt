@@ -6,11 +6,11 @@ use Rattle.laws.proofs.All.{_≡_, refl, sym, ap, ap₂, subst, _∙_, List, []
 use Rattle.laws.proofs.All.{_<_, add-one, arith, lit<, T, length, getD, take, drop, set, replicate, length-take-le}
 use Rattle.laws.proofs.All.{take-append-drop, take-all, take-at, take-suc, drop-cons, drop-of-length-le, getD-at}
 use Rattle.laws.proofs.All.{put-at, range, elem, extend-start}
-use Rattle.table.specs.Rows.{Rows, edges}
+use Rattle.table.specs.Rows.{Rows, edges, wordsOf}
 use Rattle.table.specs.Paths.{Full}
 use Rattle.table.specs.Edges.{Arrays, arrays, rowOf, rowsOf}
 use Rattle.table.proofs.RowsOf.{length-rows, row-at, row-long}
-use Rattle.labels.specs.Labels.{wordsOf, dataOf, bearer, relabelledRow, relabelled}
+use Rattle.labels.specs.Labels.{dataOf, bearer, relabelledRow, relabelled}
 use Rattle.labels.specs.Parts.{rowAt, Worded, Homes, noted, Reordered}
 use Rattle.labels.proofs.Data.{data-length, data-onto}
 use Rattle.labels.proofs.Labels.{relabelled-length, labels-rule}

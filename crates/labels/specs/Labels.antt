@@ -1,9 +1,9 @@
 -- The data that the edges of a table carry: "State 0 stays. In each later state, in order, an edge first takes the
 -- lowest datum still free there that the lowest earlier state with its word gave that word; edges with no such datum
 -- then take the free data, rising."
--- In order: wordsOf, hasWord, carries, gave, given, what an earlier state gave; free; asked, the first pass over a
--- state's edges; answered, the second; dataOf, the data of a state's edges; bearer, relabelledRow, relabelled;
--- Rearranged, the same edges otherwise placed.
+-- In order: carries, gave, given, what an earlier state gave; free; asked, the first pass over a state's edges; answered,
+-- the second; dataOf, the data of a state's edges; bearer, relabelledRow, relabelled; Rearranged, the same edges
+-- otherwise placed.
 -- Assumes nothing.
 use mathlib.Core.Path.{_≡_}
 use mathlib.Core.Bool.{Bool, not}
@@ -13,15 +13,7 @@ use lib.Dec.{eqb, ltb}
 use lib.ListN.{length, getD, take, drop}
 use Rattle.laws.specs.Lists.{if_then_else_, range, filter, first, extend, elem, indexOf}
 use Rattle.laws.specs.Sums.{Below, Once}
-use Rattle.table.specs.Rows.{Edge, edge, Rows}
-
--- the words of a state's edges, in the order of their data
-abbrev pub wordsOf : List Edge → List ℕ
-wordsOf es = map (λ e. e .word) es
-
--- an edge of the state has the word w
-abbrev pub hasWord : ℕ → List Edge → Bool
-hasWord w es = elem w (wordsOf es)
+use Rattle.table.specs.Rows.{Edge, edge, Rows, wordsOf, hasWord}
 
 -- datum d of these words goes with the word w
 abbrev pub carries : List ℕ → ℕ → ℕ → Bool

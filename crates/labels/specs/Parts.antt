@@ -11,9 +11,9 @@ use Prim.Native.Nat.{ℕ, _+_, _*_, _≤_, _<_}
 use lib.Dec.{eqb, ltb}
 use lib.ListN.{length, getD, take, drop}
 use Rattle.laws.specs.Lists.{if_then_else_, range, first, elem, indexOf}
-use Rattle.table.specs.Rows.{Rows, edges, at}
+use Rattle.table.specs.Rows.{Rows, edges, at, hasWord}
 use Rattle.table.specs.Paths.{Full}
-use Rattle.labels.specs.Labels.{hasWord, gave, free}
+use Rattle.labels.specs.Labels.{gave, free}
 
 -- the 16 entries of state s in a column of a table
 abbrev pub rowAt : List ℕ → ℕ → List ℕ

@@ -1,16 +1,17 @@
--- The marks in the blocks that decoding gives.
--- In order: markOf, marksIn.
+-- What is said of the marks in the blocks that decoding gives.
+-- In order: marksLine.
 -- Assumes nothing.
 use mathlib.Core.List.{List, [], _∷_}
 use Prim.Native.Nat.{ℕ, _+_}
-use lib.Dec.{eqb}
-use Rattle.laws.specs.Lists.{if_then_else_}
+use lib.ListN.{length}
+use Rattle.laws.specs.Sums.{times}
+use Rattle.sentences.specs.Sentences.{said}
+use Rattle.stepping.specs.Reading.{markBefore, markAhead}
 
--- 1 for the mark 255, 0 for any other block
-unfoldable pub markOf : ℕ → ℕ
-markOf b = if eqb b 255 then 1 else 0
-
--- how many blocks are marked
-unfoldable pub marksIn : List ℕ → ℕ
-marksIn [] = 0
-marksIn (b ∷ bs) = markOf b + marksIn bs
+-- how many of the blocks are marked, and how many with each mark
+abbrev pub marksLine : List ℕ → List ℕ
+marksLine bs =
+    let before = times markBefore bs in
+    let ahead = times markAhead bs in
+    said "sbc: # of # blocks marked: # for the words up to it (254), # for the words ahead (255)\n"
+    ((before + ahead) ∷ length bs ∷ before ∷ ahead ∷ [])

@@ -1,38 +1,64 @@
 // What encoding or decoding came to, written; the marks among decoded blocks are counted and said.
 ghost use mathlib.Core.Path.{_≡_};
 ghost use Prim.Native.Nat.{_≤_};
+ghost use lib.Dec.{eqb};
+ghost use Rattle.laws.specs.Sums.{one, times};
+ghost use Rattle.text.specs.Texts.{Added};
 ghost use Rattle.outputs.specs.Results.{Within};
-ghost use Rattle.marks.specs.Marking.{markOf, marksIn};
+ghost use Rattle.marks.specs.Marking.{marksLine};
 use answer::Answer;
 use arguments::Action;
 use arguments::Status;
 use arguments::Way;
 use arguments::written_place;
-use messages::say_marks;
+use libc::STDERR_FILENO;
 use outputs::finish;
+use sentences::put_sentence;
 
-// 1 for the mark 255, 0 for any other block.
-fn mark(block: u8) -> usize
-    ensures answer { λ r. ⌜ r ≡ markOf block ⌝ }
+// 1 for this mark, 0 for any other block.
+fn is_mark(block: u8, mark: u8) -> usize
+    ensures answer { λ r. ⌜ r ≡ one (eqb mark) block ⌝ }
     ensures past { λ r. ⌜ r ≤ 1 ⌝ }
 {
-    if block == 255 {
+    if mark == block {
         return 1;
     }
     0
 }
 
-// How many blocks are marked.
-fn marks(blocks: &[u8]) -> usize
-    ensures answer { λ r. ⌜ r ≡ marksIn (now (blocks .entry)) ⌝ }
+// How many blocks are this mark.
+fn count_marks(blocks: &[u8], mark: u8) -> usize
+    ensures answer { λ r. ⌜ r ≡ times mark (now (blocks .entry)) ⌝ }
 {
     let mut n: usize = 0;
     let mut i = 0;
     while i < blocks.len() {
-        n += mark(blocks[i]);
+        n += is_mark(blocks[i], mark);
         i += 1;
     }
     n
+}
+
+// How many of the blocks are marked, and how many with each mark.
+fn put_marks(out: &mut [u8], blocks: &[u8]) -> usize
+    ensures written { λ e. ⌜
+        Added (marksLine (now (blocks .entry))) 0 (now (out .entry)) (now (out .exit)) e ⌝ }
+{
+    let before = count_marks(blocks, 254);
+    let ahead = count_marks(blocks, 255);
+    put_sentence(
+        out,
+        0,
+        b"sbc: # of # blocks marked: # for the words up to it (254), # for the words ahead (255)\n",
+        &[before + ahead, blocks.len(), before, ahead],
+    )
+}
+
+// Says how many blocks are marked.
+fn say_marks(blocks: &[u8]) {
+    let mut line = [0u8; 192];
+    let n = put_marks(&mut line, blocks);
+    io::write_all(STDERR_FILENO, &line[..n]);
 }
 
 // Says how many blocks of a decoding are marked.
@@ -43,7 +69,7 @@ fn tell_marks(w: Way, r: Answer, out: &[u8])
         Way::Encode => {}
         Way::Decode => match r {
             Answer::Refused(_) => {}
-            Answer::Done(n) => say_marks(marks(&out[..n]), n),
+            Answer::Done(n) => say_marks(&out[..n]),
         },
     }
 }

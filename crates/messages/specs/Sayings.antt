@@ -1,5 +1,5 @@
--- What the command says of refusals, marks and records.
--- In order: saying, setSaying; marksLine.
+-- What the command says of refusals.
+-- In order: saying, setSaying.
 -- Assumes nothing.
 use mathlib.Core.List.{List, [], _∷_, _++_}
 use Prim.Native.Nat.{ℕ}
@@ -15,7 +15,3 @@ saying r = bytes "sbc: " ++ refusalLine r
 -- what is said of the refusal of a set, with the number of the record
 unfoldable pub setSaying : ℕ → Refusal → List ℕ
 setSaying i r = bytes "sbc: " ++ refusalWords r ++ said ", at record #\n" (i ∷ [])
-
--- how many of n blocks are marked
-abbrev pub marksLine : ℕ → ℕ → List ℕ
-marksLine k n = said "sbc: # of # blocks marked\n" (k ∷ n ∷ [])

@@ -1,7 +1,7 @@
 // What the command says on standard error, and how a run ends that says it.
 ghost use mathlib.Core.Path.{_≡_};
 ghost use Rattle.text.specs.Texts.{Added};
-ghost use Rattle.messages.specs.Sayings.{saying, setSaying, marksLine};
+ghost use Rattle.messages.specs.Sayings.{saying, setSaying};
 ghost use Rattle.arguments.specs.declared.Status.the-variants.{Failed};
 
 pub mod system;
@@ -30,13 +30,6 @@ fn put_set_refusal(out: &mut [u8], i: usize, r: Refusal) -> usize
     put_sentence(out, number, b", at record #\n", &[i])
 }
 
-// How many of n blocks are marked.
-fn put_marks(out: &mut [u8], k: usize, n: usize) -> usize
-    ensures written { λ e. ⌜ Added (marksLine k n) 0 (now (out .entry)) (now (out .exit)) e ⌝ }
-{
-    put_sentence(out, 0, b"sbc: # of # blocks marked\n", &[k, n])
-}
-
 // Says a line; the run fails.
 fn tell(line: &[u8]) -> Status
     ensures answer { λ s. ⌜ s ≡ Failed ⌝ }
@@ -61,13 +54,6 @@ pub fn refuse_set(i: usize, r: Refusal) -> Status
     let mut line = [0u8; 256];
     let n = put_set_refusal(&mut line, i, r);
     tell(&line[..n])
-}
-
-// Says how many of n blocks are marked.
-pub fn say_marks(k: usize, n: usize) {
-    let mut line = [0u8; 128];
-    let size = put_marks(&mut line, k, n);
-    io::write_all(STDERR_FILENO, &line[..size]);
 }
 
 // Says what is wrong with what is named.

@@ -1,13 +1,13 @@
 // One block by the reading rule: the past set, the states that can read the words ahead, and the datum of an edge
-// between them.
+// between them, or the mark that says where there is none.
 ghost use mathlib.Core.Path.{_≡_};
 ghost use Prim.Native.Nat.{_+_, _-_, _≤_, _<_};
 ghost use lib.ListN.{length, getD};
 ghost use Rattle.table.specs.Edges.{borrowed, rowsOf};
-ghost use Rattle.stepping.specs.Reading.{readings, mark, past, block};
+ghost use Rattle.stepping.specs.Reading.{readings, markFor, past, block};
 ghost use Rattle.runs.specs.EdgeRuns.{Laid};
 ghost use Rattle.stepping.specs.StateSets.{statesIn};
-ghost use Rattle.stepping.specs.BlockParts.{joinsAt, under};
+ghost use Rattle.stepping.specs.BlockParts.{joinsAt, noDatum, under};
 use stepping::backs::readers;
 use stepping::steps::EVERY;
 use stepping::steps::step_all;
@@ -23,8 +23,8 @@ fn joins(next: &[u8; 2048], past: &[bool; 128], ahead: &[bool; 128], e: usize) -
     false
 }
 
-// The datum of the first edge with the word w from the one set into the other, or the mark. Runs go from the last edge
-// to the first, so the last one found is the first.
+// The datum of the first edge with the word w from the one set into the other, or 255 where there is none. Runs go from
+// the last edge to the first, so the last one found is the first.
 fn datum_by(
     states: usize,
     n: usize,
@@ -39,7 +39,7 @@ fn datum_by(
     requires { ⌜ Laid (borrowed states n word next) (now start) (now order) ⌝ }
     ensures answer { λ r. ⌜
         r ≡ getD (readings (rowsOf (borrowed states n (word .entry) (next .entry)))
-        (statesIn states (now (past .entry))) w (statesIn states (now (ahead .entry)))) 0 mark ⌝ }
+        (statesIn states (now (past .entry))) w (statesIn states (now (ahead .entry)))) 0 noDatum ⌝ }
 {
     let mut datum: u8 = 255;
     let mut k = start[w as usize] as usize;
@@ -52,6 +52,29 @@ fn datum_by(
         k += 1;
     }
     datum
+}
+
+// The mark of a block that no edge reads: 255 where an edge with the word w leads from the past set to any state, and 254
+// where there is none.
+fn mark_for(
+    states: usize,
+    n: usize,
+    word: &[u8; 2048],
+    next: &[u8; 2048],
+    start: &[u16; 257],
+    order: &[u16; 2048],
+    past: &[bool; 128],
+    w: u8,
+) -> u8
+    requires { ⌜ Laid (borrowed states n word next) (now start) (now order) ⌝ }
+    ensures answer { λ r. ⌜
+        r ≡ markFor (rowsOf (borrowed states n (word .entry) (next .entry))) (statesIn states (now (past .entry))) w ⌝ }
+{
+    let datum = datum_by(states, n, word, next, start, order, past, &EVERY, w);
+    if datum < 16 {
+        return 255;
+    }
+    254
 }
 
 // i less m, and 0 below m.
@@ -152,5 +175,9 @@ pub fn read_block(
         i + 1 + a,
         &mut ahead,
     );
-    datum_by(states, n, word, next, start, order, &past, &ahead, words[i])
+    let datum = datum_by(states, n, word, next, start, order, &past, &ahead, words[i]);
+    if datum < 16 {
+        return datum;
+    }
+    mark_for(states, n, word, next, start, order, &past, words[i])
 }

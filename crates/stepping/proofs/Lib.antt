@@ -1,2 +1,3 @@
 pub mod StateSteps
 pub mod StateWords
+pub mod Readings

@@ -125,8 +125,8 @@ pub record Examples : Type 0 where
   -- E3 blocks 1 0 1 1 under E1 give words 2 3 2 2, and under E2's record 2 2 3 2
   pub e3 : encodeUnder record1 4 (1 ∷ 0 ∷ 1 ∷ 1 ∷ []) ≡ done (2 ∷ 3 ∷ 2 ∷ 2 ∷ [])
   pub e3-old : encodeUnder record2 4 (1 ∷ 0 ∷ 1 ∷ 1 ∷ []) ≡ done (2 ∷ 2 ∷ 3 ∷ 2 ∷ [])
-  -- E4 under E2's record, words 2 3 3 2 decode to 1 1 255 1
-  pub e4 : decodeUnder record2 4 (2 ∷ 3 ∷ 3 ∷ 2 ∷ []) ≡ done (1 ∷ 1 ∷ 255 ∷ 1 ∷ [])
+  -- E4 "under E2's record, is now 1 1 254 1" for words 2 3 3 2
+  pub e4 : decodeUnder record2 4 (2 ∷ 3 ∷ 3 ∷ 2 ∷ []) ≡ done (1 ∷ 1 ∷ 254 ∷ 1 ∷ [])
   -- E5 (0,1), 2 to 3: cap 1 gives refusal 3, cap 2 weights 2, 1
   pub e5-none : compiled 0 1 2 3 1 ≡ refused NoCode
   pub e5-weights : weighed 0 1 2 3 2 ≡ done (2 ∷ 1 ∷ [])

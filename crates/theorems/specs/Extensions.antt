@@ -1,6 +1,7 @@
 -- The theorems of what was asked for after the first delivery, each written out in full as on the main page.
 -- In order: (a) joint, joined-pairs, numbered, too-many-pairs, joined-job, both-obeyed; (b) streams, good-streams,
--- stream-words, stream-returns, bits-reach; (c) labels, labels-rule, labels-hold.
+-- stream-words, stream-returns, bits-reach; (c) labels, labels-rule, labels-hold; (d) marks, no-mark-ahead,
+-- clear-unmarked.
 -- Assumes nothing.
 use mathlib.Core.Path.{_≡_}
 use mathlib.Core.Logic.{_⊎_, _↔_}
@@ -19,9 +20,10 @@ use Rattle.joining.specs.Joined.{pairOf, pairs, joined, Reachable, FirstMet}
 use Rattle.table.specs.Rows.{Rows, edges, Code}
 use Rattle.table.specs.Paths.{Blocks, recording, Full}
 use Rattle.checker.specs.Parse.{parse}
-use Rattle.stepping.specs.Reading.{mark}
+use Rattle.stepping.specs.Reading.{markAhead, block}
 use Rattle.codec.specs.Answers.{encodeUnder, decodeUnder}
-use Rattle.codec.specs.Damage.{SameOutside}
+use Rattle.codec.specs.Follows.{Follows}
+use Rattle.codec.specs.Damage.{StandsClear, SameOutside}
 use Rattle.finish.specs.TableOf.{tableOf}
 use Rattle.labels.specs.Labels.{relabelledRow, relabelled, Rearranged}
 use Rattle.job.specs.Jobs.{Job, Allowed, readJoined, Joins}
@@ -105,7 +107,7 @@ pub bits-reach : (rec : List ℕ) → Below 256 rec → (c : Code) → parse rec
     → l .0 < count * c .q → SameOutside (f .0) (l .0) (bitsOf xs) (bitsOf (packed (c .q) (recording c ds)))
     → (room : ℕ) → length ds ≤ room → (out : List ℕ) × (decodeStream rec count room xs ≡ done out)
     × ((j : BlockNo) → j .0 < length ds → (j .0 < firstBlock (c .q) (c .window .lookahead) (f .0))
-    ⊎ (lastBlock (c .q) (c .window .memory) (l .0) < j .0) → getD out (j .0) mark ≡ getD ds (j .0) 0)
+    ⊎ (lastBlock (c .q) (c .window .memory) (l .0) < j .0) → getD out (j .0) markAhead ≡ getD ds (j .0) 0)
 bits-reach = Rattle.damage.proofs.BitReach.bits-reach
 
 -- ---- (c) One word, one datum where it can be: `relabelled` gives the data of a table afresh. Main's `tableFor` is the
@@ -126,3 +128,25 @@ labels-rule = Rattle.labels.proofs.Labels.labels-rule
 pub labels-hold : (j : Job) → Allowed j → 0 < sum (componentOf j .weights) → length (finishedOf j .arcs) ≤ 2048
     → Full (ways j) (tableOf (ways j) (finishedOf j))
 labels-hold = Rattle.compiler.proofs.Accepted.labelled-full
+
+-- ---- (d) Two marks: a block that cannot be read shows whether what went before is at fault, 254, or the words ahead,
+-- 255. `decodes` and `stream-words` say that block j of a decoding is `block c L j`.
+
+-- 254 exactly where no path reads the words up to a block, 255 where one does but none those ahead too, else a datum.
+pub marks : (rec : List ℕ) → Below 256 rec → (c : Code) → parse rec ≡ done c → (L : List ℕ) (j : ℕ)
+    → j + c .window .lookahead < length L → ((block c L j ≡ 254) ↔ (Follows c L j 0 → ⊥))
+    × ((block c L j ≡ 255) ↔ (Follows c L j 0 × (Follows c L j (c .window .lookahead) → ⊥)))
+    × ((block c L j < 2 ^ c .p) ↔ Follows c L j (c .window .lookahead))
+marks = Rattle.codec.proofs.Marked.marks
+
+-- With lookahead 0 the mark 255 never comes.
+pub no-mark-ahead : (rec : List ℕ) → Below 256 rec → (c : Code) → parse rec ≡ done c → c .window .lookahead ≡ 0
+    → (L : List ℕ) (j : ℕ) → j < length L → block c L j ≡ 255 → ⊥
+no-mark-ahead = Rattle.codec.proofs.Marked.no-mark-ahead
+
+-- Blocks that stand clear of damage show neither mark.
+pub clear-unmarked : (rec : List ℕ) → Below 256 rec → (c : Code) → parse rec ≡ done c → (ds L : List ℕ) (room : ℕ)
+    → Blocks c ds → Below (2 ^ c .q) L → (out : List ℕ) → decodeUnder rec room L ≡ done out → (i j : ℕ)
+    → i < length ds → StandsClear c (recording c ds) L i j
+    → (getD out j 254 ≡ getD ds i 0) × (getD out j 254 < 16)
+clear-unmarked = Rattle.codec.proofs.Marked.clear-unmarked

@@ -25,7 +25,7 @@ use Rattle.windows.specs.Window.{Window, NoLater}
 use Rattle.obeying.specs.Obeys.{Obeys, Breaks}
 use Rattle.record.specs.Layout.{pack}
 use Rattle.checker.specs.Parse.{parse, judged, checkedOnly}
-use Rattle.stepping.specs.Reading.{mark, block, decode}
+use Rattle.stepping.specs.Reading.{markAhead, block, decode}
 use Rattle.codec.specs.Answers.{encodeUnder, decodeUnder, encodeChecked, decodeChecked}
 use Rattle.codec.specs.With.{encodedWith, decodedWith}
 use Rattle.codec.specs.Found.{found}
@@ -170,14 +170,14 @@ one-datum = Rattle.codec.proofs.Reach.only-datum
 pub demand-3 : (rec : List ℕ) → Below 256 rec → (c : Code) → parse rec ≡ done c → (ds L : List ℕ) (room : ℕ)
     → Blocks c ds → Below (2 ^ c .q) L → c .window .lookahead ≤ length L → length L - c .window .lookahead ≤ room
     → (out : List ℕ) × (decodeUnder rec room L ≡ done out)
-    × ((i j : ℕ) → i < length ds → StandsClear c (recording c ds) L i j → getD out j mark ≡ getD ds i 0)
+    × ((i j : ℕ) → i < length ds → StandsClear c (recording c ds) L i j → getD out j markAhead ≡ getD ds i 0)
 demand-3 = Rattle.codec.proofs.Promises.demand-3
 
 -- If L and the recording differ in no word outside x to y, blocks outside x − a to y + m come out as written.
 pub reach : (rec : List ℕ) → Below 256 rec → (c : Code) → parse rec ≡ done c → (ds L : List ℕ) → Blocks c ds
     → Below (2 ^ c .q) L → (x y room : ℕ) → SameOutside x y L (recording c ds) → length ds ≤ room
     → (out : List ℕ) × (decodeUnder rec room L ≡ done out) × ((j : ℕ) → j < length ds
-    → (j < x - c .window .lookahead) ⊎ (y + c .window .memory < j) → getD out j mark ≡ getD ds j 0)
+    → (j < x - c .window .lookahead) ⊎ (y + c .window .memory < j) → getD out j markAhead ≡ getD ds j 0)
 reach = Rattle.codec.proofs.Reach.words-reach
 
 -- The reading of a block depends on its window alone: on words j − m to j + a, and below m on words 0 to j + a.
