@@ -57,8 +57,11 @@ enum {
     SBC_INFO = 7,
     /* Room for the words of every refusal. */
     SBC_PHRASE_MAX = 60,
-    /* The block that stands where no edge reads the words; no datum has this value. */
-    SBC_MARK = 255,
+    /* The blocks that stand where no edge reads the words; no datum has these values. The first: the words up to and
+     * with the block's own are no path through the code, so this word or one before it is bad. The second: they are
+     * one, but not with the a words ahead, so one of all these is bad. With lookahead 0 the second never comes. */
+    SBC_MARK_BEFORE = 254,
+    SBC_MARK_AHEAD = 255,
     /* The longest job: p, q, cap, K, and two bytes for each of 16 states. */
     SBC_JOB_MAX = 4 + 2 * 16,
     /* A run-length job: d, k, p, q, cap. */
@@ -134,10 +137,11 @@ uint64_t sbc_encode(const uint8_t *record, uint64_t record_length, const uint8_t
 
 /* Reads words under a record by its window.
  * words: one byte each, below 2^q. Words that no recording has are read too.
- * out: one block a byte, a fewer than there are words; SBC_MARK where no edge reads the words. It lies apart from
- * record and words.
- * A bad word at i can spoil blocks i - a to i + m and no others: that is what is promised. A spoiled block may be wrong
- * without SBC_MARK: marks are a hint, and no mark is no promise. Put a checksum over the data.
+ * out: one block a byte, a fewer than there are words; SBC_MARK_BEFORE or SBC_MARK_AHEAD where no edge reads the
+ * words. It lies apart from record and words.
+ * A bad word at i can spoil blocks i - a to i + m and no others: that is what is promised. Blocks out of this reach show
+ * neither mark. A spoiled block may be wrong without a mark: marks are a hint, and no mark is no promise. Put a checksum
+ * over the data.
  * Answers how many blocks were written.
  * Refusals in order: those of sbc_check; 12; 13; 11 with the place of the first bad word. */
 uint64_t sbc_decode(const uint8_t *record, uint64_t record_length, const uint8_t *words, uint64_t words_length,
@@ -176,8 +180,8 @@ uint64_t sbc_encode_stream(const uint8_t *record, uint64_t record_length, const 
  * for the words: they are unpacked in parts.
  * count: how many words the stream has, closing words included, up to SBC_WORDS_MAX.
  * stream: SBC_STREAM_SIZE(q, count) bytes.
- * out: one block a byte, a fewer than there are words; SBC_MARK where no edge reads the words. It lies apart from
- * record and stream.
+ * out: one block a byte, a fewer than there are words; SBC_MARK_BEFORE or SBC_MARK_AHEAD where no edge reads the
+ * words. It lies apart from record and stream.
  * Overwriting channel bits f to l, counted from 0, can spoil blocks f / q - a (0 if negative) to l / q + m, quotients
  * rounded down, and no others. Bits that are lost or added shift all that follow: nothing is promised of them.
  * Answers how many blocks were written.
@@ -234,7 +238,7 @@ uint64_t sbc_listing(const uint8_t *job, uint64_t job_length, uint8_t *out, uint
 uint64_t sbc_phrase(uint64_t refusal, uint8_t *out, uint64_t out_length);
 
 /* The version of the library, and no answer: 10,000 times the major number, plus 100 times the minor number, plus the
- * patch. 10100 is 1.1.0. */
+ * patch. 10200 is 1.2.0. */
 uint64_t sbc_version(void);
 
 #ifdef __cplusplus

@@ -72,13 +72,16 @@ impl Chains {
             self.each(w, |e, y| to[e / 16] |= ahead[y]);
             ahead = to;
         }
-        let mut datum = 255;
+        let (mut mark, mut datum) = (254, None);
         self.each(words[i], |e, y| {
-            if past[e / 16] && ahead[y] {
-                datum = (e % 16) as u8;
+            if past[e / 16] {
+                mark = 255;
+                if ahead[y] {
+                    datum = Some((e % 16) as u8);
+                }
             }
         });
-        datum
+        datum.unwrap_or(mark)
     }
 
     /// The blocks of words, which are long enough and below 2^q.

@@ -1,4 +1,5 @@
 //! Random calls, good and bad, of the proved library and of the outside implementation.
+use crate::speed::{E2, LISTED_FIRST};
 use crate::{library, streams};
 use reference::answer::Answer;
 use std::time::{Duration, Instant};
@@ -23,11 +24,12 @@ impl Numbers {
     }
 }
 
-/// Records of some run-length jobs, with their p and q.
+/// Records of some run-length jobs, and two with memory, with their p and q.
 fn records() -> Vec<(Vec<u8>, usize, usize)> {
     let jobs = [[0, 1, 1, 2, 1], [0, 1, 2, 3, 2], [1, 3, 1, 2, 1], [1, 7, 2, 3, 2], [2, 7, 1, 2, 4], [0, 2, 3, 4, 3]];
     let record = |job: &[u8; 5]| reference::calls::compile_run_length(job, 65535).output;
-    jobs.iter().map(|job| (record(job), usize::from(job[2]), usize::from(job[3]))).collect()
+    let compiled = jobs.iter().map(|job| (record(job), usize::from(job[2]), usize::from(job[3])));
+    compiled.chain([(E2.to_vec(), 1, 2), (LISTED_FIRST.to_vec(), 2, 3)]).collect()
 }
 
 /// Bytes with some bits turned, or cut, or lengthened.
@@ -106,7 +108,7 @@ fn encode(numbers: &mut Numbers, record: &[u8], p: usize) -> u64 {
     ours.0
 }
 
-fn decode(numbers: &mut Numbers, record: &[u8], p: usize, q: usize) -> u64 {
+fn decode(numbers: &mut Numbers, record: &[u8], (p, q): (usize, usize), marks: &mut [u64; 2]) -> u64 {
     let blocks: Vec<u8> = (0..numbers.below(40)).map(|_| numbers.below(1 << p) as u8).collect();
     let mut words = reference::calls::encode(record, &blocks, 100).output;
     words = damaged(numbers, &words);
@@ -120,6 +122,7 @@ fn decode(numbers: &mut Numbers, record: &[u8], p: usize, q: usize) -> u64 {
     let ours = library::decode(record, &words, &mut out);
     same_if_accepted("decode", (ours, &out), (checked, &again));
     agree("decode", &words, ours, &out, &theirs);
+    theirs.output.iter().filter(|&&block| block >= 254).for_each(|block| marks[usize::from(block - 254)] += 1);
     ours.0
 }
 
@@ -185,7 +188,7 @@ pub fn for_seconds(seconds: u64) {
     streams::limits(&records[0].0, 0);
     streams::limits(&records[1].0, 1);
     let end = Instant::now() + Duration::from_secs(seconds);
-    let mut answers = [0u64; 16];
+    let (mut answers, mut marks) = ([0u64; 16], [0u64; 2]);
     while Instant::now() < end {
         let (record, p, q) = &records[numbers.below(records.len())];
         let bytes = if numbers.below(8) == 0 { damaged(&mut numbers, record) } else { record.clone() };
@@ -197,9 +200,10 @@ pub fn for_seconds(seconds: u64) {
             3 => compile(&mut numbers),
             0 => check(&damaged(&mut numbers, record)),
             1 => encode(&mut numbers, &bytes, *p),
-            _ => decode(&mut numbers, &bytes, *p, *q),
+            _ => decode(&mut numbers, &bytes, (*p, *q), &mut marks),
         };
         answers[refusal as usize] += 1;
     }
     println!("{} calls, no difference; answers by number: {answers:?}", answers.iter().sum::<u64>());
+    println!("{} decoded blocks marked 254, {} marked 255", marks[0], marks[1]);
 }

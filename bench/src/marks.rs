@@ -5,8 +5,8 @@ use reference::vectors::random::Random;
 
 const BLOCKS: usize = 200;
 
-/// The marks of a decoder are 255, which is no datum.
-const MARK: u8 = 255;
+/// The marks of a decoder, which are no data: for the words up to the block, and for the words ahead.
+const MARKS: [u8; 2] = [254, 255];
 
 /// What flipping each bit of one recording came to.
 #[derive(Default)]
@@ -14,17 +14,20 @@ struct Tally {
     cases: usize,
     right: usize,
     marked: usize,
+    before: usize,
+    ahead: usize,
     unmarked: usize,
 }
 
 /// Prints a line for each record of the folder.
 pub fn all(folder: &str) {
-    println!("| Record | Bits flipped, one at a time | Data right | Wrong, some block marked | Wrong, no block marked |");
-    println!("|---|---|---|---|---|");
+    println!("| Record | Bits flipped, one at a time | Data right | Wrong, some block marked | some 254 | some 255 | Wrong, no block marked |");
+    println!("|---|---|---|---|---|---|---|");
     for name in ["listed-0-1", "listed-first-0-1", "mfm-1-3", "ach-2-7", "ahm-1-7", "ibm-2-7", "xerox-2-7"] {
         let bytes = std::fs::read(format!("{folder}/{name}.sbc")).expect(name);
         let t = flipped(&bytes);
-        println!("| `{name}.sbc` | {} | {} | {} | {} |", t.cases, t.right, t.marked, t.unmarked);
+        print!("| `{name}.sbc` | {} | {} | {} ", t.cases, t.right, t.marked);
+        println!("| {} | {} | {} |", t.before, t.ahead, t.unmarked);
     }
 }
 
@@ -44,7 +47,10 @@ fn flipped(bytes: &[u8]) -> Tally {
             let wrong: Vec<usize> = (0..BLOCKS).filter(|&block| blocks[block] != data[block]).collect();
             assert!(wrong.iter().all(|block| (word.saturating_sub(record.a)..=word + record.m).contains(block)));
             tally.cases += 1;
-            match (wrong.is_empty(), blocks.contains(&MARK)) {
+            let [before, ahead] = MARKS.map(|mark| blocks.contains(&mark));
+            tally.before += usize::from(before);
+            tally.ahead += usize::from(ahead);
+            match (wrong.is_empty(), before || ahead) {
                 (true, _) => tally.right += 1,
                 (false, true) => tally.marked += 1,
                 (false, false) => tally.unmarked += 1,

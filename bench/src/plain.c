@@ -60,11 +60,15 @@ static uint8_t block(const table *t, size_t n, const uint8_t *words, size_t i) {
         back(t, n, words[k], ahead, other);
         memcpy(ahead, other, t->states);
     }
+    uint8_t mark = 254;
     for (size_t s = 0; s < t->states; s++)
         if (past[s])
             for (size_t d = 0; d < n; d++)
-                if (t->word[s * 16 + d] == words[i] && ahead[t->next[s * 16 + d]]) return (uint8_t)d;
-    return 255;
+                if (t->word[s * 16 + d] == words[i]) {
+                    if (ahead[t->next[s * 16 + d]]) return (uint8_t)d;
+                    mark = 255;
+                }
+    return mark;
 }
 
 size_t plain_decode(const table *t, const uint8_t *words, size_t count, uint8_t *out) {

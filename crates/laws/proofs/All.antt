@@ -40,7 +40,7 @@ pub use Rattle.laws.proofs.Anys.{each-range, each-union}
 pub use Rattle.laws.proofs.Arrays.{Filled, fill-more, fill-none, map-more, put-at, put-more, take-is, take-same}
 pub use Rattle.laws.proofs.Elems.{all-each, all-of, at-index, each-at, each-below, each-elem, elem-below}
 pub use Rattle.laws.proofs.Elems.{elem-each, elem-filter, elem-range, index-at, index-lt, not-all, once-more}
-pub use Rattle.laws.proofs.Elems.{range-once, times-none, tot-filter-le, →elem-filter}
+pub use Rattle.laws.proofs.Elems.{range-once, times-none, times-two, tot-filter-le, →elem-filter}
 pub use Rattle.laws.proofs.Extend.{extend-at, extend-more, extend-start, length-extend}
 pub use Rattle.laws.proofs.Filters.{concat-first, concat-none, filter-first, filter-none, filter-pos}
 pub use Rattle.laws.proofs.Filters.{filter-taken}

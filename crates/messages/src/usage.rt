@@ -114,8 +114,9 @@ byte each. N blocks give N + a words. At most 1,000,000 blocks. Only one of RECO
             file,
             b"usage: sbc decode RECORD WORDS OUT
 Decodes the words in WORDS, one byte each and below 2^q, under the record in RECORD, and writes the blocks to OUT, one
-byte each. W words give W - a blocks. A block that cannot be read is the mark 255; how many there are is said on
-standard error. At most 1,000,015 words. Only one of RECORD and WORDS can be -.
+byte each. W words give W - a blocks. A block that cannot be read is a mark: 254 where the words up to it are no path
+through the code, 255 where they are one, but not with the words ahead. How many there are of each is said on standard
+error. At most 1,000,015 words. Only one of RECORD and WORDS can be -.
 ",
         ),
     }
@@ -136,8 +137,8 @@ bit stream, as pack does. N blocks give N + a words. At most 1,000,000 words. On
             b"usage: sbc decode-stream RECORD COUNT STREAM OUT
 Decodes the COUNT words of the bit stream in STREAM under the record in RECORD, and writes the blocks to OUT, one byte
 each. COUNT counts the closing words too: N blocks were recorded as N + a words. STREAM is as for unpack. A block that
-cannot be read is the mark 255; how many there are is said on standard error. At most 1,000,000 words. Only one of
-RECORD and STREAM can be -.
+cannot be read is a mark, 254 or 255, as for decode; how many there are of each is said on standard error. At most
+1,000,000 words. Only one of RECORD and STREAM can be -.
 ",
         ),
     }
@@ -225,5 +226,5 @@ pub fn print_use(a: Action) -> Status
 pub fn print_version() -> Status
     ensures past { λ s. ⌜ statusOf s ≤ 1 ⌝ }
 {
-    print(b"sbc 1.1\n")
+    print(b"sbc 1.2\n")
 }
