@@ -5,8 +5,8 @@ use Rattle.outputs.proofs.Results.{front-long}
 use Rattle.marks.proofs.tell_marks.Statement.{statement}
 use Rattle.marks.proofs.tell_marks.Tie as tie
 
-slice-aggregate-marks : tie.Need-slice-aggregate-marks
-slice-aggregate-marks c =
+slice-aggregate-say-marks : tie.Need-slice-aggregate-say-marks
+slice-aggregate-say-marks c =
     let n = c .before .before .r in
     let start = c .before .before .before .before .before .before .before in
     let out = now (start .args .out) in
@@ -21,8 +21,7 @@ tell-marks-spec =
     (λ c. search needs)
     (λ c. search needs)
     (λ c. search needs)
-    slice-aggregate-marks
-    (λ c κs. search needs)
+    slice-aggregate-say-marks
     (λ c κs. search needs)
     (λ c. search needs)
     (λ c. search needs)
