@@ -51,8 +51,9 @@ pub use Rattle.laws.proofs.Grids.{grid→, grow-sub, missing-le, rests,
 unfoldable pub use Rattle.laws.proofs.Grids.{missing}
 pub use Rattle.laws.proofs.Indexes.{index-elem, index-end, index-free, index-here, index-later}
 pub use Rattle.laws.proofs.Lists.{below-all, below-append, below-at, below-drop, below-take, below-zeros}
-pub use Rattle.laws.proofs.Lists.{drop-min, drop-take, getD-any, getD-padded, length-repeat, sum-append}
-pub use Rattle.laws.proofs.Lists.{sum-repeat, sum-replicate, take-replicate, take-rest}
+pub use Rattle.laws.proofs.Lists.{drop-min, drop-take, getD-any, getD-padded, head-none, head-some}
+pub use Rattle.laws.proofs.Lists.{length-repeat, sum-append, sum-repeat, sum-replicate, take-replicate}
+pub use Rattle.laws.proofs.Lists.{take-rest}
 pub use Rattle.laws.proofs.Maps.{all-filter, filter-append, filter-both, filter-concat, filter-filter}
 pub use Rattle.laws.proofs.Maps.{filter-fuse, filter-map, filter-never, filter-same, first-filter}
 pub use Rattle.laws.proofs.Maps.{map-append, map-concat, map-drop, map-each, map-map, map-take}

@@ -1,10 +1,10 @@
 -- The readings of a block, edge by edge.
--- In order: readings→, →readings; some→, →some: an edge with the word is a reading with no words ahead; readings-below.
+-- In order: readings→, →readings, readings-below; some→, →some, a block with no words ahead.
 -- Assumes nothing.
-use Rattle.laws.proofs.All.{_≡_, subst, Bool, true, _&&_, List, ℕ, _≤_, _<_, arith, T, eqb, eqb→eq, eqb-refl, length}
-use Rattle.laws.proofs.All.{range, any, elem, and→, →and, any→, →any, any-below→, →any-below, →tab, member, any-map}
-use Rattle.laws.proofs.All.{any-concat, elem-filter, →elem-filter, elem-range, Below, each-below, each-elem, each-map}
-use Rattle.table.specs.Rows.{Edge, edge, Rows, edges, at, hasWord}
+use Rattle.laws.proofs.All.{subst, Bool, true, _&&_, List, ℕ, _≤_, _<_, arith, T, eqb, eqb→eq, eqb-refl, length}
+use Rattle.laws.proofs.All.{range, elem, and→, →and, any→, →any, any-below→, →any-below, →tab, member, any-map, any-concat}
+use Rattle.laws.proofs.All.{elem-filter, →elem-filter, elem-range, Below, each-below, each-elem, each-map}
+use Rattle.table.specs.Rows.{edge, Rows, edges, at, hasWord}
 use Rattle.table.specs.Paths.{Closed}
 use Rattle.stepping.specs.StateSets.{everyState, enters}
 use Rattle.stepping.specs.Reading.{readingsOf, readings, someEdge}
@@ -31,21 +31,22 @@ module _ (g : Rows) (S : List Bool) (w : ℕ) where
     -- a reading is below the number of a state's edges
     pub readings-below : (n : ℕ) → ((s : ℕ) → s < length g → length (edges g s) ≤ n) → Below n (readings g S w A)
     readings-below n h =
-        each-below n (readings g S w A) (each-map _ _
+        each-below n (readings g S w A) (each-map (λ d. T (elem d (readings g S w A))) (λ d. d < n)
         (λ d t. let (s, i, m, l, e) = readings→ d t in omega (arith, h s i)) (readings g S w A)
         (each-elem (readings g S w A)))
 
   -- ---- an edge from S with the word w, wherever it leads
   pub some→ : Closed g → T (someEdge g S w) → (d : ℕ) × T (elem d (readings g S w (everyState g)))
   some→ closed h =
-      let (s, n, u) = any-below→ (λ s. member S s && hasWord w (edges g s)) (length g) h in
-      let (m, k) = and→ (member S s) (hasWord w (edges g s)) u in
-      let (d, l, e) = any→ (λ e. eqb w (e .word)) (edge 0 0) (edges g s) (simp any-map at k) in
-      (
+      let (s, n, u) = any-below→ _ (length g) h in
+      let (m, k) = and→ (member S s) _ u in
+      let q : T (hasWord w (edges g s)) = k in
+      let (d, l, e) = any→ (λ e. eqb w (e .word)) (edge 0 0) (edges g s)
+      (subst T (any-map (eqb w) (λ e. e .word) (edges g s)) q) in (
         d,
         →readings (everyState g) s d n m l
             (→and (eqb (at g s d .word) w) (member (everyState g) (at g s d .next))
-            (rw (eqb→eq w (at g s d .word) e) (eqb-refl (at g s d .word)))
+            (subst (λ x. T (eqb x w)) (eqb→eq w (at g s d .word) e) (eqb-refl w))
             (→tab (λ s. true) (length g) (at g s d .next) (closed s d l) tt)),
       )
 
@@ -53,7 +54,6 @@ module _ (g : Rows) (S : List Bool) (w : ℕ) where
   →some d h =
       let (s, n, m, l, e) = readings→ (everyState g) d h in
       let (k, _) = and→ (eqb (at g s d .word) w) (member (everyState g) (at g s d .next)) e in
-      →any-below (λ s. member S s && hasWord w (edges g s)) (length g) s n
-      (→and (member S s) (hasWord w (edges g s)) m
+      →any-below _ (length g) s n (→and (member S s) (hasWord w (edges g s)) m
       (simp any-map (→any (λ e. eqb w (e .word)) (edge 0 0) (edges g s) d l
       (rw (eqb→eq (at g s d .word) w k) (eqb-refl w)))))
