@@ -1,9 +1,9 @@
 -- The data that the edges of a table carry: "State 0 stays. In each later state, in order, an edge first takes the
 -- lowest datum still free there that the lowest earlier state with its word gave that word; edges with no such datum
 -- then take the free data, rising."
--- In order: carries, gave, given, what an earlier state gave; free; asked, the first pass over a state's edges; answered,
--- the second; dataOf, the data of a state's edges; bearer, relabelledRow, relabelled; Rearranged, the same edges
--- otherwise placed.
+-- In order: carries, gave, given, what an earlier state gave; free; asked, the first pass over a state's edges;
+-- answered, the second; dataOf, the data of a state's edges; bearer, relabelledRow, relabelled; Rearranged, the same
+-- edges otherwise placed.
 -- Assumes nothing.
 use mathlib.Core.Path.{_≡_}
 use mathlib.Core.Bool.{Bool, not}

@@ -10,9 +10,9 @@ use Rattle.table.specs.Edges.{Arrays, rowsOf, places, wordOf, nextOf, Fits, bea
 use Rattle.table.proofs.Edges.{bears-edge}
 use Rattle.table.proofs.RowsOf.{length-rows, row-long, edge-at, place, place-state, place-lt, place-edge, place-next}
 use Rattle.stepping.specs.StateSets.{enters}
-use Rattle.stepping.specs.Reading.{readingsOf, readings, mark}
+use Rattle.stepping.specs.Reading.{readingsOf, readings}
 use Rattle.stepping.specs.StateSets.{statesIn}
-use Rattle.stepping.specs.BlockParts.{joinsAt}
+use Rattle.stepping.specs.BlockParts.{joinsAt, noDatum}
 use Rattle.stepping.proofs.StateSteps.{member-states}
 
 -- the edge e has the word w and leads from P into A
@@ -29,10 +29,10 @@ module _ (t : Arrays) (P A : List Bool) (w e : ℕ) where
   pub read-only : bears t w e ≡ false → readsAt t P A w e ≡ false
   read-only b = ap (λ x. x && joinsAt (t .next) P A e) b
 
--- ---- v is the datum of the first place from c on, and below n, that passes; the mark where none does
+-- ---- v is the datum of the first place from c on, and below n, that passes; noDatum where none does
 abbrev pub FirstFrom : (ℕ → Bool) → ℕ → ℕ → ℕ → Type 0
 FirstFrom f n c v =
-    ((v ≡ mark) × ((e : ℕ) → c ≤ e → e < n → f e ≡ false))
+    ((v ≡ noDatum) × ((e : ℕ) → c ≤ e → e < n → f e ≡ false))
     ⊎ ((e : ℕ) × (c ≤ e) × (e < n) × (f e ≡ true) × (v ≡ e % 16) × ((j : ℕ) → c ≤ j → j < e → f j ≡ false))
 
 module _ (f : ℕ → Bool) (n : ℕ) where
@@ -95,9 +95,9 @@ module _ (t : Arrays) (g : Fits t) (P A : List Bool) (w : ℕ) where
       (λ j a b. read-at s j hs (omega arith) ∙ h j b)
 
   pub first-reading : (v : ℕ) → FirstFrom (readsAt t P A w) (places t) 0 v
-      → v ≡ getD (readings (rowsOf t) S w B) 0 mark
+      → v ≡ getD (readings (rowsOf t) S w B) 0 noDatum
   first-reading v (inl (q, h)) =
-      q ∙ sym (ap (λ l. getD l 0 mark) (concat-none (readingsOf (rowsOf t) S w B) 0 (length (rowsOf t))
+      q ∙ sym (ap (λ l. getD l 0 noDatum) (concat-none (readingsOf (rowsOf t) S w B) 0 (length (rowsOf t))
       (λ s a b. let hs : s < t .states = omega (arith, length-rows t) in
       row-none s hs (λ d hd. h (s * 16 + d) (omega arith) (place-lt t s d g hs hd)))))
   first-reading v (inr (e, a, b, p, q, h)) =
@@ -109,7 +109,7 @@ module _ (t : Arrays) (g : Fits t) (P A : List Bool) (w : ℕ) where
       let (y, x) = concat-first (readingsOf (rowsOf t) S w B) 0 (length (rowsOf t)) (e / 16) (e % 16) r (omega arith)
       (omega (arith, length-rows t)) z
       (λ s u l. row-none s (omega arith) (λ d m. h (s * 16 + d) (omega arith) (omega (arith, g .narrow)))) in
-      q ∙ sym (ap (λ l. getD l 0 mark) x)
+      q ∙ sym (ap (λ l. getD l 0 noDatum) x)
     where
       front : (x y : Bool) → (x && y) ≡ true → x ≡ true
       front true y h = refl

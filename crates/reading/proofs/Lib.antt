@@ -1,3 +1,4 @@
 pub mod FirstReading
 pub mod FirstTurns
+pub mod DatumOrMark
 pub mod Windowed

@@ -54,8 +54,8 @@ fn datum_by(
     datum
 }
 
-// The mark of a block that no edge reads: 255 where an edge with the word w leads from the past set to any state, and 254
-// where there is none.
+// The mark of a block that no edge reads: 255 where an edge with the word w leads from the past set to any state, and
+// 254 where there is none.
 fn mark_for(
     states: usize,
     n: usize,

@@ -2,8 +2,8 @@
 -- In order: readings→, →readings, readings-below; some→, →some, a block with no words ahead.
 -- Assumes nothing.
 use Rattle.laws.proofs.All.{subst, Bool, true, _&&_, List, ℕ, _≤_, _<_, arith, T, eqb, eqb→eq, eqb-refl, length}
-use Rattle.laws.proofs.All.{range, elem, and→, →and, any→, →any, any-below→, →any-below, →tab, member, any-map, any-concat}
-use Rattle.laws.proofs.All.{elem-filter, →elem-filter, elem-range, Below, each-below, each-elem, each-map}
+use Rattle.laws.proofs.All.{range, elem, and→, →and, any→, →any, any-below→, →any-below, →tab, member, any-map}
+use Rattle.laws.proofs.All.{any-concat, elem-filter, →elem-filter, elem-range, Below, each-below, each-elem, each-map}
 use Rattle.table.specs.Rows.{edge, Rows, edges, at, hasWord}
 use Rattle.table.specs.Paths.{Closed}
 use Rattle.stepping.specs.StateSets.{everyState, enters}
