@@ -1,9 +1,9 @@
 -- Demand 2, second half, of the outcomes of encoding and decoding under a code: round trip, and recordings recognised.
--- In order: words-below; →encoded, encoded→, →decoded; returns; recognised-answers.
+-- In order: →encoded, encoded→, →decoded, decoded→; words-below; returns; recognised-answers.
 -- Assumes nothing.
 use Rattle.laws.proofs.All.{_≡_, sym, ap, subst, _∙_, _↔_, List, _++_, ℕ, _+_, _-_, _^_, _≤_, arith, leb, leb→le}
 use Rattle.laws.proofs.All.{le-leb, length, Below}
-use Rattle.answer.specs.declared.Refusal.the-variants.{ShortOutput}
+use Rattle.answer.specs.declared.Refusal.the-variants.{TooFewWords, ShortOutput}
 use Rattle.answer.specs.Outcomes.{done, unless}
 use Rattle.answer.specs.FirstBad.{allBelow}
 use Rattle.answer.proofs.FirstBad.{allBelow-true, allBelow→}
@@ -45,6 +45,16 @@ module _ (c : Code) where
   →decoded room ws l h b =
       rw (le-leb (c .window .lookahead) (length ws) l, le-leb (length ws - c .window .lookahead) room h)
       (allBelow-true (2 ^ c .q) ws (decode c ws) b)
+
+  pub decoded→ : (room : ℕ) (ws xs : List ℕ) → decoded c room ws ≡ done xs → decode c ws ≡ xs
+  unfolding decoded
+  decoded→ room ws xs e =
+      let a = c .window .lookahead in
+      let last = allBelow (2 ^ c .q) ws (decode c ws) in
+      let (_, e′) =
+      unless→ TooFewWords (leb a (length ws)) (unless ShortOutput (leb (length ws - a) room) last) xs e in
+      let (_, e″) = unless→ ShortOutput (leb (length ws - a) room) last xs e′ in
+      allBelow→ (2 ^ c .q) ws (decode c ws) xs e″ .1
 
 -- ---- under an accepted table
 module _ (c : Code) (f : Formed c) (w : Window (c .table) (c .window)) where

@@ -1,7 +1,7 @@
 -- A block that stands clear is read as it was recorded, whatever the rest of the list holds.
 -- In order: closed-blocks, recovered.
 -- Assumes nothing.
-use Rattle.laws.proofs.All.{_≡_, refl, sym, ap, _∙_, inl, inr, List, _++_, ℕ, _+_, _-_, _^_, _<_, zero-le, arith}
+use Rattle.laws.proofs.All.{_≡_, refl, sym, ap, _∙_, inl, inr, List, _++_, ℕ, _-_, _^_, _<_, zero-le, arith}
 use Rattle.laws.proofs.All.{length, getD, List·getD-append, pow-pos, map-range-at, Below, below-zeros, below-append}
 use Rattle.laws.proofs.All.{take-all}
 use Rattle.table.specs.Rows.{Code}
@@ -32,11 +32,11 @@ module _ (c : Code) (good : Sound c) (data′ L : List ℕ) (fit : Below (2 ^ c 
       (omega (arith, length-recording c data′))
       ∙ ap (λ k. getD D k 0) z ∙ List·getD-append data′ (closing c) 0 i hi
 
-  -- a block that stands clear is decoded as it was written
-  pub recovered : (i j : ℕ) → i < length data′ → StandsClear c (recording c data′) L i j
-      → getD (decode c L) j 255 ≡ getD data′ i 0
-  recovered i j hi (hj, h) =
-      map-range-at (block c L) (length L - c .window .lookahead) j 255 (omega arith)
+  -- a block that stands clear is decoded as it was written, whatever the default v beyond the list
+  pub recovered : (i j v : ℕ) → i < length data′ → StandsClear c (recording c data′) L i j
+      → getD (decode c L) j v ≡ getD data′ i 0
+  recovered i j v hi (hj, h) =
+      map-range-at (block c L) (length L - c .window .lookahead) j v (omega arith)
       ∙ (elim h [
         | inl (mi, mj, e) ↦ block-local c L (recording c data′) j i mj mi e
         | inr (mi, q, e) ↦ rw q (block-local-start c L (recording c data′) i mi e)

@@ -1,5 +1,6 @@
 -- The reading of a block depends on its window of words alone.
--- In order: past-later, past-early; readWindow; block-later, block-early; block-local, block-local-start; block-part.
+-- In order: readBehind, readWindow; cut-window; past-later, past-early; block-later, block-early; block-local,
+-- block-local-start; block-part.
 -- Assumes nothing.
 use Rattle.laws.proofs.All.{_≡_, sym, ap, _∙_, _⊎_, inl, inr, Bool, List, ℕ, suc, _+_, _-_, _≤_, _<_, arith, decLe}
 use Rattle.laws.proofs.All.{getD, take, drop, lt-ltb, le-ltb, take-take, getD-take, getD-drop, drop-take, drop-drop}
@@ -7,9 +8,26 @@ use Rattle.table.specs.Rows.{Rows, Code}
 use Rattle.stepping.specs.StateSets.{everyState, oneState, alongAll}
 use Rattle.stepping.specs.Reading.{reading, past, block}
 
+-- the datum of the word w behind the words `pre` from the states of S, and before the words ws
+abbrev readBehind : Rows → List Bool → List ℕ → ℕ → List ℕ → ℕ
+readBehind t S pre w ws = reading t (alongAll t S pre) w ws
+
 -- the datum behind k words of the window W, from the states of S
 abbrev pub readWindow : Rows → List Bool → ℕ → List ℕ → ℕ
-readWindow t S k W = reading t (alongAll t S (take k W)) (getD W k 0) (drop (suc k) W)
+readWindow t S k W = readBehind t S (take k W) (getD W k 0) (drop (suc k) W)
+
+-- the parts of words n to n + k + a: those before word n + k, the word, and those behind it
+pub cut-window : {A : Type 0} (F : List ℕ → ℕ → List ℕ → A) (L : List ℕ) (n k a : ℕ)
+    → let W = take (suc k + a) (drop n L) in
+    F (take k W) (getD W k 0) (drop (suc k) W)
+    ≡ F (take k (drop n L)) (getD L (n + k) 0) (take a (drop (n + suc k) L))
+cut-window F L n k a = rw (
+  take-take k (suc k + a) (drop n L) (omega arith),
+  getD-take (suc k + a) (drop n L) k 0 (omega arith),
+  getD-drop n L k 0,
+  drop-take (suc k) a (drop n L),
+  drop-drop (suc k) n L,
+)
 
 module _ (c : Code) where
   abbrev t : Rows
@@ -28,31 +46,19 @@ module _ (c : Code) where
   pub past-early : (L : List ℕ) (j : ℕ) → j < m → past c L j ≡ alongAll t (oneState t 0) (take j L)
   past-early L j h = rw (lt-ltb j m h)
 
-  -- words n to n + k + a, read from S
-  cut-window : (S : List Bool) (L : List ℕ) (n k : ℕ)
-      → readWindow t S k (take (suc k + a) (drop n L))
-      ≡ reading t (alongAll t S (take k (drop n L))) (getD L (n + k) 0) (take a (drop (n + suc k) L))
-  cut-window S L n k = rw (
-    take-take k (suc k + a) (drop n L) (omega arith),
-    getD-take (suc k + a) (drop n L) k 0 (omega arith),
-    getD-drop n L k 0,
-    drop-take (suc k) a (drop n L),
-    drop-drop (suc k) n L,
-  )
-
   pub block-later : (L : List ℕ) (j : ℕ) → m ≤ j
       → block c L j ≡ readWindow t (everyState t) m (take (suc m + a) (drop (j - m) L))
   block-later L j h =
       let q₁ : j - m + m ≡ j = omega arith in
       let q₂ : j - m + suc m ≡ j + 1 = omega arith in
-      rw (cut-window (everyState t) L (j - m) m, past-later L j h, q₁, q₂)
+      rw (cut-window (readBehind t (everyState t)) L (j - m) m a, past-later L j h, q₁, q₂)
 
   pub block-early : (L : List ℕ) (j : ℕ) → j < m
       → block c L j ≡ readWindow t (oneState t 0) j (take (suc j + a) L)
   block-early L j h =
       let q₁ : 0 + j ≡ j = omega arith in
       let q₂ : 0 + suc j ≡ j + 1 = omega arith in
-      rw (past-early L j h) (sym (cut-window (oneState t 0) L 0 j ∙ rw (q₁, q₂)))
+      rw (past-early L j h) (sym (cut-window (readBehind t (oneState t 0)) L 0 j a ∙ rw (q₁, q₂)))
 
   wide : (k : ℕ) → k + 1 + a ≡ suc k + a
   wide k = omega arith

@@ -2,7 +2,7 @@
 -- In order: facts; demand-2-returns; demand-2-recognised; demand-3; different-data.
 -- Assumes nothing.
 use Rattle.laws.proofs.All.{_≡_, sym, _∙_, _↔_, List, ℕ, _-_, _^_, _≤_, _<_, length, getD, Below}
-use Rattle.answer.specs.Outcomes.{done, onward}
+use Rattle.answer.specs.Outcomes.{done}
 use Rattle.answer.proofs.Outcomes.{onward→}
 use Rattle.table.specs.Rows.{Code}
 use Rattle.table.specs.Paths.{Blocks, recording}
@@ -12,8 +12,8 @@ use Rattle.table.proofs.Formed.{formed→}
 use Rattle.checker.proofs.Acceptance.{sound}
 use Rattle.checker.specs.Parse.{parse}
 use Rattle.checker.proofs.Accepted.{parse-exact}
-use Rattle.stepping.specs.Reading.{mark, decode}
-use Rattle.codec.specs.Answers.{encoded, decoded, encodeUnder, decodeUnder}
+use Rattle.stepping.specs.Reading.{markAhead, decode}
+use Rattle.codec.specs.Answers.{encoded, encodeUnder, decodeUnder}
 use Rattle.codec.specs.Damage.{StandsClear, Recording}
 use Rattle.codec.proofs.Damage.{recovered}
 use Rattle.codec.proofs.RoundTrip.{recording-inj}
@@ -45,13 +45,13 @@ module _ (xs : List ℕ) (bytes : Below 256 xs) where
   pub demand-3 : (c : Code) → parse xs ≡ done c → (ds L : List ℕ) (room : ℕ) → Blocks c ds → Below (2 ^ c .q) L
       → c .window .lookahead ≤ length L → length L - c .window .lookahead ≤ room
       → (out : List ℕ) × (decodeUnder xs room L ≡ done out)
-      × ((i j : ℕ) → i < length ds → StandsClear c (recording c ds) L i j → getD out j mark ≡ getD ds i 0)
+      × ((i j : ℕ) → i < length ds → StandsClear c (recording c ds) L i j → getD out j markAhead ≡ getD ds i 0)
   unfolding decodeUnder
   demand-3 c p ds L room b w l h =
       let (f, k) = facts c p in (
         decode c L,
         rw p (→decoded c room L l h w),
-        (λ i j hi cl. recovered c (sound c f k) ds L b i j hi cl),
+        (λ i j hi cl. recovered c (sound c f k) ds L b i j markAhead hi cl),
       )
 
   -- recordings of different data differ

@@ -1,16 +1,17 @@
 -- Reading a stretch of a recording: the block that the reading rule gives is the block that was recorded.
--- In order: Reads, reads-length, reads-same, reads-append, reads-take, reads-drop, alongAll→, →alongAll, reads-end,
--- able→, →able, one→, →one, stretch, at-place, one-reading.
+-- In order: Reads, path→reads, reads→path, reads-length, reads-same, reads-append, reads-take, reads-drop, alongAll→,
+-- →alongAll, reads-end, able→, →able, one→, →one, reading→, →reading, first-or-none; reading→path, path→reading,
+-- reading-now; stretch, at-place, one-reading.
 -- Assumes nothing.
-use Rattle.laws.proofs.All.{_≡_, refl, sym, ap, subst, subst₂, _∙_, Bool, true, _&&_, List, [], _∷_, _++_, ℕ, zero}
-use Rattle.laws.proofs.All.{suc, _-_, _<_, arith, T, eqb, eqb→eq, eqb-refl, length, getD, take, drop, length-drop}
-use Rattle.laws.proofs.All.{drop-cons, length-take-le, range, any, elem, and→, →and, →any, any→, any-below→}
-use Rattle.laws.proofs.All.{→any-below, →orL, tab→, →tab, member, any-map, any-concat, elem-filter, →elem-filter}
-use Rattle.laws.proofs.All.{elem-range}
+use Rattle.laws.proofs.All.{_≡_, refl, sym, ap, ap₂, subst, subst₂, _∙_, _⊎_, inl, inr, Bool, true, _&&_, List, []}
+use Rattle.laws.proofs.All.{_∷_, _++_, ℕ, zero, suc, _-_, _<_, arith, T, eqb, eqb→eq, eqb-refl, length, getD, take}
+use Rattle.laws.proofs.All.{drop, length-drop, drop-cons, drop-at, length-take-le, take-append-seam, range, any, elem}
+use Rattle.laws.proofs.All.{and→, →and, →any, any→, any-below→, →any-below, →orL, tab→, →tab, member}
 use Rattle.table.specs.Rows.{edge, Rows, edges, at}
-use Rattle.table.specs.Paths.{ends, Closed}
+use Rattle.table.specs.Paths.{Path, ends, spells, Closed}
 use Rattle.stepping.specs.StateSets.{leads, along, alongAll, oneState, able, enters}
-use Rattle.stepping.specs.Reading.{readings, readingsOf, reading}
+use Rattle.stepping.specs.Reading.{readings, reading, markFor}
+use Rattle.stepping.proofs.Readings.{readings→, →readings}
 use Rattle.windows.proofs.Same.{Same, AgreeSame}
 
 -- ---- a path by its data and its words
@@ -18,6 +19,15 @@ pub data Reads (g : Rows) : ℕ → List ℕ → List ℕ → Type 0 where
   end : {s : ℕ} → Reads g s [] []
   step : {s x w : ℕ} {xs ws : List ℕ} → x < length (edges g s) → at g s x .word ≡ w
       → Reads g (at g s x .next) xs ws → Reads g s (x ∷ xs) (w ∷ ws)
+
+-- a path reads the words that it spells, and what is read is a path that spells it
+pub path→reads : (g : Rows) (ds : List ℕ) (s : ℕ) → Path g s ds → Reads g s ds (spells g s ds)
+path→reads g [] s p = end
+path→reads g (d ∷ ds) s (h, p) = step h refl (path→reads g ds (at g s d .next) p)
+
+pub reads→path : {g : Rows} {s : ℕ} {xs ws : List ℕ} → Reads g s xs ws → Path g s xs × (spells g s xs ≡ ws)
+reads→path end = (tt, refl)
+reads→path (step a b h) = let (p, q) = reads→path h in ((a, p), ap₂ _∷_ b q)
 
 pub reads-length : {g : Rows} {s : ℕ} {xs ws : List ℕ} → Reads g s xs ws → length xs ≡ length ws
 reads-length end = refl
@@ -113,35 +123,68 @@ Reading : Rows → List Bool → ℕ → List ℕ → ℕ → Type 0
 Reading g S w ws d = (s : ℕ) × (ys : List ℕ) × (s < length g) × T (member S s) × (d < length (edges g s))
     × (at g s d .word ≡ w) × Reads g (at g s d .next) ys ws
 
-readings→ : (g : Rows) (S : List Bool) (w : ℕ) (ws : List ℕ) (d : ℕ) → T (elem d (readings g S w (able g ws)))
+reading→ : (g : Rows) (S : List Bool) (w : ℕ) (ws : List ℕ) (d : ℕ) → T (elem d (readings g S w (able g ws)))
     → Reading g S w ws d
 unfolding Reading
-readings→ g S w ws d h =
-    go (any-below→ (λ s. elem d (readingsOf g S w (able g ws) s)) (length g) (simp (any-concat, any-map) at h))
-  where
-    go : (s : ℕ) × (s < length g) × T (elem d (readingsOf g S w (able g ws) s)) → Reading g S w ws d
-    go (s, n, u) =
-        let p = elem-filter (λ d. member S s && enters (able g ws) w (at g s d)) d (range (length (edges g s))) u in
-        let q = and→ (member S s) (enters (able g ws) w (at g s d)) (p .0) in
-        let (b, k) = and→ (eqb (at g s d .word) w) (member (able g ws) (at g s d .next)) (q .1) in
-        let (i, l, e) = any-below→ (eqb d) (length (edges g s)) (p .1) in
-        let (ys, r) = able→ g ws (at g s d .next) k in
-        (s, ys, n, q .0, omega (arith, eqb→eq d i e), eqb→eq (at g s d .word) w b, r)
+reading→ g S w ws d h =
+    let (s, n, i, a, e) = readings→ g S w (able g ws) d h in
+    let (b, k) = and→ (eqb (at g s d .word) w) (member (able g ws) (at g s d .next)) e in
+    let (ys, r) = able→ g ws (at g s d .next) k in
+    (s, ys, n, i, a, eqb→eq (at g s d .word) w b, r)
 
-→readings : (g : Rows) → Closed g → (S : List Bool) (w : ℕ) (ws : List ℕ) (d : ℕ) → Reading g S w ws d
+→reading : (g : Rows) → Closed g → (S : List Bool) (w : ℕ) (ws : List ℕ) (d : ℕ) → Reading g S w ws d
     → T (elem d (readings g S w (able g ws)))
 unfolding Reading
-→readings g c S w ws d (s, ys, n, i, a, b, r) =
-    simp (any-concat, any-map) (→any-below (λ s. elem d (readingsOf g S w (able g ws) s)) (length g) s n
-    (→elem-filter (λ d. member S s && enters (able g ws) w (at g s d)) d (range (length (edges g s)))
-    (elem-range (length (edges g s)) d a)
-    (→and (member S s) (enters (able g ws) w (at g s d)) i
-    (→and (eqb (at g s d .word) w) (member (able g ws) (at g s d .next)) (rw b (eqb-refl w))
-    (→able c (c s d a) r)))))
+→reading g c S w ws d (s, ys, n, i, a, b, r) =
+    →readings g S w (able g ws) s d n i a
+    (→and (eqb (at g s d .word) w) (member (able g ws) (at g s d .next)) (rw b (eqb-refl w)) (→able c (c s d a) r))
 
-only : (l : List ℕ) (x : ℕ) → T (elem x l) → ((d : ℕ) → T (elem d l) → d ≡ x) → getD l 0 255 ≡ x
-only [] x h f = absurd h
-only (y ∷ l) x h f = f y (→orL (eqb y y) (elem y l) (eqb-refl y))
+-- the first of a list is in it, or the list has none and its first is the default
+pub first-or-none : (l : List ℕ) (v : ℕ)
+    → T (elem (getD l 0 v) l) ⊎ (((d : ℕ) → T (elem d l) → ⊥) × (getD l 0 v ≡ v))
+first-or-none [] v = inr ((λ d h. h), refl)
+first-or-none (x ∷ l) v = inl (→orL (eqb x x) (elem x l) (eqb-refl x))
+
+only : (l : List ℕ) (x v : ℕ) → T (elem x l) → ((d : ℕ) → T (elem d l) → d ≡ x) → getD l 0 v ≡ x
+only l x v h f = elim (first-or-none l v) [ inl k ↦ f (getD l 0 v) k | inr (none, _) ↦ absurd (none x h) ]
+
+-- ---- words read behind the words before
+module _ (g : Rows) (c : Closed g) (S : List Bool) (pre ws : List ℕ) (w : ℕ) where
+  -- a datum that the rule can read lies on a path from S that reads all the words
+  pub reading→path : (d : ℕ) → T (elem d (readings g (alongAll g S pre) w (able g ws)))
+      → (s : ℕ) × (xs : List ℕ) × T (member S s) × Reads g s xs (pre ++ w ∷ ws)
+  unfolding Reading
+  reading→path d h =
+      let (u, ys, n, k, a, b, r) = reading→ g (alongAll g S pre) w ws d h in
+      let (s, us, i, q, e) = alongAll→ g pre S u k in
+      (s, us ++ d ∷ ys, i, reads-append q (rw e (step a b r)))
+
+  -- and such a path has a datum that the rule can read
+  pub path→reading : (s : ℕ) (xs : List ℕ) → s < length g → T (member S s) → Reads g s xs (pre ++ w ∷ ws)
+      → (d : ℕ) × T (elem d (readings g (alongAll g S pre) w (able g ws)))
+  unfolding Reading
+  path→reading s xs n i r =
+      go (drop (length pre) xs) (subst (Reads g (ends g s (take (length pre) xs)) (drop (length pre) xs))
+      (drop-at pre (w ∷ ws) (length pre) refl) (reads-drop (length pre) r))
+    where
+      before : Reads g s (take (length pre) xs) pre
+      before = subst (Reads g s (take (length pre) xs)) (take-append-seam pre (w ∷ ws)) (reads-take (length pre) r)
+
+      go : (ys : List ℕ) → Reads g (ends g s (take (length pre) xs)) ys (w ∷ ws)
+          → (d : ℕ) × T (elem d (readings g (alongAll g S pre) w (able g ws)))
+      go (d ∷ ys) (step a b h) = (
+        d,
+        →reading g c (alongAll g S pre) w ws d
+            (ends g s (take (length pre) xs), ys, reads-end c n before, →alongAll c S n i before, a, b, h),
+      )
+
+-- a datum that is read with words ahead is read without them
+pub reading-now : (g : Rows) → Closed g → (S : List Bool) (w : ℕ) (ws : List ℕ) (d : ℕ)
+    → T (elem d (readings g S w (able g ws))) → T (elem d (readings g S w (able g [])))
+unfolding Reading
+reading-now g c S w ws d h =
+    let (s, ys, n, i, a, b, r) = reading→ g S w ws d h in
+    →reading g c S w [] d (s, [], n, i, a, b, end)
 
 -- ---- a stretch: words before, one word, words ahead
 module _ (g : Rows) (c : Closed g) (S : List Bool) (us vs : List ℕ) (x : ℕ) (pre ws : List ℕ) (w s : ℕ)
@@ -157,10 +200,10 @@ module _ (g : Rows) (c : Closed g) (S : List Bool) (us vs : List ℕ) (x : ℕ) 
 
   pub stretch : s < length g → T (member S s) → reading g (alongAll g S pre) w ws ≡ x
   unfolding Reading
-  stretch n i = only (readings g (alongAll g S pre) w (able g ws)) x
-      (→readings g c (alongAll g S pre) w ws x
+  stretch n i = only (readings g (alongAll g S pre) w (able g ws)) x (markFor g (alongAll g S pre) w)
+      (→reading g c (alongAll g S pre) w ws x
       (ends g s us, vs, reads-end c n before, →alongAll c S n i before, here, word, after))
-      (λ d h. other d (readings→ g (alongAll g S pre) w ws d h))
+      (λ d h. other d (reading→ g (alongAll g S pre) w ws d h))
 
 -- the same at place k of a stretch W of words
 pub at-place : (g : Rows) → Closed g → (S : List Bool) (ds W : List ℕ) (k s : ℕ) → s < length g → T (member S s)
@@ -184,7 +227,7 @@ pub one-reading : (g : Rows) → Closed g → (S : List Bool) (pre ws : List ℕ
     → T (elem e (readings g (alongAll g S pre) w (able g ws))) → d ≡ e
 unfolding Reading
 one-reading g c S pre ws w agree d e h k =
-    let (t, vs, n, m, a, b, r) = readings→ g (alongAll g S pre) w ws e k in
+    let (t, vs, n, m, a, b, r) = reading→ g (alongAll g S pre) w ws e k in
     let (s, us, i, q, p) = alongAll→ g pre S t m in
     other g c S us vs e pre ws w s q (rw p a) (rw p b) (rw p r) (λ u l. agree u s l i) d
-    (readings→ g (alongAll g S pre) w ws d h)
+    (reading→ g (alongAll g S pre) w ws d h)

@@ -2,7 +2,7 @@
 -- In order: length-decode; clear-self; decode-recording; recognised; recording-inj.
 -- Assumes nothing.
 use Rattle.laws.proofs.All.{_≡_, refl, sym, ap, _∙_, inl, inr, _↔_, List, ℕ, _+_, _-_, _≤_, _<_, arith, decLt}
-use Rattle.laws.proofs.All.{length, length-map-range, ext-getD, getD-any}
+use Rattle.laws.proofs.All.{length, length-map-range, ext-getD}
 use Rattle.table.specs.Rows.{Code}
 use Rattle.table.specs.Paths.{Blocks, recording}
 use Rattle.checker.specs.Accepted.{Sound}
@@ -28,11 +28,8 @@ decode-recording c g ds b =
     let a = c .window .lookahead in
     let lr : length R ≡ length ds + a = length-recording c ds in
     let ld : length (decode c R) ≡ length ds = length-decode c R ∙ omega arith in
-    ext-getD 255 (decode c R) ds ld
-    (λ i h.
-    let hi : i < length ds = omega arith in
-    recovered c g ds R b i i hi (clear-self c R i (omega arith) (decLt i (c .window .memory)))
-    ∙ getD-any ds i 0 255 hi)
+    ext-getD 0 (decode c R) ds ld
+    (λ i h. recovered c g ds R b i i 0 (omega arith) (clear-self c R i (omega arith) (decLt i (c .window .memory))))
 
 -- a list is a recording exactly when it is long enough, its blocks can be recorded (none is a mark) and their
 -- recording is the list

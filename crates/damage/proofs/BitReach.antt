@@ -13,7 +13,7 @@ use Rattle.table.specs.Rows.{Code}
 use Rattle.table.specs.Paths.{Blocks, recording}
 use Rattle.table.proofs.Paths.{length-recording}
 use Rattle.checker.specs.Parse.{parse}
-use Rattle.stepping.specs.Reading.{mark}
+use Rattle.stepping.specs.Reading.{markAhead}
 use Rattle.codec.specs.Damage.{SameOutside}
 use Rattle.codec.proofs.Answers.{words-below}
 use Rattle.codec.proofs.Promises.{facts}
@@ -61,7 +61,7 @@ module _ (rec : List ℕ) (bytes : Below 256 rec) (c : Code) (read : parse rec �
       → SameOutside (f .0) (l .0) (bitsOf xs) (bitsOf (packed (c .q) (recording c ds)))
       → (room : ℕ) → length ds ≤ room → (out : List ℕ) × (decodeStream rec count room xs ≡ done out)
       × ((j : BlockNo) → j .0 < length ds → (j .0 < firstBlock (c .q) (c .window .lookahead) (f .0))
-      ⊎ (lastBlock (c .q) (c .window .memory) (l .0) < j .0) → getD out (j .0) mark ≡ getD ds (j .0) 0)
+      ⊎ (lastBlock (c .q) (c .window .memory) (l .0) < j .0) → getD out (j .0) markAhead ≡ getD ds (j .0) 0)
   bits-reach ds xs b x few f l _ in-words s room h =
       let count = length ds + c .window .lookahead in
       let R = recording c ds in
