@@ -1,7 +1,7 @@
--- `count_marks` meets its contract. The loop's invariant: n is the number of marks passed. The measure is what is left of
--- the length.
+-- `count_marks` meets its contract. The loop's invariant: n is the number of marks passed. The measure is what is left
+-- of the length.
 -- Assumes nothing.
-use Rattle.laws.proofs.All.{_≡_, refl, sym, ap, ap₂, _∙_, _+_, _-_, _≤_, le-refl, arith, now, eqb, length, getD, take}
+use Rattle.laws.proofs.All.{_≡_, refl, sym, ap, ap₂, _∙_, _+_, _-_, _≤_, le-refl, arith, now, eqb, length, take}
 use Rattle.laws.proofs.All.{take-all, one, times, tot-take-more, needs}
 use Rattle.marks.proofs.count_marks.Statement.{statement}
 use Rattle.marks.proofs.count_marks.Tie as tie
