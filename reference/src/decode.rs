@@ -1,10 +1,13 @@
-//! "Recording and decoding": the reading rule.
+//! "Recording and decoding": the reading rule, with the two marks of request (d).
 
-use crate::edges::{members, Edges, Set};
+use crate::edges::{members, Edges, Out, Set};
 use crate::record::Record;
 
-/// The mark of a place that no edge fits.
-pub const MARK: u8 = 255;
+/// "If the past set is empty, or no edge from it has word i."
+pub const MARK_BEFORE: u8 = 254;
+
+/// "If such edges exist but none of their targets can read the words ahead."
+pub const MARK_AHEAD: u8 = 255;
 
 /// The blocks of W words, W - a of them. There are at least a words, all below 2^q.
 pub fn blocks(record: &Record, words: &[u8]) -> Vec<u8> {
@@ -12,21 +15,27 @@ pub fn blocks(record: &Record, words: &[u8]) -> Vec<u8> {
     (0..words.len() - record.a).map(|i| block(record, &edges, words, i)).collect()
 }
 
-/// Block i: the datum of the edges from the past set with word i whose target can read the next a words.
+/// Block i: the datum of the edges from the past set with word i whose target can read the next a words, or a mark.
 fn block(record: &Record, edges: &Edges, words: &[u8], i: usize) -> u8 {
-    let past = past_set(record, edges, words, i);
+    let having = with_word(edges, past_set(record, edges, words, i), words[i]);
+    if having.is_empty() {
+        return MARK_BEFORE;
+    }
     let ahead = readers(edges, &words[i + 1..i + 1 + record.a]);
-    let Some(word) = edges.word(words[i]) else {
-        return MARK;
-    };
-    let fits = |s: usize| edges.out[s].iter().find(|e| e.word == word && ahead >> e.next & 1 == 1);
-    members(past).find_map(fits).map_or(MARK, |edge| edge.datum as u8)
+    let fits = having.iter().find(|edge| ahead >> edge.next & 1 == 1);
+    fits.map_or(MARK_AHEAD, |edge| edge.datum as u8)
 }
 
 /// The states reachable by words i - m to i - 1 from any state, or by words 0 to i - 1 from state 0 if i < m.
 fn past_set(record: &Record, edges: &Edges, words: &[u8], i: usize) -> Set {
     let (from, first) = if i < record.m { (1, 0) } else { (edges.all(), i - record.m) };
     words[first..i].iter().fold(from, |set, word| edges.word(*word).map_or(0, |word| edges.after(set, word)))
+}
+
+/// The edges from a set with this word; none if the set is empty.
+fn with_word(edges: &Edges, from: Set, word: u8) -> Vec<Out> {
+    let has = |edge: &&Out| edges.word(word) == Some(edge.word);
+    members(from).flat_map(|s| &edges.out[s]).filter(has).copied().collect()
 }
 
 /// The states that can read these words.

@@ -70,34 +70,6 @@ fn windows_of_rings() {
     }
 }
 
-/// The reading rule by whole paths: block i is the datum on edge m of any path that fits the words.
-fn block(record: &reference::record::Record, words: &[u8], i: usize) -> u8 {
-    let early = i < record.m;
-    let first = if early { 0 } else { i - record.m };
-    let part = &words[first..=i + record.a];
-    let from = if early { 0..1 } else { 0..record.table.states() };
-    let fits = |s: usize| paths(&record.table, s, part.len()).into_iter().find(|path| path.0 == part);
-    from.into_iter().find_map(fits).map_or(255, |path| path.1[i - first] as u8)
-}
-
-#[test]
-fn decoding_by_whole_paths() {
-    let mut random = Random::seeded(8);
-    let mut marks = 0;
-    for _ in 0..300 {
-        let Ok(record) = load(&foreign::any(&mut random).pack()) else { continue };
-        if record.m + record.a > 5 {
-            continue;
-        }
-        let words = random.bytes(record.a + 6, 1 << record.q);
-        let answer = decode_loaded(&record, &words, 6);
-        let expected: Vec<u8> = (0..6).map(|i| block(&record, &words, i)).collect();
-        marks += expected.iter().filter(|block| **block == 255).count();
-        assert_eq!((answer.refusal, answer.output), (0, expected));
-    }
-    assert!(marks > 50, "{marks}");
-}
-
 #[test]
 fn recordings_decode_and_clear_places_stand() {
     let mut random = Random::seeded(9);

@@ -1,5 +1,5 @@
-//! E1 to E10 and the listing. E1, E3, E7 and the listing are those of request (c), "worked afresh"; E2 and E4 are as
-//! the document first printed them, and so is the first listing, whose record stays a good one.
+//! E1 to E10 and the listing. E1, E3, E7 and the listing are those of request (c), "worked afresh", and E4 is that of
+//! request (d); E2 is as the document first printed it, and so is the first listing, whose record stays a good one.
 
 use reference::accept::load;
 use reference::calls::{check, compile_job, compile_run_length, decode, encode, listing};
@@ -98,7 +98,7 @@ fn e3_encoding() {
 #[test]
 fn e4_decoding() {
     let answer = decode(&hex(E2), &[2, 3, 3, 2], 4);
-    assert_eq!((answer.refusal, answer.value, answer.output), (0, 4, vec![1, 1, 255, 1]));
+    assert_eq!((answer.refusal, answer.value, answer.output), (0, 4, vec![1, 1, 254, 1]));
 }
 
 #[test]

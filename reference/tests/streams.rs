@@ -222,7 +222,7 @@ fn order_of_decoding_from_a_stream() {
     assert_eq!(decode_stream(&listed(), 0, &[], 0), refused(12, 0), "12 before 13");
     assert_eq!(decode_stream(&listed(), 3, &[0, 1], 0), refused(15, 0), "15 before 13");
     assert_eq!(decode_stream(&listed(), 3, &[0, 0], 1), refused(13, 0));
-    assert_eq!(decode_stream(&hex(E2), 4, &hex("be"), 4), done("01 01 ff 01"), "E4");
+    assert_eq!(decode_stream(&hex(E2), 4, &hex("be"), 4), done("01 01 fe 01"), "E4");
     for count in [1_000_000, 1_000_001, 1 << 32, 1 << 62, 1 << 63, (1 << 63) + 4, u64::MAX] {
         assert_eq!(decode_stream(&hex(E2), count, &[], 0), refused(15, 0));
         assert_eq!(decode_stream(&hex(E2), count, &[0], 0), refused(15, 0));

@@ -1,12 +1,14 @@
 //! The file of test vectors: its format, its contents, its size.
 
+use reference::accept::load;
 use reference::checksum::Checksum;
-use reference::vectors::data;
+use reference::streams::pack;
 use reference::vectors::file::{call, Case, Walk, CHECK, COMPILE_JOB, COMPILE_JOINED, COMPILE_RUN_LENGTH, DECODE};
-use reference::vectors::file::{ENCODE, KINDS, LISTING, RECORD_ROOM};
+use reference::vectors::file::{DECODE_STREAM, ENCODE, KINDS, LISTING, RECORD_ROOM};
 use reference::vectors::fixed::{E2, TELLING};
-use reference::vectors::stream_borders::telling;
-use reference::vectors::{generate, hex};
+use reference::vectors::marks::{self, Told};
+use reference::vectors::stream_borders::{count_and_stream, telling};
+use reference::vectors::{data, generate, hex};
 use std::collections::HashSet;
 
 #[test]
@@ -79,12 +81,27 @@ fn the_file_has_the_data_that_tell() {
     }
 }
 
+/// So does every input that tells for request (d): its words with the exact room and with one byte less, its stream.
+#[test]
+fn the_file_has_the_marks_that_tell() {
+    let bytes = generate(1);
+    let inputs: HashSet<_> = Walk(&bytes).map(|case| (case.kind, case.room, case.first, case.second)).collect();
+    for Told { record, words, blocks } in marks::telling() {
+        let stream = pack(load(&record).unwrap().q, &words);
+        let stream = count_and_stream(words.len() as u64, &stream);
+        assert!(inputs.contains(&(DECODE_STREAM, blocks.len(), record.clone(), stream)), "{words:?}");
+        for room in [blocks.len(), blocks.len() - 1] {
+            assert!(inputs.contains(&(DECODE, room, record.clone(), words.clone())), "{words:?}");
+        }
+    }
+}
+
 /// The numbers that the README states.
 #[test]
 fn the_file_is_the_one_described() {
     let bytes = generate(1);
     let mut checksum = Checksum::default();
     checksum.add(&bytes);
-    assert_eq!((Walk(&bytes).count(), bytes.len()), (11_042, 798_456));
-    assert_eq!(checksum.value(), 0x0524_7992_43b3_0687);
+    assert_eq!((Walk(&bytes).count(), bytes.len()), (11_163, 798_443));
+    assert_eq!(checksum.value(), 0xd1ea_5ec8_34f7_a4d9);
 }

@@ -12,15 +12,25 @@ pub fn add(file: &mut File, random: &mut Random, pool: &Pool, scale: usize) {
         let good = pool.any(random);
         encoding(file, random, good);
     }
-    for _ in 0..950 * scale {
-        let good = pool.any(random);
-        decoding(file, random, good);
-    }
+    decodings(file, random, pool, scale);
     for _ in 0..326 * scale {
         let good = pool.any(random);
         refused(file, random, good);
     }
     long_recordings(file, random, pool);
+}
+
+/// Decodings, of those under records of over 3,000 bytes the first eight only.
+fn decodings(file: &mut File, random: &mut Random, pool: &Pool, scale: usize) {
+    let mut long = 0;
+    for _ in 0..950 * scale {
+        let good = pool.any(random);
+        let (room, words) = decoding(random, good);
+        long += usize::from(good.bytes.len() > 3000);
+        if good.bytes.len() <= 3000 || long <= 8 * scale {
+            file.add(DECODE, room, &good.bytes, &words);
+        }
+    }
 }
 
 /// Long recordings under large records, of those of one length the first only.
@@ -61,8 +71,8 @@ pub fn any_room(random: &mut Random, length: usize) -> usize {
     }
 }
 
-/// A recording decoded, mostly after damage; or words that are no recording at all.
-fn decoding(file: &mut File, random: &mut Random, good: &Good) {
+/// The room and the words of a recording to decode, mostly after damage; or words that are no recording at all.
+fn decoding(random: &mut Random, good: &Good) -> (usize, Vec<u8>) {
     let (a, q) = (good.record.a, good.record.q);
     let recording = encode::words(&good.record, &blocks(random, good));
     let words = match random.below(8) {
@@ -70,8 +80,7 @@ fn decoding(file: &mut File, random: &mut Random, good: &Good) {
         1 => random.bytes(recording.len(), 1 << q),
         _ => damage::words(random, &recording, q),
     };
-    let room = any_room(random, words.len().saturating_sub(a));
-    file.add(DECODE, room, &good.bytes, &words);
+    (any_room(random, words.len().saturating_sub(a)), words)
 }
 
 /// Calls with a bad byte, too few words, too little room, or a damaged record, often several at once.

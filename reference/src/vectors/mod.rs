@@ -9,6 +9,7 @@ pub mod foreign;
 pub mod groups;
 pub mod jobs;
 pub mod joined;
+pub mod marks;
 pub mod pool;
 pub mod random;
 pub mod records;
@@ -32,6 +33,7 @@ pub fn generate(scale: usize) -> Vec<u8> {
     joined::add(&mut file, &mut Random::seeded(5), scale);
     streams::add(&mut file, &mut Random::seeded(6), &pool, scale);
     data::add(&mut file);
+    marks::add(&mut file, &mut Random::seeded(7), &pool, scale);
     file.ended()
 }
 
