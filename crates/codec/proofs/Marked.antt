@@ -21,7 +21,7 @@ use Rattle.codec.specs.Damage.{StandsClear}
 use Rattle.codec.specs.Found.{found}
 use Rattle.codec.specs.Follows.{windowWords, Follows}
 use Rattle.codec.proofs.Reading.{Reads, path→reads, reads→path, one→, →one, first-or-none, reading→path}
-use Rattle.codec.proofs.Reading.{path→reading, reading-now}
+use Rattle.codec.proofs.Reading.{path→reading}
 use Rattle.codec.proofs.Local.{cut-window, past-later, past-early}
 use Rattle.codec.proofs.Damage.{recovered}
 use Rattle.codec.proofs.Answers.{decoded→}
@@ -139,8 +139,12 @@ module _ (c : Code) (good : Sound c) (L : List ℕ) (j : ℕ) (h : j + c .window
   abbrev B : Type 0
   B = Follows c L j (c .window .lookahead)
 
-  up-to : (d : ℕ) × T (elem d (readings (c .table) P w (able (c .table) []))) → A
-  up-to = →follows c good L j 0 (omega arith)
+  -- where an edge from the past set has word j, a path reads the words up to it, and the other way round
+  up-to : T (someEdge (c .table) P w) → A
+  up-to k = →follows c good L j 0 (omega arith) (some→ (c .table) P w (good .closed) k)
+
+  read-up-to : A → T (someEdge (c .table) P w)
+  read-up-to f = let (d, i) = follows→ c good L j 0 (omega arith) f in →some (c .table) P w (able (c .table) []) d i
 
   shows : Shows (block c L j) (2 ^ c .p) A B
   shows = elim (first-or-none (found c L j) (markFor (c .table) P w)) [
@@ -148,7 +152,7 @@ module _ (c : Code) (good : Sound c) (L : List ℕ) (j : ℕ) (h : j + c .window
         let ws = take (c .window .lookahead) (drop (j + 1) L) in
         let (s, n, _, l, _) = readings→ (c .table) P w (able (c .table) ws) (block c L j) i in
         datum (rw (good .full s n) at l)
-        (up-to (block c L j, reading-now (c .table) (good .closed) P w ws (block c L j) i))
+        (up-to (→some (c .table) P w (able (c .table) ws) (block c L j) i))
         (→follows c good L j (c .window .lookahead) h (block c L j, i))
     | inr (none, e) ↦
         go (someEdge (c .table) P w) refl e
@@ -157,9 +161,8 @@ module _ (c : Code) (good : Sound c) (L : List ℕ) (j : ℕ) (h : j + c .window
     where
       go : (s : Bool) → someEdge (c .table) P w ≡ s → block c L j ≡ (if s then markAhead else markBefore) → (B → ⊥)
           → Shows (block c L j) (2 ^ c .p) A B
-      go true q e ny = ahead e (up-to (some→ (c .table) P w (good .closed) (subst T (sym q) tt))) ny
-      go false q e ny = before e
-          (λ f. let (d, i) = follows→ c good L j 0 (omega arith) f in subst T q (→some (c .table) P w d i)) ny
+      go true q e ny = ahead e (up-to (subst T (sym q) tt)) ny
+      go false q e ny = before e (λ f. subst T q (read-up-to f)) ny
 
 -- ---- under an accepted record
 module _ (xs : List ℕ) (bytes : Below 256 xs) (c : Code) (read : parse xs ≡ done c) where

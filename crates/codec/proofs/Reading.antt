@@ -1,7 +1,7 @@
 -- Reading a stretch of a recording: the block that the reading rule gives is the block that was recorded.
 -- In order: Reads, path→reads, reads→path, reads-length, reads-same, reads-append, reads-take, reads-drop, alongAll→,
--- →alongAll, reads-end, able→, →able, one→, →one, reading→, →reading, first-or-none; reading→path, path→reading,
--- reading-now; stretch, at-place, one-reading.
+-- →alongAll, reads-end, able→, →able, one→, →one, reading→, →reading, first-or-none; reading→path, path→reading;
+-- stretch, at-place, one-reading.
 -- Assumes nothing.
 use Rattle.laws.proofs.All.{_≡_, refl, sym, ap, ap₂, subst, subst₂, _∙_, _⊎_, inl, inr, Bool, true, _&&_, List, []}
 use Rattle.laws.proofs.All.{_∷_, _++_, ℕ, zero, suc, _-_, _<_, arith, T, eqb, eqb→eq, eqb-refl, length, getD, take}
@@ -177,14 +177,6 @@ module _ (g : Rows) (c : Closed g) (S : List Bool) (pre ws : List ℕ) (w : ℕ)
         →reading g c (alongAll g S pre) w ws d
             (ends g s (take (length pre) xs), ys, reads-end c n before, →alongAll c S n i before, a, b, h),
       )
-
--- a datum that is read with words ahead is read without them
-pub reading-now : (g : Rows) → Closed g → (S : List Bool) (w : ℕ) (ws : List ℕ) (d : ℕ)
-    → T (elem d (readings g S w (able g ws))) → T (elem d (readings g S w (able g [])))
-unfolding Reading
-reading-now g c S w ws d h =
-    let (s, ys, n, i, a, b, r) = reading→ g S w ws d h in
-    →reading g c S w [] d (s, [], n, i, a, b, end)
 
 -- ---- a stretch: words before, one word, words ahead
 module _ (g : Rows) (c : Closed g) (S : List Bool) (us vs : List ℕ) (x : ℕ) (pre ws : List ℕ) (w s : ℕ)

@@ -35,22 +35,21 @@ module _ (t : Arrays) (g : Fits t) (P : List Bool) (w : ℕ) (A : List Bool) whe
     pub found-none : (d : ℕ) → 16 ≤ v → d ≡ getD ds 0 d
     found-none d h = sym (ap (λ l. getD l 0 d) (none h))
 
-    module _ (every : A ≡ everyState (rowsOf t)) where
-      mark-is : (b : Bool) → someEdge (rowsOf t) P w ≡ b
-          → (if b then markAhead else markBefore) ≡ markFor (rowsOf t) P w
-      mark-is b q = sym (ap (λ x. if x then markAhead else markBefore) q)
+    mark-is : (b : Bool) → someEdge (rowsOf t) P w ≡ b
+        → (if b then markAhead else markBefore) ≡ markFor (rowsOf t) P w
+    mark-is b q = sym (ap (λ x. if x then markAhead else markBefore) q)
 
-      -- an edge from P has the word where one to any state is found
-      pub mark-ahead : v < 16 → markAhead ≡ markFor (rowsOf t) P w
-      mark-ahead h =
-          mark-is true (bool-eq (someEdge (rowsOf t) P w) true (λ u. tt)
-          (λ u. →some (rowsOf t) P w (getD ds 0 0) (rw (← every)
-          (each-at (λ x. T (elem x ds)) 0 ds (each-elem ds) 0 (some h)))))
+    -- an edge from P has the word where one into A is found
+    pub mark-ahead : v < 16 → markAhead ≡ markFor (rowsOf t) P w
+    mark-ahead h =
+        mark-is true (bool-eq (someEdge (rowsOf t) P w) true (λ u. tt)
+        (λ u. →some (rowsOf t) P w A (getD ds 0 0)
+        (each-at (λ x. T (elem x ds)) 0 ds (each-elem ds) 0 (some h))))
 
-      -- no edge from P has it where none is found
-      pub mark-before : 16 ≤ v → markBefore ≡ markFor (rowsOf t) P w
-      mark-before h =
-          mark-is false (bool-eq (someEdge (rowsOf t) P w) false
-          (λ u. let (d, k) = some→ (rowsOf t) P w (closed-rows t g) u in
-          subst (λ l. T (elem d l)) (none h) (subst (λ B. T (elem d (readings (rowsOf t) P w B))) (sym every) k))
-          (λ u. absurd u))
+    -- no edge from P has it where none to any state is found
+    pub mark-before : A ≡ everyState (rowsOf t) → 16 ≤ v → markBefore ≡ markFor (rowsOf t) P w
+    mark-before every h =
+        mark-is false (bool-eq (someEdge (rowsOf t) P w) false
+        (λ u. let (d, k) = some→ (rowsOf t) P w (closed-rows t g) u in
+        subst (λ l. T (elem d l)) (none h) (subst (λ B. T (elem d (readings (rowsOf t) P w B))) (sym every) k))
+        (λ u. absurd u))

@@ -1,5 +1,5 @@
 -- The readings of a block, edge by edge.
--- In order: readings→, →readings, readings-below; some→, →some, a block with no words ahead.
+-- In order: readings→, →readings, readings-below; some→, a block with no words ahead, →some.
 -- Assumes nothing.
 use Rattle.laws.proofs.All.{subst, Bool, true, _&&_, List, ℕ, _≤_, _<_, arith, T, eqb, eqb→eq, eqb-refl, length}
 use Rattle.laws.proofs.All.{range, elem, and→, →and, any→, →any, any-below→, →any-below, →tab, member, any-map}
@@ -35,7 +35,7 @@ module _ (g : Rows) (S : List Bool) (w : ℕ) where
         (λ d t. let (s, i, m, l, e) = readings→ d t in omega (arith, h s i)) (readings g S w A)
         (each-elem (readings g S w A)))
 
-  -- ---- an edge from S with the word w, wherever it leads
+  -- where an edge from S has the word w, wherever it leads, there is a reading with no words ahead
   pub some→ : Closed g → T (someEdge g S w) → (d : ℕ) × T (elem d (readings g S w (everyState g)))
   some→ closed h =
       let (s, n, u) = any-below→ _ (length g) h in
@@ -50,10 +50,11 @@ module _ (g : Rows) (S : List Bool) (w : ℕ) where
             (→tab (λ s. true) (length g) (at g s d .next) (closed s d l) tt)),
       )
 
-  pub →some : (d : ℕ) → T (elem d (readings g S w (everyState g))) → T (someEdge g S w)
-  →some d h =
-      let (s, n, m, l, e) = readings→ (everyState g) d h in
-      let (k, _) = and→ (eqb (at g s d .word) w) (member (everyState g) (at g s d .next)) e in
+  -- where there is a reading, an edge from S has the word w
+  pub →some : (A : List Bool) (d : ℕ) → T (elem d (readings g S w A)) → T (someEdge g S w)
+  →some A d h =
+      let (s, n, m, l, e) = readings→ A d h in
+      let (k, _) = and→ (eqb (at g s d .word) w) (member A (at g s d .next)) e in
       →any-below _ (length g) s n (→and (member S s) (hasWord w (edges g s)) m
       (simp any-map (→any (λ e. eqb w (e .word)) (edge 0 0) (edges g s) d l
       (rw (eqb→eq (at g s d .word) w k) (eqb-refl w)))))
