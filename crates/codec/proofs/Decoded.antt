@@ -9,6 +9,7 @@ use Rattle.table.specs.Edges.{arrays, rowsOf}
 use Rattle.stepping.specs.Reading.{block, decode}
 use Rattle.stepping.specs.BlockParts.{under}
 
+-- "From W words come W − a blocks"
 pub length-decode : (c : Code) (ws : List ℕ) → length ws - c .window .lookahead ≡ length (decode c ws)
 length-decode c ws = sym (length-map-range (block c ws) (length ws - c .window .lookahead))
 

@@ -1,10 +1,11 @@
 -- When calls under a record are done, that a loaded table answers as its record does, and that for an accepted record
 -- the calls that do not look at 9 and 10 answer as those that do.
--- In order: encodes, decodes; loaded; fields-too, checked.
+-- In order: encodes, decodes, decoded-blocks; loaded; fields-too, checked.
 -- Assumes nothing.
-use Rattle.laws.proofs.All.{_≡_, sym, _∙_, List, [], ℕ, _+_, _-_, _^_, _≤_, T, length, Below}
+use Rattle.laws.proofs.All.{_≡_, sym, ap, _∙_, List, [], ℕ, _+_, _-_, _^_, _≤_, _<_, arith, T, length, getD, Below}
+use Rattle.laws.proofs.All.{map-range-at}
 use Rattle.answer.specs.declared.Refusal.the-variants.{Field, Disobeys, WindowFails}
-use Rattle.answer.specs.Outcomes.{done, unless, onward}
+use Rattle.answer.specs.Outcomes.{done, unless}
 use Rattle.answer.proofs.Outcomes.{unless-true, unless→, onward→}
 use Rattle.table.specs.declared.Table.{Table}
 use Rattle.table.specs.Rows.{Code}
@@ -16,10 +17,10 @@ use Rattle.obeying.specs.Obeys.{obeys}
 use Rattle.record.specs.Checks.{fieldsChecked}
 use Rattle.checker.specs.Parse.{judged, parse, checkedOnly}
 use Rattle.checker.proofs.Parse.{parse-formed}
-use Rattle.stepping.specs.Reading.{decode}
+use Rattle.stepping.specs.Reading.{block, decode}
 use Rattle.codec.specs.Answers.{encoded, decoded, encodeUnder, decodeUnder, encodeChecked, decodeChecked}
 use Rattle.codec.specs.With.{encodedWith, decodedWith}
-use Rattle.codec.proofs.Answers.{→encoded, →decoded}
+use Rattle.codec.proofs.Answers.{→encoded, →decoded, decoded→}
 use Rattle.codec.proofs.Decoded.{length-decode}
 
 module _ (xs : List ℕ) where
@@ -38,6 +39,18 @@ module _ (xs : List ℕ) where
       × (length (decode c ws) ≡ length ws - c .window .lookahead)
   unfolding decodeUnder
   decodes c p room ws b l h = (rw p (→decoded c room ws l h b), sym (length-decode c ws))
+
+  -- each block of a decoding is read from its window, which lies in the words
+  pub decoded-blocks : (c : Code) → parse xs ≡ done c → (room : ℕ) (ws out : List ℕ)
+      → decodeUnder xs room ws ≡ done out → (j v : ℕ) → j < length out
+      → (j + c .window .lookahead < length ws) × (getD out j v ≡ block c ws j)
+  unfolding decodeUnder
+  decoded-blocks c p room ws out e j v h =
+      let q : decode c ws ≡ out = decoded→ c room ws out (rw p at e) in
+      let n = length ws - c .window .lookahead in
+      let l : n ≡ length out = length-decode c ws ∙ ap length q in
+      let k : j < n = omega arith in
+      (omega arith, ap (λ o. getD o j v) (sym q) ∙ map-range-at (block c ws) n j v k)
 
   -- a table by value whose code the record holds answers as the record does
   pub loaded : (t : Table) → parse xs ≡ done (codeIn t) → (room : ℕ) (ys : List ℕ)

@@ -1,6 +1,6 @@
 -- What a decoded block says of paths: 254 exactly where no path reads the words up to it, 255 exactly where one does
 -- but none the words ahead too, a datum exactly where one reads both. Blocks that stand clear of damage show no mark.
--- In order: window-cut; Begun, begun; follows→, →follows; Shows, settled, shows; marks, no-mark-ahead, clear-unmarked.
+-- In order: window-parts; Begun, begun; follows→, →follows; Shows, settled, shows; marks, no-mark-ahead, clear-unmarked.
 -- Assumes nothing.
 use Rattle.laws.proofs.All.{_≡_, refl, sym, ap, subst, _∙_, _↔_, inl, inr, Bool, true, false, List, [], _∷_, _++_, ℕ}
 use Rattle.laws.proofs.All.{suc, _+_, _-_, _^_, _≤_, _<_, arith, decLt, lt-ltb, le-ltb, T, length, getD, take, drop}
@@ -28,9 +28,9 @@ use Rattle.codec.proofs.Answers.{decoded→}
 use Rattle.codec.proofs.Promises.{facts}
 
 -- words n to j + k: those before word j, which is i words behind word n, the word, and those behind it
-window-cut : (L : List ℕ) (n i j k : ℕ) → n + i ≡ j → j + k < length L
+window-parts : (L : List ℕ) (n i j k : ℕ) → n + i ≡ j → j + k < length L
     → take (i + 1 + k) (drop n L) ≡ take i (drop n L) ++ getD L j 0 ∷ take k (drop (j + 1) L)
-window-cut L n i j k e h =
+window-parts L n i j k e h =
     let W = take (suc i + k) (drop n L) in
     let wide : i + 1 + k ≡ suc i + k = omega arith in
     let next : n + suc i ≡ j + 1 = omega arith in
@@ -59,7 +59,7 @@ module _ (c : Code) (good : Sound c) (L : List ℕ) (j k : ℕ) (h : j + k < len
       start = oneState t 0;
       front = take j L;
       set = past-early c L j q;
-      words = rw (lt-ltb j m q) (window-cut L 0 j j k (omega arith) h);
+      words = rw (lt-ltb j m q) (window-parts L 0 j j k (omega arith) h);
       holds = λ s. (
         (λ i. (rw (← one→ t 0 s i) (good .some), λ _. sym (one→ t 0 s i))),
         (λ (n, z). rw (z q) (→one t 0 (good .some))),
@@ -69,7 +69,7 @@ module _ (c : Code) (good : Sound c) (L : List ℕ) (j k : ℕ) (h : j + k < len
       start = everyState t;
       front = take m (drop (j - m) L);
       set = past-later c L j (omega arith);
-      words = rw (le-ltb j m (omega arith)) (window-cut L (j - m) m j k (omega arith) h);
+      words = rw (le-ltb j m (omega arith)) (window-parts L (j - m) m j k (omega arith) h);
       holds = λ s. (
         (λ i. (tab→ (λ s. true) (length t) s i .0, λ l. absurd (q l))),
         (λ (n, _). →tab (λ s. true) (length t) s n tt),

@@ -1,19 +1,16 @@
 -- Under a sound table decoding a recording gives its data, and the lists that are recordings are recognised.
--- In order: length-decode; clear-self; decode-recording; recognised; recording-inj.
+-- In order: clear-self; decode-recording; recognised; recording-inj.
 -- Assumes nothing.
-use Rattle.laws.proofs.All.{_≡_, refl, sym, ap, _∙_, inl, inr, _↔_, List, ℕ, _+_, _-_, _≤_, _<_, arith, decLt}
-use Rattle.laws.proofs.All.{length, length-map-range, ext-getD}
+use Rattle.laws.proofs.All.{_≡_, refl, sym, ap, _∙_, inl, inr, _↔_, List, ℕ, _+_, _≤_, _<_, arith, decLt}
+use Rattle.laws.proofs.All.{length, ext-getD}
 use Rattle.table.specs.Rows.{Code}
 use Rattle.table.specs.Paths.{Blocks, recording}
 use Rattle.checker.specs.Accepted.{Sound}
 use Rattle.table.proofs.Paths.{length-recording}
-use Rattle.stepping.specs.Reading.{block, decode}
+use Rattle.stepping.specs.Reading.{decode}
 use Rattle.codec.specs.Damage.{StandsClear, Recording}
 use Rattle.codec.proofs.Damage.{recovered}
-
--- "From W words come W − a blocks"
-pub length-decode : (c : Code) (ws : List ℕ) → length (decode c ws) ≡ length ws - c .window .lookahead
-length-decode c ws = length-map-range (block c ws) (length ws - c .window .lookahead)
+use Rattle.codec.proofs.Decoded.{length-decode}
 
 -- a block of the recording itself stands clear at its own place
 clear-self : (c : Code) (R : List ℕ) (i : ℕ) → i + c .window .lookahead < length R → Dec (i < c .window .memory)
@@ -27,7 +24,7 @@ decode-recording c g ds b =
     let R = recording c ds in
     let a = c .window .lookahead in
     let lr : length R ≡ length ds + a = length-recording c ds in
-    let ld : length (decode c R) ≡ length ds = length-decode c R ∙ omega arith in
+    let ld : length (decode c R) ≡ length ds = sym (length-decode c R) ∙ omega arith in
     ext-getD 0 (decode c R) ds ld
     (λ i h. recovered c g ds R b i i 0 (omega arith) (clear-self c R i (omega arith) (decLt i (c .window .memory))))
 

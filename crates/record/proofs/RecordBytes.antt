@@ -1,7 +1,7 @@
 -- A record is bytes, at most 3,864 of them.
 -- In order: pack-bytes; size-le, pack-short.
 -- Assumes nothing.
-use Rattle.laws.proofs.All.{sym, subst, _+_, _*_, _^_, _≤_, mul-le-mul, arith, pow-mono, length, Below}
+use Rattle.laws.proofs.All.{sym, subst, _≤_, arith, length, Below}
 use Rattle.bits.specs.Fields.{write}
 use Rattle.bits.proofs.Fields.{below-write, below-read}
 use Rattle.table.specs.Rows.{Code}
@@ -9,6 +9,7 @@ use Rattle.table.specs.declared.Head.{Head}
 use Rattle.table.specs.Formed.{head, Ranges, Formed}
 use Rattle.record.specs.Layout.{size, widths, values, pack}
 use Rattle.record.proofs.RecordWrite.{length-pack}
+use Rattle.record.proofs.Sizes.{small-of, bitCount-le}
 
 pub pack-bytes : (c : Code) → Below 256 (pack c)
 unfolding pack
@@ -16,12 +17,7 @@ pack-bytes c =
     below-read 8 (size (head c)) (write (widths (head c)) (values c)) (below-write (widths (head c)) (values c))
 
 pub size-le : (h : Head) → Ranges h → size h ≤ 3864
-size-le h r =
-    let a : 2 ^ h .p ≤ 16 = pow-mono {i = h .p} {j = 4} (r .p₂) in
-    let q : h .q + 7 ≤ 15 = omega (arith, r .q₂) in
-    let b : 2 ^ h .p * (h .q + 7) ≤ 16 * 15 = mul-le-mul a q in
-    let d : h .states * (2 ^ h .p * (h .q + 7)) ≤ 128 * (16 * 15) = mul-le-mul (r .s₂) b in
-    omega (arith, r .k₂)
+size-le h r = omega (arith, bitCount-le h (small-of h r))
 
 -- every record fits in 3,864 bytes
 pub pack-short : (c : Code) → Formed c → length (pack c) ≤ 3864

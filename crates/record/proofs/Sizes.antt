@@ -1,13 +1,14 @@
 -- How large the numbers of a record get, and which fields the header has.
--- In order: small-of; power-le, row-le, edges-le, bitCount-le; Standing, front-is; place-le, product-le; edge-count-le,
+-- In order: small-of; row-le, edges-le, bitCount-le; Standing, front-is; place-le, product-le; edge-count-le,
 -- edges-end; reach-words, reach-nexts.
 -- Assumes nothing.
 use Rattle.laws.proofs.All.{_≡_, refl, ap, List, [], _∷_, ℕ, _+_, _*_, _^_, _≤_, _<_, mul-le-mul, mul-le-mul-right}
-use Rattle.laws.proofs.All.{mul-assoc, arith, lit≤, drop, drop-drop, pow-mono, pow-pos}
+use Rattle.laws.proofs.All.{mul-assoc, arith, lit≤, drop, drop-drop, pow-pos}
 use Rattle.bits.specs.Fields.{field, read}
 use Rattle.bits.proofs.Runs.{size-holds}
 use Rattle.table.specs.declared.Head.{Head}
 use Rattle.table.specs.Formed.{Ranges}
+use Rattle.table.proofs.RowsOf.{ways-small}
 use Rattle.record.specs.Layout.{header, headOf, bitCount, size}
 use Rattle.record.specs.Places.{Small, edgesPlace, Reach}
 
@@ -15,13 +16,10 @@ use Rattle.record.specs.Places.{Small, edgesPlace, Reach}
 pub small-of : (h : Head) → Ranges h → Small h
 small-of h r = record { p₂ = r .p₂; q₂ = r .q₂; s₂ = r .s₂; k₂ = r .k₂ }
 
-pub power-le : (h : Head) → Small h → 2 ^ h .p ≤ 16
-power-le h r = pow-mono {i = h .p} {j = 4} (r .p₂)
-
 pub row-le : (h : Head) → Small h → 2 ^ h .p * (h .q + 7) ≤ 240
 row-le h r =
     let q : h .q + 7 ≤ 15 = omega (arith, r .q₂) in
-    mul-le-mul {n₁ = 2 ^ h .p} {m₁ = h .q + 7} {n₂ = 16} {m₂ = 15} (power-le h r) q
+    mul-le-mul {n₁ = 2 ^ h .p} {m₁ = h .q + 7} {n₂ = 16} {m₂ = 15} (ways-small (h .p) (r .p₂)) q
 
 pub edges-le : (h : Head) → Small h → h .states * (2 ^ h .p * (h .q + 7)) ≤ 30720
 edges-le h r =
@@ -59,7 +57,7 @@ product-le e d k m h g = mul-le-mul {n₁ = e} {m₁ = d} {n₂ = k} {m₂ = m} 
 
 -- the edges of all states
 pub edge-count-le : (h : Head) (n : ℕ) → Small h → n ≡ 2 ^ h .p → h .states * n ≤ 2048
-edge-count-le h n r e = rw e (product-le (h .states) (2 ^ h .p) 128 16 (r .s₂) (power-le h r))
+edge-count-le h n r e = rw e (product-le (h .states) (2 ^ h .p) 128 16 (r .s₂) (ways-small (h .p) (r .p₂)))
 
 pub edges-end : (h : Head) (n l : ℕ) → n ≡ 2 ^ h .p → l ≡ size h → edgesPlace h + h .states * n * (h .q + 7) ≤ 8 * l
 edges-end h n l e f =
@@ -73,7 +71,7 @@ module _ (h : Head) (n l : ℕ) (r : Small h) (e : n ≡ 2 ^ h .p) (f : l ≡ si
   pub reach-words : Reach (8 * l) n (h .states * n) (edgesPlace h) (h .q + 7) (h .q)
   reach-words = record {
     some = rw e (pow-pos (h .p));
-    few = rw e (power-le h r);
+    few = rw e (ways-small (h .p) (r .p₂));
     states = mul-le-mul-right n (r .s₂);
     width = r .q₂;
     apart = omega (arith, r .q₂);
@@ -84,7 +82,7 @@ module _ (h : Head) (n l : ℕ) (r : Small h) (e : n ≡ 2 ^ h .p) (f : l ≡ si
   pub reach-nexts : Reach (8 * l) n (h .states * n) (edgesPlace h + h .q) (h .q + 7) 7
   reach-nexts = record {
     some = rw e (pow-pos (h .p));
-    few = rw e (power-le h r);
+    few = rw e (ways-small (h .p) (r .p₂));
     states = mul-le-mul-right n (r .s₂);
     width = lit≤ tt;
     apart = omega (arith, r .q₂);

@@ -1,7 +1,7 @@
 -- The theorems of what was asked for after the first delivery, each written out in full as on the main page.
 -- In order: (a) joint, joined-pairs, numbered, too-many-pairs, joined-job, both-obeyed; (b) streams, good-streams,
--- stream-words, stream-returns, bits-reach; (c) labels, labels-rule, labels-hold; (d) marks, no-mark-ahead,
--- clear-unmarked.
+-- stream-words, stream-returns, bits-reach; (c) labels, labels-rule, labels-hold; (d) decoded-blocks, marks,
+-- no-mark-ahead, clear-unmarked.
 -- Assumes nothing.
 use mathlib.Core.Path.{_≡_}
 use mathlib.Core.Logic.{_⊎_, _↔_}
@@ -130,7 +130,13 @@ pub labels-hold : (j : Job) → Allowed j → 0 < sum (componentOf j .weights) �
 labels-hold = Rattle.compiler.proofs.Accepted.labelled-full
 
 -- ---- (d) Two marks: a block that cannot be read shows whether what went before is at fault, 254, or the words ahead,
--- 255. `decodes` and `stream-words` say that block j of a decoding is `block c L j`.
+-- 255. What is said of `block c L j` is said of byte j of every decoding, and by `stream-words` of that of a stream.
+
+-- Byte j of a decoding is the block that the reading rule gives at j, and the words of its window lie in the list.
+pub decoded-blocks : (rec : List ℕ) (c : Code) → parse rec ≡ done c → (room : ℕ) (L out : List ℕ)
+    → decodeUnder rec room L ≡ done out → (j v : ℕ) → j < length out
+    → (j + c .window .lookahead < length L) × (getD out j v ≡ block c L j)
+decoded-blocks = Rattle.codec.proofs.Done.decoded-blocks
 
 -- 254 exactly where no path reads the words up to a block, 255 where one does but none those ahead too, else a datum.
 pub marks : (rec : List ℕ) → Below 256 rec → (c : Code) → parse rec ≡ done c → (L : List ℕ) (j : ℕ)
