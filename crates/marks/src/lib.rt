@@ -4,7 +4,7 @@ ghost use Prim.Native.Nat.{_≤_};
 ghost use lib.Dec.{eqb};
 ghost use Rattle.laws.specs.Sums.{one, times};
 ghost use Rattle.text.specs.Texts.{Added};
-ghost use Rattle.outputs.specs.Results.{Within};
+ghost use Rattle.outputs.specs.Results.{Within, Fails};
 ghost use Rattle.marks.specs.Marking.{marksLine};
 use answer::Answer;
 use arguments::Action;
@@ -77,6 +77,7 @@ fn tell_marks(w: Way, r: Answer, out: &[u8])
 // Writes what the encoding or decoding of an action came to; the marks are said where all of it was written.
 pub fn finish_code(a: Action, w: Way, r: Answer, out: &[u8]) -> Status
     requires { ⌜ Within r (now out) ⌝ }
+    ensures answer { λ s. ⌜ Fails r s ⌝ }
 {
     let i = written_place(a);
     let s = finish(a, i, r, out);

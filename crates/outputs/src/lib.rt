@@ -3,7 +3,7 @@ ghost use mathlib.Core.Path.{_≡_};
 ghost use Prim.Native.Nat.{_≤_};
 ghost use Rattle.io.specs.Counts.{Counts};
 ghost use Rattle.arguments.specs.Shapes.{shapeOf, statusOf};
-ghost use Rattle.outputs.specs.Results.{Within};
+ghost use Rattle.outputs.specs.Results.{Within, Fails};
 use answer::Answer;
 use arguments::Action;
 use arguments::Status;
@@ -67,6 +67,7 @@ fn store_at(a: Action, i: usize, bytes: &[u8]) -> Status
 pub fn finish(a: Action, i: usize, r: Answer, out: &[u8]) -> Status
     requires { ⌜ i ≡ shapeOf a .written ⌝ }
     requires { ⌜ Within r (now out) ⌝ }
+    ensures answer { λ s. ⌜ Fails r s ⌝ }
 {
     match r {
         Answer::Refused(x) => refuse(x),

@@ -1,4 +1,4 @@
--- `finish_code` is safe: the result lies within the bytes that are lent for it, and goes where the action writes.
+-- `finish_code` meets its contract: the result goes where the action writes, and the run ends as `finish` says.
 -- Assumes nothing.
 use Rattle.laws.proofs.All.{arith, needs}
 use Rattle.marks.proofs.finish_code.Statement.{statement}
