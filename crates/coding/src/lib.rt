@@ -2,6 +2,7 @@
 ghost use mathlib.Core.Path.{_≡_};
 ghost use lib.ListN.{length};
 ghost use Rattle.answer.specs.Outcomes.{answerOf, outputOf};
+ghost use Rattle.outputs.specs.Results.{Fails};
 ghost use Rattle.coding.specs.Coding.{coded};
 use answer::Answer;
 use arguments::Action;
@@ -41,8 +42,15 @@ fn longest(w: Way) -> usize {
     }
 }
 
-// The words of blocks, or the blocks of words, under a record.
-fn code_bytes(w: Way, under: &[u8], bytes: &[u8], out: &mut [u8]) -> Status {
+// The words of blocks, or the blocks of words, under a record; the run fails where they are refused.
+fn code_bytes(w: Way, under: &[u8], bytes: &[u8], out: &mut [u8]) -> Status
+    ensures answer { λ s. ⌜
+        Fails (answerOf (coded w (now (under .entry)) (length (now (out .entry))) (now (bytes .entry)))) s ⌝ }
+    ensures written { λ s. ⌜
+        now (out .exit)
+        ≡ outputOf (coded w (now (under .entry)) (length (now (out .entry))) (now (bytes .entry)))
+        (now (out .entry)) ⌝ }
+{
     let r = code(w, under, bytes, out);
     finish_code(Action::Coding(w), w, r, out)
 }

@@ -1,5 +1,5 @@
 -- A result lies within the bytes that were lent for it; a run that a call refuses fails.
--- In order: result-within, front-long; fails-refused, fails-done.
+-- In order: result-within, front-long; fails-refused, fails-done, fails-outcome.
 -- Assumes nothing.
 use Rattle.laws.proofs.All.{_≡_, sym, ap, subst, _∙_, List, ℕ, _≤_, arith, length, drop, length-append}
 use Rattle.answer.specs.declared.Answer.{Answer}
@@ -25,3 +25,7 @@ fails-refused a r s e h = subst (λ a. Fails a s) (sym e) h
 
 pub fails-done : (a : Answer) (n : ℕ) (s : Status) → a ≡ Done n → Fails a s
 fails-done a n s e = subst (λ a. Fails a s) (sym e) tt
+
+-- how a run ends is said of the call's outcome
+pub fails-outcome : (o : Outcome (List ℕ)) (a : Answer) (s : Status) → a ≡ answerOf o → Fails a s → Fails (answerOf o) s
+fails-outcome o a s e = subst (λ a. Fails a s) e

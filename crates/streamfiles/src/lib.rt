@@ -1,9 +1,10 @@
 // The actions on bit streams in files: packing, unpacking, encoding to a stream, decoding from one.
 ghost use mathlib.Core.Path.{_≡_};
 ghost use lib.ListN.{length};
-ghost use Rattle.answer.specs.Outcomes.{outputOf};
+ghost use Rattle.answer.specs.Outcomes.{answerOf, outputOf};
 ghost use Rattle.packing.specs.Streams.{packInto, unpackInto};
 ghost use Rattle.streams.specs.Recorded.{encodeStream, decodeStream};
+ghost use Rattle.outputs.specs.Results.{Fails};
 
 pub mod reaching;
 
@@ -28,6 +29,7 @@ use streaming::encode_stream;
 
 // The stream of words of q bits.
 fn pack_words(q: usize, words: &[u8], out: &mut [u8]) -> Status
+    ensures answer { λ s. ⌜ Fails (answerOf (packInto q (length (now (out .entry))) (now (words .entry)))) s ⌝ }
     ensures written { λ s. ⌜
         now (out .exit) ≡ outputOf (packInto q (length (now (out .entry))) (now (words .entry))) (now (out .entry)) ⌝ }
 {
@@ -55,6 +57,8 @@ pub fn pack_file() -> Status {
 
 // The words of q bits of a stream.
 fn unpack_words(q: usize, count: usize, stream: &[u8], out: &mut [u8]) -> Status
+    ensures answer { λ s. ⌜
+        Fails (answerOf (unpackInto q count (length (now (out .entry))) (now (stream .entry)))) s ⌝ }
     ensures written { λ s. ⌜
         now (out .exit)
         ≡ outputOf (unpackInto q count (length (now (out .entry))) (now (stream .entry))) (now (out .entry)) ⌝ }
@@ -87,6 +91,8 @@ pub fn unpack_file() -> Status {
 
 // The stream of blocks under a record.
 fn encode_blocks(under: &[u8], blocks: &[u8], out: &mut [u8]) -> Status
+    ensures answer { λ s. ⌜
+        Fails (answerOf (encodeStream (now (under .entry)) (length (now (out .entry))) (now (blocks .entry)))) s ⌝ }
     ensures written { λ s. ⌜
         now (out .exit)
         ≡ outputOf (encodeStream (now (under .entry)) (length (now (out .entry))) (now (blocks .entry)))
@@ -98,6 +104,8 @@ fn encode_blocks(under: &[u8], blocks: &[u8], out: &mut [u8]) -> Status
 
 // The blocks of the words of a stream under a record; the marks are said.
 fn decode_words(under: &[u8], count: usize, stream: &[u8], out: &mut [u8]) -> Status
+    ensures answer { λ s. ⌜
+        Fails (answerOf (decodeStream (now (under .entry)) count (length (now (out .entry))) (now (stream .entry)))) s ⌝ }
     ensures written { λ s. ⌜
         now (out .exit)
         ≡ outputOf (decodeStream (now (under .entry)) count (length (now (out .entry))) (now (stream .entry)))
