@@ -1,6 +1,7 @@
 -- What a decoded block says of paths: 254 exactly where no path reads the words up to it, 255 exactly where one does
 -- but none the words ahead too, a datum exactly where one reads both. Blocks that stand clear of damage show no mark.
--- In order: window-parts; Begun, begun; follows→, →follows; Shows, settled, shows; marks, no-mark-ahead, clear-unmarked.
+-- In order: window-parts; Begun, begun; follows→, →follows; Shows, settled, shows; marks, no-mark-ahead,
+-- clear-unmarked.
 -- Assumes nothing.
 use Rattle.laws.proofs.All.{_≡_, refl, sym, ap, subst, _∙_, _↔_, inl, inr, Bool, true, false, List, [], _∷_, _++_, ℕ}
 use Rattle.laws.proofs.All.{suc, _+_, _-_, _^_, _≤_, _<_, arith, decLt, lt-ltb, le-ltb, T, length, getD, take, drop}

@@ -1,8 +1,7 @@
 // Results written: to the file that an action's argument names, or to standard output, which a file named - is.
 ghost use mathlib.Core.Path.{_≡_};
-ghost use Prim.Native.Nat.{_≤_};
 ghost use Rattle.io.specs.Counts.{Counts};
-ghost use Rattle.arguments.specs.Shapes.{shapeOf, statusOf};
+ghost use Rattle.arguments.specs.Shapes.{shapeOf};
 ghost use Rattle.outputs.specs.Results.{Within, Fails};
 use answer::Answer;
 use arguments::Action;

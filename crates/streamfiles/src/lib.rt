@@ -105,7 +105,8 @@ fn encode_blocks(under: &[u8], blocks: &[u8], out: &mut [u8]) -> Status
 // The blocks of the words of a stream under a record; the marks are said.
 fn decode_words(under: &[u8], count: usize, stream: &[u8], out: &mut [u8]) -> Status
     ensures answer { λ s. ⌜
-        Fails (answerOf (decodeStream (now (under .entry)) count (length (now (out .entry))) (now (stream .entry)))) s ⌝ }
+        Fails (answerOf (decodeStream (now (under .entry)) count (length (now (out .entry))) (now (stream .entry))))
+        s ⌝ }
     ensures written { λ s. ⌜
         now (out .exit)
         ≡ outputOf (decodeStream (now (under .entry)) count (length (now (out .entry))) (now (stream .entry)))

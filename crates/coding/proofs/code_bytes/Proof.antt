@@ -21,8 +21,10 @@ returns c =
     let called = c .before .before .before .before in
     let call = called .code in
     let a = called .before .before .before .before .before .args in
-    let o = coded (a .w) (now (a .under)) (length (now (a .out))) (now (a .bytes)) in
-    (fails-outcome o (call .result) (c .finish-code .result) (call .ensures .0) (c .finish-code .ensures), call .ensures .1)
+    let o = coded (a .w) (now (a .under)) (length (now (a .out))) (now (a .bytes)) in (
+      fails-outcome o (call .result) (c .finish-code .result) (call .ensures .0) (c .finish-code .ensures),
+      call .ensures .1,
+    )
 
 pub code-bytes-spec : {M : Type 1} → statement M
 code-bytes-spec =
