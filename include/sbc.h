@@ -54,7 +54,7 @@ enum {
 /* Sizes, in bytes. */
 enum {
     /* What sbc_info writes. */
-    SBC_INFO = 7,
+    SBC_INFO = 8,
     /* Room for the words of every refusal. */
     SBC_PHRASE_MAX = 60,
     /* The blocks that stand where no edge reads the words; no datum has these values. The first: the words up to and
@@ -68,9 +68,9 @@ enum {
     SBC_RUN_LENGTH_JOB = 5,
     /* The longest job with two constraints, 69: p, q, cap, and for each K and two bytes for each of 16 states. */
     SBC_JOINED_JOB_MAX = 3 + 2 * (1 + 2 * 16),
-    /* The longest record, 3,864: a header of 3 + 4 + 7 + 4 + 4 + 4 + 4 bits, two next states of 1 + 4 bits for each of
-     * 16 constraint states, and a word of 8 bits with a next state of 7 for each of 128 states and 16 data. */
-    SBC_RECORD_MAX = (30 + 16 * 2 * (1 + 4) + 128 * 16 * (8 + 7) + 7) / 8,
+    /* The longest record, 3,865: a header of 3 + 4 + 7 + 4 + 4 + 4 + 4 + 4 bits, two next states of 1 + 4 bits for each
+     * of 16 constraint states, and a word of 8 bits with a next state of 7 for each of 128 states and 16 data. */
+    SBC_RECORD_MAX = (34 + 16 * 2 * (1 + 4) + 128 * 16 * (8 + 7) + 7) / 8,
     /* The most words that a recording has beyond its blocks: N blocks give N + a words, and a is at most 15. */
     SBC_LOOKAHEAD_MAX = 15,
     /* The longest set: the count, and 255 of the longest records behind their lengths. */
@@ -93,7 +93,8 @@ static inline uint64_t sbc_value(uint64_t answer)
 }
 
 /* Compiles a job to a record. Since version 1.1.0 the tables of all three calls that compile carry other data than
- * before; older records stay good, and a recording is read under the record that it was written under.
+ * before, and since version 2.0.0 a record states its tail datum: the compiler writes 0, and sbc_with_tail another. A
+ * record of an older version is no longer read; compile its job anew, or give it the field.
  * job: p (1 to 4), q (1 to 8), cap (1 to 16), K (1 to 16), then for each of K states the next states for channel bits
  * 0 and 1, with 255 for none.
  * out: the packed record; SBC_RECORD_MAX bytes are always enough. It lies apart from job.
@@ -124,12 +125,13 @@ uint64_t sbc_compile_joined(const uint8_t *job, uint64_t job_length, uint8_t *ou
 /* Checks a record: it is accepted when every recording under its table obeys its constraint, and its window does what
  * a window must.
  * Answers 0.
- * Refusals in order: 8 below four bytes; 7 for the header; 8; 7 for the rest; 9; 10. */
+ * Refusals in order: 8 below five bytes; 7 for the header; 8; 7 for the rest; 9; 10. */
 uint64_t sbc_check(const uint8_t *record, uint64_t record_length);
 
 /* Records blocks under a record.
  * blocks: one byte each, below 2^p.
- * out: one word a byte, a more than there are blocks. It lies apart from record and blocks.
+ * out: one word a byte, a more than there are blocks: the last a words are those of the record's tail datum. It lies
+ * apart from record and blocks.
  * Answers how many words were written.
  * Refusals in order: those of sbc_check; 13; 11 with the place of the first bad block. */
 uint64_t sbc_encode(const uint8_t *record, uint64_t record_length, const uint8_t *blocks, uint64_t blocks_length,
@@ -208,10 +210,20 @@ uint64_t sbc_decode_checked(const uint8_t *record, uint64_t record_length, const
                             uint8_t *out, uint64_t out_length);
 
 /* Tells the numbers of a record.
- * out: SBC_INFO bytes, one number each: p, q, states less one, m, a, K, constraint start. It lies apart from record.
+ * out: SBC_INFO bytes, one number each: p, q, states less one, m, a, K, constraint start, tail datum. It lies apart
+ * from record.
  * Answers SBC_INFO.
  * Refusals in order: those of sbc_check; 13. */
 uint64_t sbc_info(const uint8_t *record, uint64_t record_length, uint8_t *out, uint64_t out_length);
+
+/* Writes a record with another tail datum, the datum with which recordings under it close. Nothing else changes: the
+ * table, its window and its constraint stay, and such a record is accepted as the first one is.
+ * datum: below 2^p.
+ * out: the packed record, record_length bytes. It lies apart from record.
+ * Answers how many bytes were written: record_length.
+ * Refusals in order: those of sbc_check; 7 for a datum of 2^p or more; 13. */
+uint64_t sbc_with_tail(const uint8_t *record, uint64_t record_length, uint64_t datum, uint8_t *out,
+                       uint64_t out_length);
 
 /* Checks a set of records.
  * set: one count byte, then each record behind a two-byte length, most significant byte first.
@@ -238,7 +250,7 @@ uint64_t sbc_listing(const uint8_t *job, uint64_t job_length, uint8_t *out, uint
 uint64_t sbc_phrase(uint64_t refusal, uint8_t *out, uint64_t out_length);
 
 /* The version of the library, and no answer: 10,000 times the major number, plus 100 times the minor number, plus the
- * patch. 10200 is 1.2.0. */
+ * patch. 20000 is 2.0.0. */
 uint64_t sbc_version(void);
 
 #ifdef __cplusplus

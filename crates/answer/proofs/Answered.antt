@@ -1,11 +1,11 @@
 -- An outcome as the code answers it, with the lent bytes after the call.
--- In order: declined, finished, handed.
+-- In order: declined, finished, handed; ends-onward, goes-onward.
 -- Assumes nothing.
 use Rattle.laws.proofs.All.{_≡_, sym, ap, _∙_, List, _++_, ℕ, length, drop}
 use Rattle.answer.specs.declared.Refusal.{Refusal}
 use Rattle.answer.specs.declared.Answer.{Answer}
 use Rattle.answer.specs.declared.Answer.the-variants.{Done, Refused}
-use Rattle.answer.specs.Outcomes.{Outcome, done, refused, answerOf, outputOf}
+use Rattle.answer.specs.Outcomes.{Outcome, done, refused, onward, answerOf, outputOf}
 
 -- a refusal, and the lent bytes as they were
 pub declined : (o : Outcome (List ℕ)) (r : Refusal) (out : List ℕ) → o ≡ refused r
@@ -22,3 +22,14 @@ finished o xs out out′ n e q b =
 pub handed : (o o′ : Outcome (List ℕ)) (a : Answer) (out out′ : List ℕ) → o ≡ o′ → a ≡ answerOf o
     → out′ ≡ outputOf o out → (a ≡ answerOf o′) × (out′ ≡ outputOf o′ out)
 handed o o′ a out out′ e p q = (p ∙ ap answerOf e, q ∙ ap (λ x. outputOf x out) e)
+
+-- a first step that is refused ends the call
+pub ends-onward : {A : Type 0} (o : Outcome A) (f : A → Outcome (List ℕ)) (r : Refusal) (out : List ℕ) → o ≡ refused r
+    → (Refused r ≡ answerOf (onward o f)) × (out ≡ outputOf (onward o f) out)
+ends-onward o f r out e = declined (onward o f) r out (ap (λ x. onward x f) e)
+
+-- and one that is done hands on what comes of its result
+pub goes-onward : {A : Type 0} (o : Outcome A) (f : A → Outcome (List ℕ)) (x : A) (a : Answer) (out out′ : List ℕ)
+    → o ≡ done x → a ≡ answerOf (f x) → out′ ≡ outputOf (f x) out
+    → (a ≡ answerOf (onward o f)) × (out′ ≡ outputOf (onward o f) out)
+goes-onward o f x a out out′ e = handed (f x) (onward o f) a out out′ (ap (λ y. onward y f) (sym e))

@@ -3,6 +3,7 @@ ghost use mathlib.Core.Path.{_≡_};
 ghost use Rattle.answer.specs.Outcomes.{answerOf, outputOf};
 ghost use lib.ListN.{length};
 ghost use Rattle.checker.specs.Parse.{checkedOnly};
+ghost use Rattle.closing.specs.Closing.{closedWith};
 ghost use Rattle.codec.specs.Answers.{encodeUnder, decodeUnder, encodeChecked, decodeChecked};
 ghost use Rattle.compiler.specs.Compile.{compileJob, compileRunLength, compileJoined};
 ghost use Rattle.info.specs.Info.{infoUnder, phraseInto};
@@ -136,8 +137,8 @@ pub extern "C" fn sbc_decode_stream(bytes: &[u8], count: u64, stream: &[u8], out
     word(streaming::decode_stream(bytes, count as usize, stream, out))
 }
 
-// The numbers of a record, one byte each: p, q, states less one, m, a, K, constraint start. The record's refusals, 13;
-// otherwise 7.
+// The numbers of a record, one byte each: p, q, states less one, m, a, K, constraint start, tail datum. The record's
+// refusals, 13; otherwise 8.
 #[no_mangle]
 pub extern "C" fn sbc_info(bytes: &[u8], out: &mut [u8]) -> u64
     ensures answer { λ r. ⌜ r ≡ wordOf (answerOf (infoUnder (now (bytes .entry)) (length (now (out .entry))))) ⌝ }
@@ -145,6 +146,18 @@ pub extern "C" fn sbc_info(bytes: &[u8], out: &mut [u8]) -> u64
         ≡ outputOf (infoUnder (now (bytes .entry)) (length (now (out .entry)))) (now (out .entry)) ⌝ }
 {
     word(info::info(bytes, out))
+}
+
+// A record with another tail datum: the record's refusals, 7 for a datum of 2^p or more, 13; otherwise how many bytes
+// were written, as many as the record has.
+#[no_mangle]
+pub extern "C" fn sbc_with_tail(bytes: &[u8], datum: u64, out: &mut [u8]) -> u64
+    ensures answer { λ r. ⌜ r ≡ wordOf (answerOf
+        (closedWith (now (bytes .entry)) datum (length (now (out .entry))))) ⌝ }
+    ensures written { λ r. ⌜ now (out .exit)
+        ≡ outputOf (closedWith (now (bytes .entry)) datum (length (now (out .entry)))) (now (out .entry)) ⌝ }
+{
+    word(closing::with_tail(bytes, datum as usize, out))
 }
 
 // A job compiled to a record: 8 below four bytes, 1, K by 2, 8, next states by 2, 3, 4, 5, 6, 13; otherwise how many
@@ -205,5 +218,5 @@ pub extern "C" fn sbc_phrase(number: u64, out: &mut [u8]) -> u64
 pub extern "C" fn sbc_version() -> u64
     ensures answer { λ r. ⌜ r ≡ version ⌝ }
 {
-    10200
+    20000
 }

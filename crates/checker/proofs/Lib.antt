@@ -4,3 +4,4 @@ pub mod Follow
 pub mod Accepted
 pub mod Reasons
 pub mod Meanings
+pub mod Tail

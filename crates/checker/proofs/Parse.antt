@@ -1,6 +1,6 @@
 -- A code with its fields in range, written as a record and parsed again, is judged as it stands; and what bytes that
 -- are accepted hold.
--- In order: parse-pack, parse-pack-good; parse-formed; Checked, parse-good.
+-- In order: parse-pack, parse-pack-good; parse-passed, parse-formed; Checked, parse-good.
 -- Assumes nothing.
 use Rattle.laws.proofs.All.{_≡_, ap, subst, _∙_, List, ℕ, T, Below}
 use Rattle.answer.specs.declared.Refusal.the-variants.{Disobeys, WindowFails}
@@ -34,13 +34,17 @@ judged→ d c e =
     let (w, e₂) = unless→ WindowFails (works (d .table) (d .window)) (done d) c e₁ in
     (o, w, done-inj d c e₂)
 
--- what parse accepts has its fields in range
-pub parse-formed : (xs : List ℕ) (c : Code) → parse xs ≡ done c → T (formed c)
+-- what parse accepts has its fields in range and passes the two checks of the table
+pub parse-passed : (xs : List ℕ) (c : Code) → parse xs ≡ done c
+    → T (formed c) × T (obeys c) × T (works (c .table) (c .window))
 unfolding parse
-parse-formed xs c e =
+parse-passed xs c e =
     let (d, e₀, e₁) = onward→ (fieldsChecked xs) judged c e in
-    let (_, _, q) = judged→ d c e₁ in
-    subst (λ d. T (formed d)) q (fields-formed xs d e₀)
+    let (o, w, q) = judged→ d c e₁ in
+    subst (λ d. T (formed d) × T (obeys d) × T (works (d .table) (d .window))) q (fields-formed xs d e₀, o, w)
+
+pub parse-formed : (xs : List ℕ) (c : Code) → parse xs ≡ done c → T (formed c)
+parse-formed xs c e = parse-passed xs c e .0
 
 module _ (xs : List ℕ) (bytes : Below 256 xs) where
   pub record Checked (c : Code) : Type 0 where

@@ -8,7 +8,7 @@ use Rattle.answer.specs.Outcomes.{done, unless, onward}
 use Rattle.bits.specs.Fields.{bitsOf}
 use Rattle.windows.specs.Works.{works}
 use Rattle.obeying.specs.Obeys.{obeys}
-use Rattle.record.specs.Layout.{size}
+use Rattle.record.specs.Layout.{headerBytes, size}
 use Rattle.record.specs.Parse.{goodHead}
 use Rattle.record.specs.Checks.{restGood, fieldsChecked}
 use Rattle.checker.specs.Parse.{judged, parse}
@@ -21,15 +21,15 @@ yes-so b e = subst T (sym e) tt
 pub reason : (xs : List ℕ) → Reason xs (parse xs)
 unfolding parse fieldsChecked
 reason xs =
-    go (leb 4 (length xs)) refl (goodHead (headerOf xs)) refl (eqb (length xs) (size (headerOf xs))) refl
+    go (leb headerBytes (length xs)) refl (goodHead (headerOf xs)) refl (eqb (length xs) (size (headerOf xs))) refl
     (restGood (headerOf xs) (bitsOf xs)) refl
   where
     n : ℕ
     n = length xs
 
-    sized : leb 4 n ≡ true → goodHead (headerOf xs) ≡ true → eqb n (size (headerOf xs)) ≡ true → Sized xs
+    sized : leb headerBytes n ≡ true → goodHead (headerOf xs) ≡ true → eqb n (size (headerOf xs)) ≡ true → Sized xs
     sized a b c = record {
-      long = leb-true 4 n a;
+      long = leb-true headerBytes n a;
       headed = yes-so (goodHead (headerOf xs)) b;
       exact = eqb-true n (size (headerOf xs)) c;
     }
@@ -44,14 +44,14 @@ reason xs =
         accepted s (yes-so (restGood (headerOf xs) (bitsOf xs)) pd) (yes-so (obeys (codeFrom xs)) pe)
         (yes-so (works (codeFrom xs .table) (codeFrom xs .window)) pf)
 
-    go : (a : Bool) → leb 4 n ≡ a → (b : Bool) → goodHead (headerOf xs) ≡ b
+    go : (a : Bool) → leb headerBytes n ≡ a → (b : Bool) → goodHead (headerOf xs) ≡ b
         → (c : Bool) → eqb n (size (headerOf xs)) ≡ c → (d : Bool) → restGood (headerOf xs) (bitsOf xs) ≡ d
         → Reason xs (onward (unless Length a (unless Field b (unless Length c (unless Field d (done (codeFrom xs))))))
         judged)
-    go false pa b pb c pc d pd = short (leb-false 4 n pa)
-    go true pa false pb c pc d pd = headless (leb-true 4 n pa) pb
+    go false pa b pb c pc d pd = short (leb-false headerBytes n pa)
+    go true pa false pb c pc d pd = headless (leb-true headerBytes n pa) pb
     go true pa true pb false pc d pd =
-        misfit (leb-true 4 n pa) (yes-so (goodHead (headerOf xs)) pb) (eqb-false n (size (headerOf xs)) pc)
+        misfit (leb-true headerBytes n pa) (yes-so (goodHead (headerOf xs)) pb) (eqb-false n (size (headerOf xs)) pc)
     go true pa true pb true pc false pd = unranged (sized pa pb pc) pd
     go true pa true pb true pc true pd =
         good (sized pa pb pc) pd (obeys (codeFrom xs)) refl (works (codeFrom xs .table) (codeFrom xs .window)) refl

@@ -1,4 +1,4 @@
--- A record read and judged: "Record: 8 below four bytes, header by 7, 8, the rest by 7, 9, 10."
+-- A record read and judged: "the first check is 8 below five", then "header by 7, 8, the rest by 7, 9, 10".
 -- In order: judged, the two checks of the table; parse, the whole order; checkedOnly, what the checker answers.
 -- Assumes nothing.
 use mathlib.Core.List.{List, []}
@@ -14,7 +14,7 @@ use Rattle.record.specs.Checks.{fieldsChecked}
 abbrev pub judged : Code → Outcome Code
 judged c = unless Disobeys (obeys c) (unless WindowFails (works (c .table) (c .window)) (done c))
 
--- the code that bytes hold, or the refusal: "8 below four bytes, header by 7, 8, the rest by 7", then "9, 10"
+-- the code that bytes hold, or the refusal: "8 below five", "header by 7, 8, the rest by 7", then "9, 10"
 unfoldable pub parse : List ℕ → Outcome Code
 parse xs = onward (fieldsChecked xs) judged
 

@@ -15,7 +15,7 @@ use Rattle.table.specs.Rows.{Code}
 use Rattle.windows.specs.Works.{works}
 use Rattle.obeying.specs.Obeys.{obeys}
 use Rattle.table.specs.declared.Head.{Head}
-use Rattle.record.specs.Layout.{header, headOf, size}
+use Rattle.record.specs.Layout.{header, headerBytes, headOf, size}
 use Rattle.record.specs.Parse.{goodHead}
 use Rattle.record.specs.Checks.{codeAt, restGood}
 
@@ -29,15 +29,16 @@ codeFrom xs = codeAt (headerOf xs) (bitsOf xs)
 
 -- the bytes have a header in range and the length that it says
 pub record Sized (xs : List ℕ) : Type 0 where
-  pub long : 4 ≤ length xs
+  pub long : headerBytes ≤ length xs
   pub headed : T (goodHead (headerOf xs))
   pub exact : length xs ≡ size (headerOf xs)
 
--- "Record: 8 below four bytes, header by 7, 8, the rest by 7, 9, 10"
+-- "the first check is 8 below five", then "header by 7, 8, the rest by 7, 9, 10"
 pub data Reason (xs : List ℕ) : Outcome Code → Type 0 where
-  short : length xs < 4 → Reason xs (refused Length)
-  headless : 4 ≤ length xs → goodHead (headerOf xs) ≡ false → Reason xs (refused Field)
-  misfit : 4 ≤ length xs → T (goodHead (headerOf xs)) → length xs ≢ size (headerOf xs) → Reason xs (refused Length)
+  short : length xs < headerBytes → Reason xs (refused Length)
+  headless : headerBytes ≤ length xs → goodHead (headerOf xs) ≡ false → Reason xs (refused Field)
+  misfit : headerBytes ≤ length xs → T (goodHead (headerOf xs)) → length xs ≢ size (headerOf xs)
+      → Reason xs (refused Length)
   unranged : Sized xs → restGood (headerOf xs) (bitsOf xs) ≡ false → Reason xs (refused Field)
   disobedient : Sized xs → T (restGood (headerOf xs) (bitsOf xs)) → obeys (codeFrom xs) ≡ false
       → Reason xs (refused Disobeys)

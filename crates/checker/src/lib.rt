@@ -34,7 +34,7 @@ fn judge(t: Table) -> TableAnswer
     }
 }
 
-// The table that a record's bytes hold, or the refusal: "8 below four bytes, header by 7, 8, the rest by 7, 9, 10".
+// The table that a record's bytes hold, or the refusal: 8 below five bytes, "header by 7, 8, the rest by 7, 9, 10".
 pub fn load(bytes: &[u8]) -> TableAnswer
     ensures answer { λ r. ⌜ outcomeIn r ≡ parse (now (bytes .entry)) ⌝ }
     ensures kept { λ r. ⌜ (r .verdict ≡ Good → T (ready (r .table))) ⌝ }

@@ -13,13 +13,12 @@ use Rattle.table.specs.Paths.{Blocks, recording, closing}
 use Rattle.windows.specs.Window.{Window}
 use Rattle.table.specs.Formed.{Formed}
 use Rattle.checker.specs.Accepted.{Sound}
-use Rattle.table.proofs.Paths.{length-recording, blocks→path, path-words}
+use Rattle.table.proofs.Paths.{closed-blocks, length-recording, blocks→path, path-words}
 use Rattle.table.proofs.Shape.{words}
 use Rattle.checker.proofs.Acceptance.{sound}
 use Rattle.stepping.specs.Reading.{decode}
 use Rattle.codec.specs.Answers.{encoded, decoded}
 use Rattle.codec.specs.Damage.{Recording}
-use Rattle.codec.proofs.Damage.{closed-blocks}
 use Rattle.codec.proofs.RoundTrip.{decode-recording}
 
 -- ---- when encoding and decoding are done
@@ -64,7 +63,7 @@ module _ (c : Code) (f : Formed c) (w : Window (c .table) (c .window)) where
       let g : Sound c = sound c f w in
       let D = ds ++ closing c in
       path-words (c .table) (2 ^ c .q) (words (c .p) (c .q) (length (c .table)) (c .table) (f .rows)) D 0
-      (blocks→path (c .table) (2 ^ c .p) (g .closed) (g .full) D 0 (g .some) (closed-blocks c ds b))
+      (blocks→path (c .table) (2 ^ c .p) (g .closed) (g .full) D 0 (g .some) (closed-blocks c (g .tail) ds b))
 
   -- decoding a recording returns its data
   pub returns : (room room′ : ℕ) (ds R : List ℕ) → length ds ≤ room′ → encoded c room ds ≡ done R

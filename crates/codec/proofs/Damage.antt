@@ -1,22 +1,16 @@
 -- A block that stands clear is read as it was recorded, whatever the rest of the list holds.
--- In order: closed-blocks, recovered.
+-- In order: recovered.
 -- Assumes nothing.
 use Rattle.laws.proofs.All.{_≡_, refl, sym, ap, _∙_, inl, inr, List, _++_, ℕ, _-_, _^_, _<_, zero-le, arith}
-use Rattle.laws.proofs.All.{length, getD, List·getD-append, pow-pos, map-range-at, Below, below-zeros, below-append}
-use Rattle.laws.proofs.All.{take-all}
+use Rattle.laws.proofs.All.{length, getD, List·getD-append, map-range-at, Below, take-all}
 use Rattle.table.specs.Rows.{Code}
-use Rattle.table.specs.Paths.{Blocks, recording, closing}
-use Rattle.table.proofs.Paths.{length-spells, length-recording, blocks→path}
+use Rattle.table.specs.Paths.{recording, closing}
+use Rattle.table.proofs.Paths.{length-spells, closed-blocks, length-recording, blocks→path}
 use Rattle.stepping.specs.Reading.{decode, block}
 use Rattle.codec.specs.Damage.{StandsClear}
 use Rattle.codec.proofs.Local.{block-local, block-local-start}
 use Rattle.codec.proofs.OneDatum.{one-path}
 use Rattle.checker.specs.Accepted.{Sound}
-
--- blocks with the closing blocks behind them are blocks
-pub closed-blocks : (c : Code) (ds : List ℕ) → Blocks c ds → Blocks c (ds ++ closing c)
-closed-blocks c ds b =
-    below-append (2 ^ c .p) ds (closing c) b (below-zeros (2 ^ c .p) (c .window .lookahead) (pow-pos (c .p)))
 
 module _ (c : Code) (good : Sound c) (data′ L : List ℕ) (fit : Below (2 ^ c .p) data′) where
   -- a block of the recording itself
@@ -27,7 +21,7 @@ module _ (c : Code) (good : Sound c) (data′ L : List ℕ) (fit : Below (2 ^ c 
       let l : length R ≡ length D = length-spells (c .table) D 0 in
       let z : i - 0 ≡ i = omega arith in
       one-path c good R D 0 0
-      (blocks→path (c .table) (2 ^ c .p) (good .closed) (good .full) D 0 (good .some) (closed-blocks c data′ fit))
+      (blocks→path (c .table) (2 ^ c .p) (good .closed) (good .full) D 0 (good .some) (closed-blocks c (good .tail) data′ fit))
       (sym (take-all (length D) R (omega arith))) i (good .some) (inl (refl, refl)) zero-le
       (omega (arith, length-recording c data′))
       ∙ ap (λ k. getD D k 0) z ∙ List·getD-append data′ (closing c) 0 i hi

@@ -63,7 +63,7 @@ pub fn code_files(w: Way) -> Status {
     if is_twice(i, j) {
         return misused_word(a, b"-", b": only one file can be standard input");
     }
-    let mut under = [0u8; 3865];
+    let mut under = [0u8; 3866];
     let u = load(i, &mut under);
     if !u.good {
         return Status::Failed;

@@ -46,7 +46,7 @@ pub fn compile() -> Status {
         return Status::Misused;
     }
     let job = said.job;
-    let mut out = [0u8; 3864];
+    let mut out = [0u8; 3865];
     compile_numbers(&job, &mut out)
 }
 
@@ -58,7 +58,7 @@ pub fn compile_file() -> Status {
         return Status::Failed;
     }
     let n = l.size;
-    let mut out = [0u8; 3864];
+    let mut out = [0u8; 3865];
     compile_bytes(&job[..n], &mut out)
 }
 
@@ -70,7 +70,7 @@ pub fn compile_joined_file() -> Status {
         return Status::Failed;
     }
     let n = l.size;
-    let mut out = [0u8; 3864];
+    let mut out = [0u8; 3865];
     compile_both(&job[..n], &mut out)
 }
 
@@ -95,7 +95,7 @@ pub fn trace_numbers() -> Status {
     let n = trace_run_length(&job, &mut out, 0);
     match print(&out[..n]) {
         Status::Done => {
-            let mut record = [0u8; 3864];
+            let mut record = [0u8; 3865];
             traced(&job, &mut record)
         }
         s => s,

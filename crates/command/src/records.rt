@@ -26,7 +26,7 @@ fn print_view(v: View, t: Table) -> Status {
 
 // check FILE, show FILE, draw FILE: prints a view of a record, or says its refusal.
 pub fn view_file(v: View) -> Status {
-    let mut bytes = [0u8; 3865];
+    let mut bytes = [0u8; 3866];
     let l = load(under_place(Action::Viewing(v)), &mut bytes);
     if !l.good {
         return Status::Failed;

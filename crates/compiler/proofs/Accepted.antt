@@ -131,6 +131,7 @@ made-formed j a m w =
       →and,
       le→leb,
       first,
+      ways-pos j,
       window-found t w .0,
       le→leb 1 (length t) (m .table .some),
       lt→ltb (window t .memory) 16 (omega arith),
@@ -156,6 +157,13 @@ compiled-passes j a c e = go c (subst (Reason j) e (reason j))
           obeys = made-obeys j m;
           works = window-found (tableFor j) w .1;
         }
+
+-- "The compiler writes 0" for the tail datum
+pub compiled-tail : (j : Job) (c : Code) → compile j ≡ done c → c .tail ≡ 0
+compiled-tail j c e = go c (subst (Reason j) e (reason j))
+  where
+    go : (c : Code) → Reason j (done c) → c .tail ≡ 0
+    go c (coded _ _ _ _) = refl
 
 -- the compiler's record always passes the checker, and loads as the code
 pub compile-parses : (j : Job) → Allowed j → (c : Code) → compile j ≡ done c → parse (pack c) ≡ done c

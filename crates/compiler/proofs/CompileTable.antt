@@ -36,6 +36,7 @@ tableBy j start rows = record {
   lookahead = 0;
   constraint = j .constraint;
   start = start;
+  tail = 0;
   word = rows .word;
   next = rows .next;
 }
@@ -89,6 +90,7 @@ module _ (j : JobValue) (a : JobReady j) (n : ℕ) (g : Graph) (start : ℕ) (b 
           window = window T;
           constraint = jobIn j .constraint;
           start = z;
+          tail = 0;
           table = T;
         }))) (b .first)
         table-rows

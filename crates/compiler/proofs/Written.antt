@@ -152,7 +152,7 @@ module _ (k : Kind) (xs : List ℕ) (room : ℕ) where
   too-many = rw (as-onward k xs room) at (pairs-from (readAs k xs) (as-early k xs) room)
 
   -- with room for the longest record 13 never comes
-  pub never-short : 3864 ≤ room → compileAs k xs room ≡ refused ShortOutput → ⊥
+  pub never-short : 3865 ≤ room → compileAs k xs room ≡ refused ShortOutput → ⊥
   never-short h e =
       let (j, c, p, q, l) = short .0 e in
       let f = formed→ c (compiled-passes j (as-allowed k xs j p) c q .formed) in

@@ -55,7 +55,7 @@ finishedOf j = splitAll (ways j) (componentOf j)
 abbrev pub tableFor : Job → Rows
 tableFor j = relabelled (ways j) (tableOf (ways j) (finishedOf j))
 
--- the code with the table t and its least window
+-- the code with the table t and its least window: "The compiler writes 0" for the tail datum
 abbrev pub code : Job → Rows → Code
 code j t = record {
   p = j .p;
@@ -63,6 +63,7 @@ code j t = record {
   window = window t;
   constraint = j .constraint;
   start = startOf j;
+  tail = 0;
   table = t;
 }
 

@@ -60,6 +60,7 @@ fn split_and_window(j: JobValue, n: usize, g: Graph, start: usize) -> TableAnswe
         lookahead: 0,
         constraint: constraint,
         start: start,
+        tail: 0,
         word: word,
         next: next,
     };

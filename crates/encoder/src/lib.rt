@@ -1,4 +1,4 @@
-// Encoding under a table: "N blocks give N + a words: the blocks from state 0, then a blocks of data 0."
+// Encoding under a table: "N blocks give N + a words: the blocks from state 0, then a blocks" of the tail datum.
 ghost use mathlib.Core.Path.{_≡_};
 ghost use Prim.Native.Nat.{_+_};
 ghost use lib.Dec.{ltb};
@@ -48,6 +48,6 @@ pub fn encode_with(t: Table, blocks: &[u8], out: &mut [u8]) -> Answer
     let next = t.next;
     let end = blocks.len() + t.lookahead;
     let s = write_blocks(t.states, n, &word, &next, blocks, out);
-    write_closing(t.states, n, &word, &next, s, blocks.len(), end, out);
+    write_closing(t.states, n, &word, &next, s, t.tail, blocks.len(), end, out);
     Answer::Done(end)
 }

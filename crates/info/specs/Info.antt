@@ -10,11 +10,11 @@ use Rattle.table.specs.Rows.{Code}
 use Rattle.checker.specs.Parse.{parse}
 use Rattle.refusals.specs.Phrases.{wordsOf}
 
--- p, q, states less one, m, a, K and constraint start
+-- p, q, states less one, m, a, K, constraint start and tail datum
 abbrev pub numbersOf : Code → List ℕ
 numbersOf c =
     c .p ∷ c .q ∷ (length (c .table) - 1) ∷ c .window .memory ∷ c .window .lookahead ∷ length (c .constraint) ∷ c .start
-    ∷ []
+    ∷ c .tail ∷ []
 
 -- the numbers of the record in the bytes xs: the record's refusals, then 13
 unfoldable pub infoUnder : List ℕ → ℕ → Outcome (List ℕ)

@@ -28,12 +28,13 @@ fn tell_numbers(t: Table, out: &mut [u8]) -> Answer
         t.lookahead as u8,
         t.constraint.states as u8,
         t.start as u8,
+        t.tail as u8,
     ];
     fill(out, &numbers)
 }
 
-// The numbers of the record in the bytes, in the output: p, q, states less one, m, a, K and constraint start. Declines
-// with the record's refusal, then 13.
+// The numbers of the record in the bytes, in the output: p, q, states less one, m, a, K, constraint start and tail
+// datum. Declines with the record's refusal, then 13.
 pub fn info(bytes: &[u8], out: &mut [u8]) -> Answer
     ensures answer { λ r. ⌜ r ≡ answerOf (infoUnder (now (bytes .entry)) (length (now (out .entry)))) ⌝ }
     ensures written { λ r. ⌜

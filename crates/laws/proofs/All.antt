@@ -50,7 +50,7 @@ pub use Rattle.laws.proofs.Firsts.{first-nowhere, first-part, first-pla
 pub use Rattle.laws.proofs.Grids.{grid→, grow-sub, missing-le, rests, →grid}
 unfoldable pub use Rattle.laws.proofs.Grids.{missing}
 pub use Rattle.laws.proofs.Indexes.{index-elem, index-end, index-free, index-here, index-later}
-pub use Rattle.laws.proofs.Lists.{below-all, below-append, below-at, below-drop, below-take, below-zeros}
+pub use Rattle.laws.proofs.Lists.{below-all, below-append, below-at, below-drop, below-take, below-replicate}
 pub use Rattle.laws.proofs.Lists.{drop-min, drop-take, getD-any, getD-padded, head-none, head-some}
 pub use Rattle.laws.proofs.Lists.{length-repeat, sum-append, sum-repeat, sum-replicate, take-replicate}
 pub use Rattle.laws.proofs.Lists.{take-rest}

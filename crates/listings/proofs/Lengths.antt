@@ -62,6 +62,6 @@ never-short xs room h e =
         omega (arith, compiled-short xs c q, fitting-refused room (listing c) ShortOutput k .1)
 
 -- with room for the longest record and the longest listing neither call says 13
-pub room-enough : (k : Kind) (xs : List ℕ) (room : ℕ) → (3864 ≤ room → compileAs k xs room ≡ refused ShortOutput → ⊥)
+pub room-enough : (k : Kind) (xs : List ℕ) (room : ℕ) → (3865 ≤ room → compileAs k xs room ≡ refused ShortOutput → ⊥)
     × (43028 ≤ room → listInto xs room ≡ refused ShortOutput → ⊥)
 room-enough k xs room = (written.never-short k xs room, never-short xs room)

@@ -3,12 +3,12 @@
 -- Assumes nothing.
 use Rattle.laws.proofs.All.{_≡_, refl, sym, ap, subst, _∙_, _↔_, Bool, true, false, not, _&&_, _||_, List, [], _∷_}
 use Rattle.laws.proofs.All.{ℕ, suc, _^_, _≤_, _<_, zero-le, suc-le-suc, arith, T, eqb, eqb→eq, length, getD}
-use Rattle.laws.proofs.All.{replicate, range, all, has, length-from, range-at}
+use Rattle.laws.proofs.All.{range, all, has, length-from, range-at}
 use Rattle.constraint.specs.Walking.{none, walk}
 use Rattle.constraint.specs.Follow.{Finds, channel}
 use Rattle.constraint.proofs.Follow.{finds-split, channel-append}
 use Rattle.table.specs.Rows.{edge, edges, at, Code}
-use Rattle.table.specs.Paths.{Path, spells, ends}
+use Rattle.table.specs.Paths.{Path, spells, closing, ends}
 use Rattle.table.specs.Formed.{Formed}
 use Rattle.table.proofs.Shape.{full, targets}
 use Rattle.table.proofs.Paths.{spells-append, path→blocks}
@@ -73,7 +73,6 @@ breaks-exact c f = ((λ e. there (bad-start c e)), here)
     there (xs, p, n) =
         let r = f .range in
         let g = c .table in
-        let a = c .window .lookahead in
         let cl = targets (c .p) (c .q) (length g) g (f .rows) in
         let fu = full (c .p) (c .q) (length g) g (f .rows) in
         let short : length (c .constraint) ≤ 255 = omega (arith, r .k₂) in
@@ -82,10 +81,10 @@ breaks-exact c f = ((λ e. there (bad-start c e)), here)
           path→blocks g (2 ^ c .p) cl fu xs 0 (r .s₁) p,
           (λ o. n (finds→obey c short xs 0 (c .start) begin
               (finds-split (c .constraint) (channel (c .q) (spells g 0 xs))
-              (channel (c .q) (spells g (ends g 0 xs) (replicate a 0))) (c .start)
+              (channel (c .q) (spells g (ends g 0 xs) (closing c))) (c .start)
               (subst (λ bs. Finds (c .constraint) (c .start) bs)
-              (ap (channel (c .q)) (spells-append g xs (replicate a 0) 0)
-              ∙ channel-append (c .q) (spells g 0 xs) (spells g (ends g 0 xs) (replicate a 0))) o) .0))),
+              (ap (channel (c .q)) (spells-append g xs (closing c) 0)
+              ∙ channel-append (c .q) (spells g 0 xs) (spells g (ends g 0 xs) (closing c))) o) .0))),
         )
 
     here : Breaks c → obeys c ≡ false

@@ -14,14 +14,14 @@ use record::numbers;
 
 mod ranges;
 
-// The table that a record's bytes hold, with every check of document 01 but 9 and 10: "8 below four bytes, header by
-// 7, 8, the rest by 7".
+// The table that a record's bytes hold, with every check of a record but 9 and 10: "8 below five", "header by 7, 8, the
+// rest by 7".
 pub fn read(bytes: &[u8]) -> TableAnswer
     ensures answer { λ r. ⌜ outcomeIn r ≡ fieldsChecked (now (bytes .entry)) ⌝ }
     ensures kept { λ r. ⌜ (r .verdict ≡ Good → T (ready (r .table))) ⌝ }
     ensures empty { λ r. ⌜ ((x : Refusal) → r .verdict ≡ Bad x → r .table ≡ noTable) ⌝ }
 {
-    if bytes.len() < 4 {
+    if bytes.len() < 5 {
         return declined(Refusal::Length);
     }
     let f = numbers::front_of(bytes);

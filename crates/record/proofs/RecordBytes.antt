@@ -1,4 +1,4 @@
--- A record is bytes, at most 3,864 of them.
+-- A record is bytes, at most 3,865 of them.
 -- In order: pack-bytes; size-le, pack-short.
 -- Assumes nothing.
 use Rattle.laws.proofs.All.{sym, subst, _≤_, arith, length, Below}
@@ -16,9 +16,9 @@ unfolding pack
 pack-bytes c =
     below-read 8 (size (head c)) (write (widths (head c)) (values c)) (below-write (widths (head c)) (values c))
 
-pub size-le : (h : Head) → Ranges h → size h ≤ 3864
+pub size-le : (h : Head) → Ranges h → size h ≤ 3865
 size-le h r = omega (arith, bitCount-le h (small-of h r))
 
--- every record fits in 3,864 bytes
-pub pack-short : (c : Code) → Formed c → length (pack c) ≤ 3864
-pack-short c f = subst (λ n. n ≤ 3864) (sym (length-pack c)) (size-le (head c) (f .range))
+-- every record fits in 3,865 bytes
+pub pack-short : (c : Code) → Formed c → length (pack c) ≤ 3865
+pack-short c f = subst (λ n. n ≤ 3865) (sym (length-pack c)) (size-le (head c) (f .range))

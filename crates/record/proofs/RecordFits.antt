@@ -9,6 +9,7 @@ use Rattle.table.specs.Rows.{Edge, Rows, Code}
 use Rattle.bits.specs.Fields.{Fits}
 use Rattle.bits.proofs.Fields.{fits-append}
 use Rattle.table.specs.declared.Head.{Head}
+use Rattle.table.proofs.RowsOf.{ways-small}
 use Rattle.table.specs.Formed.{head, goodState, goodNext, goodEdge, goodRow, Formed}
 use Rattle.record.specs.Layout.{headerBits, stateSize}
 use Rattle.record.specs.Layout.{size, fill, widths, present, shown, nexts, pairs, rows, values}
@@ -67,6 +68,7 @@ fits-values c f =
     let ls : length (c .table) - 1 < 128 = omega (arith, r .s₁, r .s₂) in
     let lk : length (c .constraint) - 1 < 16 = omega (arith, r .k₁, r .k₂) in
     let lz : c .start < 16 = omega (arith, r .start, r .k₂) in
+    let le : c .tail < 16 = omega (arith, r .tail, ways-small (c .p) (r .p₂)) in
     let K = length (c .constraint) in
     let S = length (c .table) in
     let last : Fits (fill (head c) ∷ []) (0 ∷ []) = (pow-pos (fill (head c)), tt) in
@@ -75,4 +77,4 @@ fits-values c f =
     (fits-rows (c .p) (c .q) S (c .table) (r .s₂) (f .rows)) last in
     let rest = fits-append (repeat K (1 ∷ 4 ∷ 1 ∷ 4 ∷ [])) (nexts (c .constraint)) _ (rows (c .table) ++ (0 ∷ []))
     (fits-nexts K (c .constraint) (r .k₂) (f .nexts)) tables in
-    (lp, (lq, (ls, (r .m, (r .a, (lk, (lz, rest)))))))
+    (lp, (lq, (ls, (r .m, (r .a, (lk, (lz, (le, rest))))))))

@@ -84,8 +84,8 @@ put-all B o (w ∷ ws) (v ∷ vs) B′ h (B₁, e, r) =
 -- the numbers in front, field by field
 pub front-spliced : (h : Head) (s k : ℕ) (B B′ : List ℕ) → headerBits ≤ length B → s ≡ h .states - 1
     → k ≡ h .count - 1
-    → Putting B 0 header (h .p ∷ h .q ∷ s ∷ h .memory ∷ h .lookahead ∷ k ∷ h .start ∷ []) B′
+    → Putting B 0 header (h .p ∷ h .q ∷ s ∷ h .memory ∷ h .lookahead ∷ k ∷ h .start ∷ h .tail ∷ []) B′
     → B′ ≡ spliced 0 (frontBits h) B
 unfolding frontBits
 front-spliced h s k B B′ l es ek e =
-    put-all B 0 header (h .p ∷ h .q ∷ s ∷ h .memory ∷ h .lookahead ∷ k ∷ h .start ∷ []) B′ l e ∙ rw (es, ek)
+    put-all B 0 header (h .p ∷ h .q ∷ s ∷ h .memory ∷ h .lookahead ∷ k ∷ h .start ∷ h .tail ∷ []) B′ l e ∙ rw (es, ek)

@@ -13,7 +13,8 @@ use Rattle.bits.specs.Fields.{read, write, Fits, bitsOf}
 use Rattle.bits.proofs.Fields.{below-write, length-write, fits-read, write-read, read-back, fits-uniform}
 use Rattle.table.specs.declared.Head.{Head}
 use Rattle.table.specs.Formed.{head, inRange, goodNext, goodRow, formed}
-use Rattle.record.specs.Layout.{header, headOf, size, fill, widths, values, pack, nextsOf, rowsOf, codeOf}
+use Rattle.record.specs.Layout.{header, headerBytes, headOf, size, fill, widths, values, pack, nextsOf}
+use Rattle.record.specs.Layout.{rowsOf, codeOf}
 use Rattle.record.specs.Parse.{goodHead, goodFields, goodTarget, filler, goodRest}
 use Rattle.record.specs.Checks.{fieldsGood, fieldsChecked}
 use Rattle.record.proofs.RecordAgain.{nexts-again, nexts-good, rows-good, length-nextsOf, length-rowsOf}
@@ -23,16 +24,16 @@ use Rattle.record.proofs.RecordFits.{sum-widths}
 use Rattle.record.proofs.RecordReading.{head-range}
 use Rattle.answer.proofs.Outcomes.{done-inj, unless→}
 
--- seven fields in front and the others behind
-module _ (p q s m a k z : ℕ) (t : List ℕ)
-    (f : Fits (widths (headOf (p ∷ q ∷ s ∷ m ∷ a ∷ k ∷ z ∷ t))) (p ∷ q ∷ s ∷ m ∷ a ∷ k ∷ z ∷ t))
-    (u : T (goodRest (headOf (p ∷ q ∷ s ∷ m ∷ a ∷ k ∷ z ∷ t)) (p ∷ q ∷ s ∷ m ∷ a ∷ k ∷ z ∷ t)
-    (codeOf (headOf (p ∷ q ∷ s ∷ m ∷ a ∷ k ∷ z ∷ t)) (p ∷ q ∷ s ∷ m ∷ a ∷ k ∷ z ∷ t)))) where
+-- eight fields in front and the others behind
+module _ (p q s m a k z e : ℕ) (t : List ℕ)
+    (f : Fits (widths (headOf (p ∷ q ∷ s ∷ m ∷ a ∷ k ∷ z ∷ e ∷ t))) (p ∷ q ∷ s ∷ m ∷ a ∷ k ∷ z ∷ e ∷ t))
+    (u : T (goodRest (headOf (p ∷ q ∷ s ∷ m ∷ a ∷ k ∷ z ∷ e ∷ t)) (p ∷ q ∷ s ∷ m ∷ a ∷ k ∷ z ∷ e ∷ t)
+    (codeOf (headOf (p ∷ q ∷ s ∷ m ∷ a ∷ k ∷ z ∷ e ∷ t)) (p ∷ q ∷ s ∷ m ∷ a ∷ k ∷ z ∷ e ∷ t)))) where
   abbrev h : Head
-  h = headOf (p ∷ q ∷ s ∷ m ∷ a ∷ k ∷ z ∷ t)
+  h = headOf (p ∷ q ∷ s ∷ m ∷ a ∷ k ∷ z ∷ e ∷ t)
 
   abbrev vs : List ℕ
-  vs = p ∷ q ∷ s ∷ m ∷ a ∷ k ∷ z ∷ t
+  vs = p ∷ q ∷ s ∷ m ∷ a ∷ k ∷ z ∷ e ∷ t
 
   abbrev g : Rows
   g = rowsOf (s + 1) (2 ^ p) (drop ((k + 1) * 4) t)
@@ -48,7 +49,7 @@ module _ (p q s m a k z : ℕ) (t : List ℕ)
       let (b, _, l) = parts in
       let es : length g - 1 ≡ s = rw (length-rowsOf (s + 1) (2 ^ p) (drop ((k + 1) * 4) t)) (omega arith) in
       let ek : length (nextsOf (k + 1) t) - 1 ≡ k = rw (length-nextsOf (k + 1) t) (omega arith) in
-      cc (tail-again h t (f .1 .1 .1 .1 .1 .1 .1) b l)
+      cc (tail-again h t (f .1 .1 .1 .1 .1 .1 .1 .1) b l)
 
   in-range : T (goodHead h) → T (inRange h)
   in-range = head-range vs (f .1 .1 .0) (f .1 .1 .1 .0) (f .1 .1 .1 .1 .0) (f .1 .1 .1 .1 .1 .0)
@@ -57,7 +58,7 @@ module _ (p q s m a k z : ℕ) (t : List ℕ)
   unfolding formed
   formed-again w =
       let (b, y, _) = parts in
-      let (_, fr) = nexts-again (k + 1) (k + 1) _ t (f .1 .1 .1 .1 .1 .1 .1) b in
+      let (_, fr) = nexts-again (k + 1) (k + 1) _ t (f .1 .1 .1 .1 .1 .1 .1 .1) b in
       →and (inRange (head (codeOf h vs))) _ (subst (λ x. T (inRange x)) (sym (head-again h vs)) (in-range w))
       (→and (all (goodNext (length (nextsOf (k + 1) t))) (nextsOf (k + 1) t)) (all (goodRow p q (length g)) g)
       (rw (length-nextsOf (k + 1) t) (nexts-good (k + 1) (k + 1) t b))
@@ -85,7 +86,7 @@ module _ (xs : List ℕ) where
   checks c e =
       let d = codeOf front fieldsIn in
       let rest = unless Field (goodRest front fieldsIn d) (done d) in
-      let (_, e₀) = unless→ Length (leb 4 (length xs)) (fieldsGood (length xs) front (bitsOf xs)) c e in
+      let (_, e₀) = unless→ Length (leb headerBytes (length xs)) (fieldsGood (length xs) front (bitsOf xs)) c e in
       let (t, e₁) = unless→ Field (goodHead front) (unless Length (eqb (length xs) (size front)) rest) c e₀ in
       let (l, e₂) = unless→ Length (eqb (length xs) (size front)) rest c e₁ in
       let (u, e₃) = unless→ Field (goodRest front fieldsIn d) (done d) c e₂ in
@@ -95,7 +96,7 @@ module _ (xs : List ℕ) where
   pub fields-formed : (c : Code) → fieldsChecked xs ≡ done c → T (formed c)
   fields-formed c e =
       let (l, t, u, k) = checks c e in
-      subst (λ d. T (formed d)) k (formed-again _ _ _ _ _ _ _ _ (fits-again front l) u t)
+      subst (λ d. T (formed d)) k (formed-again _ _ _ _ _ _ _ _ _ (fits-again front l) u t)
 
   -- so a table that holds that code is ready
   pub read-ready : (t : Table) → done (codeIn t) ≡ fieldsChecked xs → T (ready t)
@@ -123,8 +124,8 @@ module _ (xs : List ℕ) where
         → T (formed (codeOf h vs)) × (pack (codeOf h vs) ≡ xs)
     fields-again l t u =
         let f = fits-again front l in (
-          formed-again _ _ _ _ _ _ _ _ f u t,
-          packed-again front fieldsIn l refl (values-again _ _ _ _ _ _ _ _ f u),
+          formed-again _ _ _ _ _ _ _ _ _ f u t,
+          packed-again front fieldsIn l refl (values-again _ _ _ _ _ _ _ _ _ f u),
         )
 
     pub record Checked (c : Code) : Type 0 where

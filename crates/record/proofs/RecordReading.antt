@@ -14,7 +14,7 @@ use Rattle.bits.proofs.Fields.{read-at, below-write, value-take}
 use Rattle.table.specs.declared.Head.{Head}
 use Rattle.table.specs.Formed.{inRange, Ranges}
 use Rattle.table.proofs.Formed.{ranges}
-use Rattle.record.specs.Layout.{header, headOf, size}
+use Rattle.record.specs.Layout.{header, headerBytes, headOf, size}
 use Rattle.record.specs.Parse.{goodHead}
 use Rattle.record.specs.Checks.{codeAt, restGood, fieldsGood, fieldsChecked}
 
@@ -34,11 +34,11 @@ pub head-range : (vs : List ℕ) → getD vs 2 0 < 128 → getD vs 3 0 < 16 → 
 head-range vs hs hm ha hk g =
     let h = headOf vs in
     let (gp, g₁) = and→ (leb 1 (h .p) && leb (h .p) 4) _ g in
-    let (gq, gz) = and→ (leb 1 (h .q) && leb (h .q) 8) (ltb (h .start) (h .count)) g₁ in
+    let (gq, gz) = and→ (leb 1 (h .q) && leb (h .q) 8) (ltb (h .start) (h .count) && ltb (h .tail) (2 ^ h .p)) g₁ in
     →and (leb 1 (h .p) && leb (h .p) 4) _ gp (→and (leb 1 (h .q) && leb (h .q) 8) _ gq
     (→and (leb 1 (h .states) && leb (h .states) 128) _ (within (h .states) 128 (omega arith) (omega arith))
     (→and (ltb (h .memory) 16) _ (lt→ltb (h .memory) 16 hm) (→and (ltb (h .lookahead) 16) _
-    (lt→ltb (h .lookahead) 16 ha) (→and (leb 1 (h .count) && leb (h .count) 16) (ltb (h .start) (h .count))
+    (lt→ltb (h .lookahead) 16 ha) (→and (leb 1 (h .count) && leb (h .count) 16) _
     (within (h .count) 16 (omega arith) (omega arith)) gz)))))
   where
     within : (x n : ℕ) → 1 ≤ x → x ≤ n → T (leb 1 x && leb x n)
@@ -60,11 +60,11 @@ good-not x e = never (cc)
 
 -- ---- the outcome at each return of the code
 module _ (xs : List ℕ) where
-  pub checked-short : leb 4 (length xs) ≡ false → fieldsChecked xs ≡ refused Length
+  pub checked-short : leb headerBytes (length xs) ≡ false → fieldsChecked xs ≡ refused Length
   unfolding fieldsChecked
   checked-short e = rw e
 
-  module _ (h : Head) (front : h ≡ headOf (read header (bitsOf xs))) (e₀ : leb 4 (length xs) ≡ true) where
+  module _ (h : Head) (front : h ≡ headOf (read header (bitsOf xs))) (e₀ : leb headerBytes (length xs) ≡ true) where
     step : fieldsChecked xs ≡ fieldsGood (length xs) h (bitsOf xs)
     unfolding fieldsChecked
     step = rw (e₀, front)

@@ -73,6 +73,7 @@ pub code-is : (h : Head) (bs word next : List ℕ) (k : Constraint) (n : ℕ) �
       window = record { memory = h .memory; lookahead = h .lookahead };
       constraint = k;
       start = h .start;
+      tail = h .tail;
       table = map (rowOf h bs word next) (range (h .states));
     } ≡ codeAt h bs
 code-is h bs word next k n e f w x =

@@ -1,20 +1,21 @@
 -- A code with its fields in range, written as a record and read again, is the same code.
--- In order: length-nexts, length-pairs, length-rows; code-back, length-pack, bits-pack, fields-pack.
+-- In order: length-nexts, length-pairs, length-rows; code-back, length-pack, bits-pack, tail-place,
+-- fields-pack.
 -- Assumes nothing.
 use Rattle.laws.proofs.All.{T→true, eq-eqb, eqb-is, so, nay, _≡_, refl, sym, ap, ap₂, subst, _∙_, true, _&&_, List}
 use Rattle.laws.proofs.All.{[], _∷_, _++_, append-assoc, ℕ, zero, _+_, _*_, _-_, _^_, suc-mul, arith, T, ltb, leb}
 use Rattle.laws.proofs.All.{eqb, eqb→eq, le→leb, lt→ltb, length, getD, take, drop, replicate, length-append}
-use Rattle.laws.proofs.All.{length-replicate, drop-at, all, Each, and→, →and, each-map, all-each, all-of}
+use Rattle.laws.proofs.All.{length-replicate, lit<, drop-at, all, Each, and→, →and, each-map, all-each, all-of}
 use Rattle.answer.specs.declared.Refusal.the-variants.{Field, Length}
 use Rattle.answer.specs.Outcomes.{Outcome, done, unless}
 use Rattle.constraint.specs.Walking.{Constraint, none}
 use Rattle.table.specs.Rows.{Edge, Rows, Code}
-use Rattle.bits.specs.Fields.{read, write, bitsOf}
-use Rattle.bits.proofs.Fields.{regroup, read-back, length-read}
+use Rattle.bits.specs.Fields.{field, read, write, bitsOf}
+use Rattle.bits.proofs.Fields.{regroup, read-back, read-at, length-read}
 use Rattle.table.specs.declared.Head.{Head}
 use Rattle.table.specs.Formed.{head, goodState, goodNext, goodEdge, goodRow, formed, Formed, Ranges}
-use Rattle.record.specs.Layout.{headerFields, header, headOf, size, widths, present, shown, nexts, pairs}
-use Rattle.record.specs.Layout.{rows, values, pack, opened, nextsOf, edgesOf, rowsOf, codeOf}
+use Rattle.record.specs.Layout.{headerFields, headerBytes, header, headOf, size, widths, present, shown}
+use Rattle.record.specs.Layout.{nexts, pairs, rows, values, pack, opened, nextsOf, edgesOf, rowsOf, codeOf}
 use Rattle.record.specs.Parse.{goodHead, goodField, goodFields, goodTarget, filler, goodRest}
 use Rattle.record.specs.Checks.{fieldsGood, fieldsChecked}
 use Rattle.table.proofs.Formed.{formed→}
@@ -117,9 +118,10 @@ head-good : (h : Head) → Ranges h → T (goodHead h)
 head-good h r =
     →and (leb 1 (h .p) && leb (h .p) 4) _
     (→and (leb 1 (h .p)) (leb (h .p) 4) (le→leb 1 (h .p) (r .p₁)) (le→leb (h .p) 4 (r .p₂)))
-    (→and (leb 1 (h .q) && leb (h .q) 8) (ltb (h .start) (h .count))
+    (→and (leb 1 (h .q) && leb (h .q) 8) (ltb (h .start) (h .count) && ltb (h .tail) (2 ^ h .p))
     (→and (leb 1 (h .q)) (leb (h .q) 8) (le→leb 1 (h .q) (r .q₁)) (le→leb (h .q) 8 (r .q₂)))
-    (lt→ltb (h .start) (h .count) (r .start)))
+    (→and (ltb (h .start) (h .count)) (ltb (h .tail) (2 ^ h .p)) (lt→ltb (h .start) (h .count) (r .start))
+    (lt→ltb (h .tail) (2 ^ h .p) (r .tail))))
 
 pub length-pack : (c : Code) → length (pack c) ≡ size (head c)
 unfolding pack
@@ -144,6 +146,17 @@ head-back c f =
     ap (λ vs. headOf (take headerFields vs)) (fields-back c f)
     ∙ rw (s, k)
 
+-- the fields of the constraint start and of the tail datum stand at their places
+pub tail-place : (c : Code) → T (formed c)
+    → (field (bitsOf (pack c)) 26 4 ≡ c .start) × (field (bitsOf (pack c)) 30 4 ≡ c .tail)
+tail-place c t =
+    let f = formed→ c t in
+    let e : headOf (read header (bitsOf (pack c))) ≡ head c =
+    ap (λ bs. headOf (read header bs)) (bits-pack c f) ∙ head-back c f in (
+      sym (read-at header (bitsOf (pack c)) 6 (lit< tt)) ∙ ap (λ h. h .start) e,
+      sym (read-at header (bitsOf (pack c)) 7 (lit< tt)) ∙ ap (λ h. h .tail) e,
+    )
+
 passed : (l : ℕ) (h : Head) (bs vs : List ℕ) (c : Code) → read (widths h) bs ≡ vs → codeOf h vs ≡ c → T (goodHead h)
     → l ≡ size h → T (goodRest h vs c)
     → fieldsGood l h bs ≡ done c
@@ -160,9 +173,9 @@ unfolding fieldsChecked
 fields-pack c t =
     let f = formed→ c t in
     let l = length-pack c in
-    unless-true Length (leb 4 (length (pack c)))
+    unless-true Length (leb headerBytes (length (pack c)))
     (fieldsGood (length (pack c)) (headOf (read header (bitsOf (pack c)))) (bitsOf (pack c)))
-    (rw l (le→leb 4 (size (head c)) (omega (arith, f .range .k₁))))
+    (rw l (le→leb headerBytes (size (head c)) (omega (arith, f .range .k₁))))
     ∙ ap (λ n. fieldsGood n (headOf (read header (bitsOf (pack c)))) (bitsOf (pack c))) l
     ∙ ap (λ bs. fieldsGood (size (head c)) (headOf (read header bs)) bs) (bits-pack c f)
     ∙ ap (λ h. fieldsGood (size (head c)) h (write (widths (head c)) (values c))) (head-back c f)

@@ -25,7 +25,7 @@ pub edges-le : (h : Head) → Small h → h .states * (2 ^ h .p * (h .q + 7)) �
 edges-le h r =
     mul-le-mul {n₁ = h .states} {m₁ = 2 ^ h .p * (h .q + 7)} {n₂ = 128} {m₂ = 240} (r .s₂) (row-le h r)
 
-pub bitCount-le : (h : Head) → Small h → bitCount h ≤ 30910
+pub bitCount-le : (h : Head) → Small h → bitCount h ≤ 30914
 bitCount-le h r = omega (arith, edges-le h r, r .k₂)
 
 -- the numbers vs stand in fields of the widths ws, one behind the other from the place o on
@@ -42,10 +42,10 @@ fields-are bs o (w ∷ ws) [] s = absurd s
 fields-are bs o (w ∷ ws) (v ∷ vs) (e, s) = cc (fields-are bs (o + w) ws vs s, drop-drop w o bs)
 
 -- the numbers in front, field by field
-pub front-is : (bs : List ℕ) (p q s m a k z : ℕ) → Standing bs 0 header (p ∷ q ∷ s ∷ m ∷ a ∷ k ∷ z ∷ [])
-    → record { p = p; q = q; states = s + 1; memory = m; lookahead = a; count = k + 1; start = z }
+pub front-is : (bs : List ℕ) (p q s m a k z e : ℕ) → Standing bs 0 header (p ∷ q ∷ s ∷ m ∷ a ∷ k ∷ z ∷ e ∷ [])
+    → record { p = p; q = q; states = s + 1; memory = m; lookahead = a; count = k + 1; start = z; tail = e }
     ≡ headOf (read header bs)
-front-is bs p q s m a k z e = ap headOf (fields-are bs 0 header (p ∷ q ∷ s ∷ m ∷ a ∷ k ∷ z ∷ []) e)
+front-is bs p q s m a k z e f = ap headOf (fields-are bs 0 header (p ∷ q ∷ s ∷ m ∷ a ∷ k ∷ z ∷ e ∷ []) f)
 
 -- the e-th of k fields of w bits, d bits apart
 pub place-le : (o k d w l e : ℕ) → e < k → o + k * d + w ≤ l + d → o + e * d + w ≤ l

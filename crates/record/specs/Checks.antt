@@ -1,5 +1,5 @@
--- A record's fields read and checked, before the two checks of the table: "8 below four bytes, header by 7, 8, the
--- rest by 7"; and what values of the code's structs stand for.
+-- A record's fields read and checked, before the two checks of the table: "8 below five", "header by 7, 8, the rest by
+-- 7"; and what values of the code's structs stand for.
 -- In order: codeAt, restGood, fieldsGood, fieldsChecked; outcomeIn, noTable; packWith.
 -- Assumes nothing.
 use mathlib.Core.Bool.{Bool}
@@ -15,7 +15,7 @@ use Rattle.table.specs.declared.Head.{Head}
 use Rattle.table.specs.declared.Table.{Table}
 use Rattle.table.specs.Value.{codeIn, ready}
 use Rattle.record.specs.declared.TableAnswer.{TableAnswer}
-use Rattle.record.specs.Layout.{header, headOf, size, widths, codeOf}
+use Rattle.record.specs.Layout.{header, headerBytes, headOf, size, widths, codeOf}
 use Rattle.record.specs.Parse.{goodHead, goodRest, packInto}
 
 -- the code that the bits bs hold under the header h
@@ -32,10 +32,10 @@ fieldsGood l h bs =
     let vs = read (widths h) bs in let c = codeOf h vs in
     unless Field (goodHead h) (unless Length (eqb l (size h)) (unless Field (goodRest h vs c) (done c)))
 
--- the code that the bytes' fields name, or the refusal: "8 below four bytes" first
+-- the code that the bytes' fields name, or the refusal: "the first check is 8 below five"
 unfoldable pub fieldsChecked : List ℕ → Outcome Code
 fieldsChecked xs =
-    unless Length (leb 4 (length xs))
+    unless Length (leb headerBytes (length xs))
     (let bs = bitsOf xs in fieldsGood (length xs) (headOf (read header bs)) bs)
 
 -- what an answer with a table comes to
@@ -52,6 +52,7 @@ noTable = record {
   lookahead = 0;
   constraint = record { states = 0; zero = replicate 16 0; one = replicate 16 0 };
   start = 0;
+  tail = 0;
   word = replicate 2048 0;
   next = replicate 2048 0;
 }

@@ -1,6 +1,6 @@
 -- "The packed record": its fields as two lists, widths and values; a record written, and the code of fields that are
 -- read.
--- In order: header, headOf, frontValues; headerFields, headerBits, stateSize; size, fill, widths; present, shown,
+-- In order: header, headOf, frontValues; headerFields, headerBits, headerBytes, stateSize; size, fill, widths; present, shown,
 -- nexts, pairs, rows, values, pack; opened, nextsOf, edgesOf, rowsOf, codeOf.
 -- Assumes nothing.
 use mathlib.Core.List.{List, [], _∷_, _++_}
@@ -14,9 +14,10 @@ use Rattle.table.specs.Rows.{Edge, edge, Rows, Code}
 use Rattle.table.specs.declared.Head.{Head}
 use Rattle.table.specs.Formed.{head}
 
--- "p 3 bits, q 4, states less one 7, m 4, a 4, K less one 4, constraint start 4"
+-- "p 3 bits, q 4, states less one 7, m 4, a 4, K less one 4, constraint start 4", and the tail datum: "4 bits straight
+-- after the constraint start"
 abbrev pub header : List ℕ
-header = 3 ∷ 4 ∷ 7 ∷ 4 ∷ 4 ∷ 4 ∷ 4 ∷ []
+header = 3 ∷ 4 ∷ 7 ∷ 4 ∷ 4 ∷ 4 ∷ 4 ∷ 4 ∷ []
 
 -- the numbers in front, from the fields
 abbrev pub headOf : List ℕ → Head
@@ -28,12 +29,13 @@ headOf vs = record {
   lookahead = getD vs 4 0;
   count = getD vs 5 0 + 1;
   start = getD vs 6 0;
+  tail = getD vs 7 0;
 }
 
 -- the fields, from the numbers in front
 abbrev pub frontValues : Head → List ℕ
 frontValues h =
-    h .p ∷ h .q ∷ (h .states - 1) ∷ h .memory ∷ h .lookahead ∷ (h .count - 1) ∷ h .start ∷ []
+    h .p ∷ h .q ∷ (h .states - 1) ∷ h .memory ∷ h .lookahead ∷ (h .count - 1) ∷ h .start ∷ h .tail ∷ []
 
 -- how many fields are in front
 abbrev pub headerFields : ℕ
@@ -42,6 +44,10 @@ headerFields = length header
 -- how many bits they have
 abbrev pub headerBits : ℕ
 headerBits = sum header
+
+-- how many bytes hold them: "The header now needs five bytes"
+abbrev pub headerBytes : ℕ
+headerBytes = 5
 
 -- the bits of a constraint state: twice "present 1, next state 4"
 abbrev pub stateSize : ℕ
@@ -126,5 +132,6 @@ codeOf h vs = record {
   window = record { memory = h .memory; lookahead = h .lookahead };
   constraint = nextsOf (h .count) (drop headerFields vs);
   start = h .start;
+  tail = h .tail;
   table = rowsOf (h .states) (2 ^ h .p) (drop (h .count * 4) (drop headerFields vs));
 }

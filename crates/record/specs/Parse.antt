@@ -12,9 +12,12 @@ use Rattle.table.specs.Rows.{Edge, Code}
 use Rattle.table.specs.declared.Head.{Head}
 use Rattle.record.specs.Layout.{headerFields, pack}
 
--- what the widths of the header's fields leave open: p 1 to 4, q 1 to 8, and a start that is a constraint state
+-- what the widths of the header's fields leave open: p 1 to 4, q 1 to 8, a start that is a constraint state, and a tail
+-- datum below 2^p: "A tail datum of 2^p or more is refusal 7, with the header"
 abbrev pub goodHead : Head → Bool
-goodHead h = (leb 1 (h .p) && leb (h .p) 4) && ((leb 1 (h .q) && leb (h .q) 8) && ltb (h .start) (h .count))
+goodHead h =
+    (leb 1 (h .p) && leb (h .p) 4)
+    && ((leb 1 (h .q) && leb (h .q) 8) && (ltb (h .start) (h .count) && ltb (h .tail) (2 ^ h .p)))
 
 -- an absent state is written as 0, and a present one is a state
 abbrev pub goodField : ℕ → ℕ → ℕ → Bool

@@ -90,6 +90,7 @@ pub fn table_of(bytes: &[u8], f: Head) -> Table
         lookahead: f.lookahead,
         constraint: constraint,
         start: f.start,
+        tail: f.tail,
         word: word,
         next: next,
     }

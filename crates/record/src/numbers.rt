@@ -1,22 +1,24 @@
-// The numbers in front of a record: "p 3 bits, q 4, states less one 7, m 4, a 4, K less one 4, constraint start 4".
+// The numbers in front of a record: "p 3 bits, q 4, states less one 7, m 4, a 4, K less one 4, constraint start 4", and
+// the tail datum, "4 bits straight after the constraint start".
 ghost use mathlib.Core.Path.{_≡_};
 ghost use Prim.Native.Nat.{_*_, _≤_};
 ghost use lib.ListN.{length};
 ghost use Rattle.bits.specs.Fields.{read, bitsOf};
-ghost use Rattle.record.specs.Layout.{header, headOf, bitCount, size};
+ghost use Rattle.record.specs.Layout.{header, headerBytes, headOf, bitCount, size};
 ghost use Rattle.record.specs.Parse.{goodHead};
 ghost use Rattle.record.specs.Places.{Small};
 use table::Head;
+use table::chains::ways;
 use table::ready::between;
 
 // How many bits the numbers in front have, and how many a constraint state.
-pub const FRONT: usize = 30;
+pub const FRONT: usize = 34;
 
 pub const STATE: usize = 10;
 
 // The numbers, each less than its field's width lets it be.
 pub fn front_of(bytes: &[u8]) -> Head
-    requires { ⌜ 4 ≤ length (now bytes) ⌝ }
+    requires { ⌜ headerBytes ≤ length (now bytes) ⌝ }
     ensures answer { λ r. ⌜ r ≡ headOf (read header (bitsOf (now (bytes .entry)))) ⌝ }
 {
     let p = bits::get(bytes, 0, 3) as usize;
@@ -26,6 +28,7 @@ pub fn front_of(bytes: &[u8]) -> Head
     let lookahead = bits::get(bytes, 18, 4) as usize;
     let count = bits::get(bytes, 22, 4) as usize + 1;
     let start = bits::get(bytes, 26, 4) as usize;
+    let tail = bits::get(bytes, 30, 4) as usize;
     Head {
         p: p,
         q: q,
@@ -34,10 +37,11 @@ pub fn front_of(bytes: &[u8]) -> Head
         lookahead: lookahead,
         count: count,
         start: start,
+        tail: tail,
     }
 }
 
-// Whether p, q and the constraint start are in range: otherwise refusal 7.
+// Whether p, q, the constraint start and the tail datum are in range: otherwise refusal 7.
 pub fn good_front(f: Head) -> bool
     ensures answer { λ r. ⌜ r ≡ goodHead f ⌝ }
 {
@@ -47,7 +51,10 @@ pub fn good_front(f: Head) -> bool
     if !between(f.q, 1, 8) {
         return false;
     }
-    f.start < f.count
+    if f.count <= f.start {
+        return false;
+    }
+    f.tail < ways(f.p)
 }
 
 // How many bits the fields have.

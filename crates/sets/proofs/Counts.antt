@@ -11,7 +11,7 @@ use Rattle.record.proofs.RecordBytes.{pack-bytes, pack-short}
 use Rattle.sets.specs.Sets.{codes, readSet, framed, writeSet, Readable}
 use Rattle.sets.proofs.Sets.{set-back, set-canonical}
 
-two-bytes : (n : ℕ) → n ≤ 3864 → (n / 256 < 256) × (n % 256 < 256)
+two-bytes : (n : ℕ) → n ≤ 3865 → (n / 256 < 256) × (n % 256 < 256)
 two-bytes n h = (omega arith, omega arith)
 
 framed-bytes : (cs : List Code) → Readable cs → Below 256 (concat (map framed cs))

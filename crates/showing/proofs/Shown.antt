@@ -10,7 +10,7 @@ use Rattle.table.proofs.RowsOf.{length-rows}
 use Rattle.constraint.specs.Value.{constraintOf}
 use Rattle.views.specs.Listing.{listing}
 use Rattle.showing.specs.Limits.{constraintLines}
-use Rattle.showing.specs.Shown.{rateLine, windowLine, shown, whole, showText}
+use Rattle.showing.specs.Shown.{rateLine, windowLine, closingLine, shown, whole, showText}
 
 pub whole→ : (t : Table) → T (whole t) → Ready t
 whole→ t h =
@@ -20,7 +20,8 @@ whole→ t h =
 
 pub shown-is : (t : Table) → whole t ≡ true
     → rateLine (t .p) (t .q) (t .states) ++ windowLine (t .memory) (t .lookahead)
-    ++ constraintLines (constraintOf (t .constraint)) (t .start) ++ listing (codeIn t) ≡ showText t
+    ++ constraintLines (constraintOf (t .constraint)) (t .start) ++ closingLine (t .tail) ++ listing (codeIn t)
+    ≡ showText t
 unfolding showText shown
 shown-is t e = rw (e, length-rows (lent t))
 

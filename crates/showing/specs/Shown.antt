@@ -1,5 +1,6 @@
--- A code as `show` prints it: its rate, its window with the reach of damage, its constraint, and the listing.
--- In order: rateLine, windowLine; shown; showText, of a table by value.
+-- A code as `show` prints it: its rate, its window with the reach of damage, its constraint, the datum with which its
+-- recordings close, and the listing.
+-- In order: rateLine, windowLine, closingLine; shown; showText, of a table by value.
 -- Assumes nothing.
 use mathlib.Core.Bool.{Bool, _&&_}
 use mathlib.Core.List.{List, [], _∷_, _++_}
@@ -24,11 +25,15 @@ windowLine m a =
     if eqb m 0 && eqb a 0 then said "memory #, lookahead #: a bad word at i can spoil block i\n" (m ∷ a ∷ [])
     else said "memory #, lookahead #: a bad word at i can spoil blocks i - # to i + #\n" (m ∷ a ∷ a ∷ m ∷ [])
 
+-- "closing datum 0"
+abbrev pub closingLine : ℕ → List ℕ
+closingLine k = said "closing datum #\n" (k ∷ [])
+
 -- what `show` prints of a code
 unfoldable pub shown : Code → List ℕ
 shown c =
     rateLine (c .p) (c .q) (length (c .table)) ++ windowLine (c .window .memory) (c .window .lookahead)
-    ++ constraintLines (c .constraint) (c .start) ++ listing c
+    ++ constraintLines (c .constraint) (c .start) ++ closingLine (c .tail) ++ listing c
 
 -- the table is one that a record can give, with its window
 abbrev pub whole : Table → Bool

@@ -59,6 +59,7 @@ pub fn show(t: Table, out: &mut [u8], at: usize) -> usize
         &[t.p, t.p, t.q, t.q, t.states, t.states],
     );
     let constraint = put_window(out, window, t.memory, t.lookahead);
-    let first = put_constraint(out, constraint, t.constraint, t.start);
+    let closing = put_constraint(out, constraint, t.constraint, t.start);
+    let first = put_sentence(out, closing, b"closing datum #\n", &[t.tail]);
     put_listing(out, first, t)
 }

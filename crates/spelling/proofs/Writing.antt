@@ -5,7 +5,7 @@
 use Rattle.laws.proofs.All.{_≡_, refl, sym, ap, ap₂, _∙_, List, [], _∷_, _++_, append-assoc, append-nil, ℕ, _+_}
 use Rattle.laws.proofs.All.{_-_, _*_, _^_, _≤_, _<_, arith, length, take, drop, getD, set, length-set}
 use Rattle.laws.proofs.All.{length-append, take-all, take-at, drop-at, drop-drop, length-take-le}
-use Rattle.laws.proofs.All.{put-more}
+use Rattle.laws.proofs.All.{put-more, replicate}
 use Rattle.table.specs.declared.Table.{Table}
 use Rattle.table.specs.Rows.{Rows}
 use Rattle.table.specs.Paths.{ends, spells, closing, recording}
@@ -87,9 +87,10 @@ pub recorded-in : (t : Table) (n : ℕ) (ds out₀ out₁ out₂ : List ℕ) (s 
     → let rows = rowsOf (arrays (t .states) n (t .word) (t .next)) in
     let e = length ds + t .lookahead in
     s ≡ ends rows 0 ds → out₁ ≡ spells rows 0 ds ++ drop (length ds) out₀
-    → out₂ ≡ (take (length ds) out₁ ++ spells rows s (closing (codeIn t))) ++ drop e out₁
+    → out₂ ≡ (take (length ds) out₁ ++ spells rows s (replicate (e - length ds) (t .tail))) ++ drop e out₁
     → out₂ ≡ recording (codeIn t) ds ++ drop e out₀
 recorded-in t n ds out₀ out₁ out₂ s q h b₁ b₂ =
     let e = length ds + t .lookahead in
+    let a : e - length ds ≡ t .lookahead = omega arith in
     recorded (rowsOf (arrays (t .states) n (t .word) (t .next))) ds (closing (codeIn t)) out₀ out₁ out₂ (length ds) s e
-    refl h (omega arith) b₁ b₂ ∙ rw q
+    refl h (omega arith) b₁ (rw a at b₂) ∙ rw q

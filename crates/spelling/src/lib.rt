@@ -1,11 +1,10 @@
-// The words of a path, written into lent bytes: those of blocks from state 0, and those of closing blocks of data 0.
+// The words of a path, written into lent bytes: those of blocks from state 0, and those of closing blocks of one datum.
 ghost use mathlib.Core.Path.{_≡_};
 ghost use mathlib.Core.List.{_++_};
 ghost use Prim.Native.Nat.{_-_, _≤_, _<_};
-ghost use lib.ListN.{length, take, drop};
+ghost use lib.ListN.{length, take, drop, replicate};
 ghost use Rattle.laws.specs.Sums.{Below};
-ghost use Rattle.table.specs.Rows.{Code};
-ghost use Rattle.table.specs.Paths.{ends, spells, closing};
+ghost use Rattle.table.specs.Paths.{ends, spells};
 ghost use Rattle.table.specs.Edges.{borrowed, rowsOf, Fits};
 
 // The words of the blocks from state 0 in the output, and the state in which they end.
@@ -39,32 +38,33 @@ pub fn write_blocks(
     s
 }
 
-// The words of the closing blocks from a state, from place `at` of the output to `end`.
+// The words of closing blocks of a datum from a state, from place `at` of the output to `end`.
 pub fn write_closing(
     states: usize,
     n: usize,
     word: &[u8; 2048],
     next: &[u8; 2048],
     state: usize,
+    datum: usize,
     at: usize,
     end: usize,
     out: &mut [u8],
 )
     requires { ⌜
-        Fits (borrowed states n word next) × (0 < n) × (state < states) × (at ≤ end)
+        Fits (borrowed states n word next) × (datum < n) × (state < states) × (at ≤ end)
         × (end ≤ length (now out)) ⌝ }
     ensures written { λ r. ⌜
-        ((c : Code) → c .window .lookahead ≡ end - at → now (out .exit)
+        now (out .exit)
         ≡ (take at (now (out .entry))
-        ++ spells (rowsOf (borrowed states n (word .entry) (next .entry))) state (closing c))
-        ++ drop end (now (out .entry))) ⌝ }
+        ++ spells (rowsOf (borrowed states n (word .entry) (next .entry))) state (replicate (end - at) datum))
+        ++ drop end (now (out .entry)) ⌝ }
 {
     let mut s = state;
     let mut i = at;
     while i < end {
-        let first = s * 16;
-        out[i] = word[first];
-        s = next[first] as usize;
+        let e = s * 16 + datum;
+        out[i] = word[e];
+        s = next[e] as usize;
         i += 1;
     }
 }

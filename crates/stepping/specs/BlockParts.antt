@@ -24,5 +24,6 @@ under t m a = record {
   window = record { memory = m; lookahead = a };
   constraint = [];
   start = 0;
+  tail = 0;
   table = t;
 }

@@ -123,7 +123,7 @@ fn code_files(a: Action, w: Way, count: usize) -> Status {
     if is_twice(i, j) {
         return misused_word(a, b"-", b": only one file can be standard input");
     }
-    let mut under = [0u8; 3865];
+    let mut under = [0u8; 3866];
     let u = load(i, &mut under);
     if !u.good {
         return Status::Failed;

@@ -58,7 +58,7 @@ pub fn reach_bits() -> Status {
     if !last.good {
         return Status::Misused;
     }
-    let mut under = [0u8; 3865];
+    let mut under = [0u8; 3866];
     let u = load(under_place(a), &mut under);
     if !u.good {
         return Status::Failed;

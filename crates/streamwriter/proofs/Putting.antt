@@ -1,13 +1,13 @@
--- The words of a path put into bytes as a stream, edge by edge; the closing data are zeros behind the blocks.
+-- The words of a path put into bytes as a stream, edge by edge; copies of the tail datum stand behind the blocks.
 -- In order: Puts, puts-none, puts-more, puts-room, puts-end; closed, length-closed, closed-datum, closed-below;
 -- recorded-size, recorded-in, a recording under a table by value.
 -- Assumes nothing.
 use Rattle.laws.proofs.All.{_≡_, refl, sym, ap, subst, _∙_, List, [], _∷_, _++_, ℕ, _+_, _-_, _*_, _≤_, _<_, arith}
 use Rattle.laws.proofs.All.{_^_, length, take, drop, getD, replicate, length-append, length-replicate, length-take-le}
-use Rattle.laws.proofs.All.{take-all, below-append, below-at, below-zeros, getD-padded, Below}
+use Rattle.laws.proofs.All.{take-all, below-append, below-at, below-replicate, getD-any, getD-padded, Below}
 use Rattle.bits.specs.Fields.{bits, uniform}
 use Rattle.table.specs.declared.Table.{Table}
-use Rattle.table.specs.Paths.{ends, spells, closing, recording}
+use Rattle.table.specs.Paths.{ends, spells, recording}
 use Rattle.table.specs.Value.{codeIn}
 use Rattle.table.specs.Edges.{Arrays, Fits, arrays, rowsOf, wordOf, nextOf}
 use Rattle.table.proofs.Paths.{length-spells, length-recording}
@@ -53,25 +53,26 @@ module _ (t : Arrays) (q : ℕ) (ds lent : List ℕ) where
     pub puts-end : length ds ≤ k → Waits (uniform q (spells (rowsOf t) 0 ds)) p lent out
     puts-end h = subst (λ x. Waits (uniform q (spells (rowsOf t) 0 x)) p lent out) (take-all k ds h) (m .waits)
 
--- ---- blocks with closing data behind them, n in all
-abbrev pub closed : List ℕ → ℕ → List ℕ
-closed ds n = ds ++ replicate (n - length ds) 0
+-- ---- blocks with copies of the datum d behind them, n in all
+abbrev pub closed : List ℕ → ℕ → ℕ → List ℕ
+closed ds d n = ds ++ replicate (n - length ds) d
 
-module _ (ds : List ℕ) (n : ℕ) where
-  pub length-closed : length ds ≤ n → length (closed ds n) ≡ n
-  length-closed h =
-      length-append ds (replicate (n - length ds) 0) ∙ ap (λ k. length ds + k) (length-replicate (n - length ds) 0)
+module _ (ds : List ℕ) (d n : ℕ) (g : length ds ≤ n) where
+  pub length-closed : length (closed ds d n) ≡ n
+  length-closed =
+      length-append ds (replicate (n - length ds) d) ∙ ap (λ k. length ds + k) (length-replicate (n - length ds) d)
       ∙ omega arith
 
   -- the datum at a place, read from the blocks
-  pub closed-datum : (i : ℕ) → getD ds i 0 ≡ getD (closed ds n) i 0
-  closed-datum i = sym (getD-padded ds (n - length ds) i)
+  pub closed-datum : (i : ℕ) → i < n → getD ds i d ≡ getD (closed ds d n) i 0
+  closed-datum i l =
+      sym (getD-padded ds (n - length ds) d i) ∙ getD-any (closed ds d n) i d 0 (rw length-closed l)
 
-  pub closed-below : (m i : ℕ) → Below m ds → 0 < m → i < n → length ds ≤ n → getD (closed ds n) i 0 < m
-  closed-below m i b h l g =
-      below-at m (closed ds n) i
-      (below-append m ds (replicate (n - length ds) 0) b (below-zeros m (n - length ds) h))
-      (rw (length-closed g) l)
+  pub closed-below : (m i : ℕ) → Below m ds → d < m → i < n → getD (closed ds d n) i 0 < m
+  closed-below m i b h l =
+      below-at m (closed ds d n) i
+      (below-append m ds (replicate (n - length ds) d) b (below-replicate m (n - length ds) d h))
+      (rw length-closed l)
 
 -- ---- under a table by value, with the number of data and the size that the code has computed
 module _ (t : Table) (ds : List ℕ) (size : ℕ) (z : size ≡ streamSize (t .q) (length ds + t .lookahead)) where
@@ -80,7 +81,9 @@ module _ (t : Table) (ds : List ℕ) (size : ℕ) (z : size ≡ streamSize (t .q
       z ∙ sym (packed-size (t .q) (recording (codeIn t) ds) ∙ ap (streamSize (t .q)) (length-recording (codeIn t) ds))
 
   pub recorded-in : (n : ℕ) (lent out : List ℕ) → n ≡ 2 ^ t .p
-      → out ≡ packed (t .q) (spells (rowsOf (arrays (t .states) n (t .word) (t .next))) 0 (ds ++ closing (codeIn t)))
-      ++ drop (streamSize (t .q) (length ds + t .lookahead)) lent
+      → let count = length ds + t .lookahead in
+      out ≡ packed (t .q) (spells (rowsOf (arrays (t .states) n (t .word) (t .next))) 0 (closed ds (t .tail) count))
+      ++ drop (streamSize (t .q) count) lent
       → out ≡ packed (t .q) (recording (codeIn t) ds) ++ drop size lent
-  recorded-in n lent out e w = w ∙ rw (e, z)
+  recorded-in n lent out e w =
+      let a : length ds + t .lookahead - length ds ≡ t .lookahead = omega arith in w ∙ rw (e, z, a)

@@ -3,11 +3,10 @@
 ghost use mathlib.Core.Path.{_≡_};
 ghost use mathlib.Core.List.{_++_};
 ghost use Prim.Native.Nat.{ℕ, _+_, _*_, _-_, _^_, _≤_, _<_};
-ghost use lib.ListN.{length, getD, drop};
+ghost use lib.ListN.{length, getD, drop, replicate};
 ghost use Rattle.laws.specs.Sums.{Below};
 ghost use Rattle.answer.specs.Outcomes.{answerOf, outputOf};
-ghost use Rattle.table.specs.Rows.{Code};
-ghost use Rattle.table.specs.Paths.{spells, closing};
+ghost use Rattle.table.specs.Paths.{spells};
 ghost use Rattle.table.specs.Edges.{borrowed, rowsOf, Fits};
 ghost use Rattle.packing.specs.Streams.{limit, streamSize, packed};
 ghost use Rattle.streams.specs.Recorded.{streamedWith};
@@ -23,17 +22,17 @@ use table::Table;
 use table::chains::ways;
 use table::ready::is_ready;
 
-// Block i, and the closing datum 0 behind the last block.
-fn datum_at(blocks: &[u8], i: usize) -> usize
-    ensures answer { λ r. ⌜ r ≡ getD (now (blocks .entry)) i 0 ⌝ }
+// Block i, and the tail datum behind the last block.
+fn datum_at(blocks: &[u8], i: usize, tail: usize) -> usize
+    ensures answer { λ r. ⌜ r ≡ getD (now (blocks .entry)) i tail ⌝ }
 {
     if i < blocks.len() {
         return blocks[i] as usize;
     }
-    0
+    tail
 }
 
-// The stream of the words of the blocks from state 0 and of closing data behind them, `count` in all.
+// The stream of the words of the blocks from state 0 and of copies of the tail datum behind them, `count` in all.
 fn put_recording(
     states: usize,
     n: usize,
@@ -41,24 +40,26 @@ fn put_recording(
     word: &[u8; 2048],
     next: &[u8; 2048],
     blocks: &[u8],
+    tail: usize,
     count: usize,
     out: &mut [u8],
 )
     requires { ⌜
         Fits (borrowed states n word next)
         × ((s d : ℕ) → s < states → d < n → getD (now word) (s * 16 + d) 0 < 2 ^ q)
-        × Below n (now blocks) × (0 < n) × (q ≤ 8) × (count ≤ limit) × (length (now blocks) ≤ count)
+        × Below n (now blocks) × (tail < n) × (q ≤ 8) × (count ≤ limit) × (length (now blocks) ≤ count)
         × (streamSize q count ≤ length (now out)) ⌝ }
     ensures written { λ r. ⌜
-        ((c : Code) → c .window .lookahead ≡ count - length (now (blocks .entry)) → now (out .exit)
+        now (out .exit)
         ≡ packed q (spells (rowsOf (borrowed states n (word .entry) (next .entry))) 0
-        (now (blocks .entry) ++ closing c)) ++ drop (streamSize q count) (now (out .entry))) ⌝ }
+        (now (blocks .entry) ++ replicate (count - length (now (blocks .entry))) tail))
+        ++ drop (streamSize q count) (now (out .entry)) ⌝ }
 {
     let mut p = NONE;
     let mut s = 0;
     let mut i = 0;
     while i < count {
-        let e = s * 16 + datum_at(blocks, i);
+        let e = s * 16 + datum_at(blocks, i, tail);
         let more = put_word(out, p, q, word[e]);
         p = more;
         s = next[e] as usize;
@@ -95,6 +96,6 @@ pub fn encode_stream_with(t: Table, blocks: &[u8], out: &mut [u8]) -> Answer
     }
     let word = t.word;
     let next = t.next;
-    put_recording(t.states, n, t.q, &word, &next, blocks, count, out);
+    put_recording(t.states, n, t.q, &word, &next, blocks, t.tail, count, out);
     Answer::Done(size)
 }

@@ -6,10 +6,10 @@ use mathlib.Core.Path.{_≡_, refl}
 use mathlib.Core.List.{List, [], _∷_}
 use Prim.Native.Nat.{ℕ}
 use Rattle.laws.specs.Lists.{sum}
-use Rattle.answer.specs.declared.Refusal.the-variants.{NoCode}
+use Rattle.answer.specs.declared.Refusal.the-variants.{NoCode, Field, ShortOutput}
 use Rattle.answer.specs.Outcomes.{Outcome, done, refused, onward}
 use Rattle.constraint.specs.Walking.{Constraint, runLength}
-use Rattle.table.specs.Rows.{edge, Rows, Code}
+use Rattle.table.specs.Rows.{edge, Rows, Code, withTail}
 use Rattle.windows.specs.Works.{works}
 use Rattle.windows.specs.Search.{sizes, window}
 use Rattle.obeying.specs.Obeys.{obeys}
@@ -37,7 +37,7 @@ compiled d k p q cap = onward (readRunLength (d ∷ k ∷ p ∷ q ∷ cap ∷ []
 abbrev pub weighed : ℕ → ℕ → ℕ → ℕ → ℕ → Outcome (List ℕ)
 weighed d k p q cap = onward (readRunLength (d ∷ k ∷ p ∷ q ∷ cap ∷ [])) (λ j. done (weightsOf j))
 
--- a code at p blocks to q bits, with memory m and lookahead a, for a constraint that starts in state 0
+-- a code at p blocks to q bits, with memory m and lookahead a, for a constraint that starts in state 0; tail datum 0
 abbrev pub codeAt : ℕ → ℕ → ℕ → ℕ → Constraint → Rows → Code
 codeAt p q m a c t = record {
   p = p;
@@ -45,6 +45,7 @@ codeAt p q m a c t = record {
   window = record { memory = m; lookahead = a };
   constraint = c;
   start = 0;
+  tail = 0;
   table = t;
 }
 
@@ -54,15 +55,19 @@ code1 = codeAt 1 2 0 0 (runLength 0 1) ((edge 1 0 ∷ edge 2 1 ∷ []) ∷ (edge
 
 -- its record
 abbrev pub record1 : List ℕ
-record1 = 0x24 ∷ 0x04 ∷ 0x00 ∷ 0x42 ∷ 0x30 ∷ 0x04 ∷ 0x10 ∷ 0x10 ∷ 0x1C ∷ 0x04 ∷ 0x04 ∷ []
+record1 = 0x24 ∷ 0x04 ∷ 0x00 ∷ 0x40 ∷ 0x23 ∷ 0x00 ∷ 0x41 ∷ 0x01 ∷ 0x01 ∷ 0xC0 ∷ 0x40 ∷ 0x40 ∷ []
 
 -- E2: the table that document 01 first gave under E1: "state 1 gives 10/1, 11/0; m 1, a 0"
 abbrev pub code2 : Code
 code2 = codeAt 1 2 1 0 (runLength 0 1) ((edge 1 0 ∷ edge 2 1 ∷ []) ∷ (edge 2 1 ∷ edge 3 0 ∷ []) ∷ [])
 
--- "its record, hexadecimal: 24 04 40 42 30 04 10 10 18 0E 00"
+-- its record: "E2 is worked afresh for the table it already holds, with tail datum 0"
 abbrev pub record2 : List ℕ
-record2 = 0x24 ∷ 0x04 ∷ 0x40 ∷ 0x42 ∷ 0x30 ∷ 0x04 ∷ 0x10 ∷ 0x10 ∷ 0x18 ∷ 0x0E ∷ 0x00 ∷ []
+record2 = 0x24 ∷ 0x04 ∷ 0x40 ∷ 0x40 ∷ 0x23 ∷ 0x00 ∷ 0x41 ∷ 0x01 ∷ 0x01 ∷ 0x80 ∷ 0xE0 ∷ 0x00 ∷ []
+
+-- "its record, hexadecimal: 24 04 40 42 30 04 10 10 18 0E 00", in the shape that is no longer read
+abbrev pub oldRecord2 : List ℕ
+oldRecord2 = 0x24 ∷ 0x04 ∷ 0x40 ∷ 0x42 ∷ 0x30 ∷ 0x04 ∷ 0x10 ∷ 0x10 ∷ 0x18 ∷ 0x0E ∷ 0x00 ∷ []
 
 -- E7: three states, "E7 now has m 0", a 0
 abbrev pub code7 : Code
@@ -73,8 +78,8 @@ code7 =
 -- its record
 abbrev pub record7 : List ℕ
 record7 =
-    0x24 ∷ 0x08 ∷ 0x00 ∷ 0xC2 ∷ 0x20 ∷ 0x94 ∷ 0x27 ∷ 0x00 ∷ 0x40 ∷ 0x04 ∷ 0x80 ∷ 0x80 ∷ 0xA0 ∷ 0x20 ∷ 0x28
-    ∷ 0x00 ∷ []
+    0x24 ∷ 0x08 ∷ 0x00 ∷ 0xC0 ∷ 0x22 ∷ 0x09 ∷ 0x42 ∷ 0x70 ∷ 0x04 ∷ 0x00 ∷ 0x48 ∷ 0x08 ∷ 0x0A ∷ 0x02 ∷ 0x02
+    ∷ 0x80 ∷ []
 
 -- E8: "MFM: state 0 gives 00/1, 01/0; state 1 gives 10/1, 01/0", for (1,3), m 0, a 0
 abbrev pub code8 : Code
@@ -110,18 +115,21 @@ code10 =
 -- its record
 abbrev pub record10 : List ℕ
 record10 =
-    0x46 ∷ 0x08 ∷ 0x04 ∷ 0x42 ∷ 0x30 ∷ 0x04 ∷ 0x18 ∷ 0x06 ∷ 0x0A ∷ 0x80 ∷ 0xA0 ∷ 0xB0 ∷ 0x1E ∷ 0x02 ∷ 0x80
-    ∷ 0xA0 ∷ 0xB0 ∷ 0x1E ∷ 0x01 ∷ 0x01 ∷ 0xE0 ∷ 0x80 ∷ []
+    0x46 ∷ 0x08 ∷ 0x04 ∷ 0x40 ∷ 0x23 ∷ 0x00 ∷ 0x41 ∷ 0x80 ∷ 0x60 ∷ 0xA8 ∷ 0x0A ∷ 0x0B ∷ 0x01 ∷ 0xE0 ∷ 0x28
+    ∷ 0x0A ∷ 0x0B ∷ 0x01 ∷ 0xE0 ∷ 0x10 ∷ 0x1E ∷ 0x08 ∷ []
 
 -- document 01's examples, as document 02 has worked them afresh
 pub record Examples : Type 0 where
   -- E1 (0,1), p 1, q 2, cap 1: weights 1, 1; the table; its record
   pub e1-weights : weighed 0 1 1 2 1 ≡ done (1 ∷ 1 ∷ [])
   pub e1-table : compiled 0 1 1 2 1 ≡ done code1
-  pub e1-written : compileRunLength (0 ∷ 1 ∷ 1 ∷ 2 ∷ 1 ∷ []) 11 ≡ done record1
-  -- E2 "E2's old bytes remain an accepted record", of the old table
+  pub e1-written : compileRunLength (0 ∷ 1 ∷ 1 ∷ 2 ∷ 1 ∷ []) 12 ≡ done record1
+  -- E2, of the table that it already held; its old bytes are no record now, since their tail datum is 8; "the row of
+  -- refusal 13 with it": 11 bytes for a 12-byte record
   pub e2-read : parse record2 ≡ done code2
   pub e2-packed : pack code2 ≡ record2
+  pub e2-old : parse oldRecord2 ≡ refused Field
+  pub e2-short : packInto code2 11 ≡ refused ShortOutput
   -- E3 blocks 1 0 1 1 under E1 give words 2 3 2 2, and under E2's record 2 2 3 2
   pub e3 : encodeUnder record1 4 (1 ∷ 0 ∷ 1 ∷ 1 ∷ []) ≡ done (2 ∷ 3 ∷ 2 ∷ 2 ∷ [])
   pub e3-old : encodeUnder record2 4 (1 ∷ 0 ∷ 1 ∷ 1 ∷ []) ≡ done (2 ∷ 2 ∷ 3 ∷ 2 ∷ [])
@@ -147,6 +155,8 @@ pub record Examples : Type 0 where
   pub e10-table : compiled 0 1 2 3 2 ≡ done code10
   pub e10-packed : pack code10 ≡ record10
   pub e10 : encodeUnder record10 1 [] ≡ done (3 ∷ [])
+  -- and 5 where the record states the tail datum 2
+  pub e10-closed : encodeUnder (pack (withTail code10 2)) 1 [] ≡ done (5 ∷ [])
 
 -- they hold
 pub examples : Examples
@@ -159,6 +169,8 @@ examples = record {
   e1-written = refl;
   e2-read = refl;
   e2-packed = refl;
+  e2-old = refl;
+  e2-short = refl;
   e3 = refl;
   e3-old = refl;
   e4 = refl;
@@ -176,4 +188,5 @@ examples = record {
   e10-table = refl;
   e10-packed = refl;
   e10 = refl;
+  e10-closed = refl;
 }

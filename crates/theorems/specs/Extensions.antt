@@ -1,24 +1,27 @@
 -- The theorems of what was asked for after the first delivery, each written out in full as on the main page.
 -- In order: (a) joint, joined-pairs, numbered, too-many-pairs, joined-job, both-obeyed; (b) streams, good-streams,
 -- stream-words, stream-returns, bits-reach; (c) labels, labels-rule, labels-hold; (d) decoded-blocks, marks,
--- no-mark-ahead, clear-unmarked.
+-- no-mark-ahead, clear-unmarked; (e) closes, tail-free, tail-place, closes-record.
 -- Assumes nothing.
 use mathlib.Core.Path.{_≡_}
 use mathlib.Core.Logic.{_⊎_, _↔_}
-use mathlib.Core.List.{List}
+use mathlib.Core.List.{List, _++_}
 use Prim.Native.Nat.{ℕ, _+_, _*_, _/_, _%_, _^_, _≤_, _<_}
 use lib.Dec.{T}
-use lib.ListN.{length, getD, take}
+use lib.ListN.{length, getD, take, replicate}
 use Rattle.laws.specs.Lists.{sum, elem}
 use Rattle.laws.specs.Sums.{Each, Once, Below}
 use Rattle.answer.specs.declared.Refusal.the-variants.{TooManyPairs}
 use Rattle.answer.specs.Outcomes.{done, refused}
-use Rattle.bits.specs.Fields.{bitsOf}
+use Rattle.bits.specs.Fields.{field, bitsOf}
 use Rattle.constraint.specs.Walking.{Constraint, Lawful}
 use Rattle.constraint.specs.Follow.{Finds, channel}
 use Rattle.joining.specs.Joined.{pairOf, pairs, joined, Reachable, FirstMet}
-use Rattle.table.specs.Rows.{Rows, edges, Code}
-use Rattle.table.specs.Paths.{Blocks, recording, Full}
+use Rattle.table.specs.Rows.{Rows, edges, Code, withTail}
+use Rattle.table.specs.Paths.{spells, Blocks, recording, Full}
+use Rattle.table.specs.Formed.{formed}
+use Rattle.record.specs.Layout.{pack}
+use Rattle.checker.specs.Accepted.{Accepted}
 use Rattle.checker.specs.Parse.{parse}
 use Rattle.stepping.specs.Reading.{markAhead, block}
 use Rattle.codec.specs.Answers.{encodeUnder, decodeUnder}
@@ -27,12 +30,13 @@ use Rattle.codec.specs.Damage.{StandsClear, SameOutside}
 use Rattle.finish.specs.TableOf.{tableOf}
 use Rattle.labels.specs.Labels.{relabelledRow, relabelled, Rearranged}
 use Rattle.job.specs.Jobs.{Job, Allowed, readJoined, Joins}
-use Rattle.compiler.specs.Compile.{ways, componentOf, finishedOf, compileJoined}
+use Rattle.compiler.specs.Compile.{ways, componentOf, finishedOf, compile, compileJoined}
 use Rattle.packing.specs.Streams.{limit, packed, unpacked, goodStream}
 use Rattle.streams.specs.Recorded.{encodeStream, decodeStream}
 use Rattle.damage.specs.declared.BitNo.{BitNo}
 use Rattle.damage.specs.declared.BlockNo.{BlockNo}
 use Rattle.damage.specs.BitReach.{firstBlock, lastBlock}
+use Rattle.closing.specs.Closing.{closedWith}
 
 -- ---- (a) Two constraints on one medium. What the main page says of a `Kind` of job holds of this kind too: its record
 -- passes the checker (`compiled-passes`), and 3 to 6 and 13 come exactly where they are due.
@@ -156,3 +160,27 @@ pub clear-unmarked : (rec : List ℕ) → Below 256 rec → (c : Code) → parse
     → i < length ds → StandsClear c (recording c ds) L i j
     → (getD out j 254 ≡ getD ds i 0) × (getD out j 254 < 16)
 clear-unmarked = Rattle.codec.proofs.Marked.clear-unmarked
+
+-- ---- (e) The tail datum in the record. Main's `recording` closes with it and its `parse` reads it, so what Main says of
+-- records, round trip, recognition and damage is said of every tail datum.
+
+-- A recording closes with the stated datum, and the compiler states 0.
+pub closes : ((c : Code) (ds : List ℕ)
+    → recording c ds ≡ spells (c .table) 0 (ds ++ replicate (c .window .lookahead) (c .tail)))
+    × ((j : Job) (c : Code) → compile j ≡ done c → c .tail ≡ 0)
+closes = (Rattle.table.proofs.Paths.closes, Rattle.compiler.proofs.Accepted.compiled-tail)
+
+-- What is refused does not depend on the tail datum once it is below 2^p.
+pub tail-free : (c : Code) (k : ℕ) → T (formed c) → k < 2 ^ c .p → Accepted c ↔ Accepted (withTail c k)
+tail-free = Rattle.checker.proofs.Tail.tail-free
+
+-- The tail datum stands in the 4 bits straight after the constraint start, which are bits 30 to 33 of the record.
+pub tail-place : (c : Code) → T (formed c)
+    → (field (bitsOf (pack c)) 26 4 ≡ c .start) × (field (bitsOf (pack c)) 30 4 ≡ c .tail)
+tail-place = Rattle.record.proofs.RecordWrite.tail-place
+
+-- A record that passes, given a datum below 2^p and room, is written with that tail datum, as long as before, and passes.
+pub closes-record : (rec : List ℕ) → Below 256 rec → (c : Code) → parse rec ≡ done c → (k room : ℕ) → k < 2 ^ c .p
+    → length rec ≤ room → (out : List ℕ) × (closedWith rec k room ≡ done out) × (length out ≡ length rec)
+    × (parse out ≡ done (withTail c k))
+closes-record = Rattle.closing.proofs.Closed.closes-record

@@ -110,9 +110,9 @@ pub written : (k : Kind) (xs : List ℕ) (room : ℕ) (j : Job) → readAs k xs 
     → length (pack (code j (tableFor j))) ≤ room → compileAs k xs room ≡ done (pack (code j (tableFor j)))
 written = Rattle.compiler.proofs.Written.written
 
--- A record has at most 3,864 bytes and a listing at most 43,028, so with that room 13 never comes.
-pub max-record : ((c : Code) → Formed c → length (pack c) ≤ 3864) × ((k : Kind) (xs : List ℕ) (room : ℕ)
-    → (3864 ≤ room → compileAs k xs room ≡ refused ShortOutput → ⊥)
+-- A record has at most 3,865 bytes and a listing at most 43,028, so with that room 13 never comes.
+pub max-record : ((c : Code) → Formed c → length (pack c) ≤ 3865) × ((k : Kind) (xs : List ℕ) (room : ℕ)
+    → (3865 ≤ room → compileAs k xs room ≡ refused ShortOutput → ⊥)
     × (43028 ≤ room → listInto xs room ≡ refused ShortOutput → ⊥))
 max-record = (Rattle.record.proofs.RecordBytes.pack-short, Rattle.listings.proofs.Lengths.room-enough)
 

@@ -50,6 +50,7 @@ module _ (t : Table) (w : Found) (e : foundSize w ≡ window (rowsIn t)) where
           window = z;
           constraint = codeIn t .constraint;
           start = t .start;
+          tail = t .tail;
           table = rowsIn t;
         })) (sym size-is)
         ∙ sym (passed (leb (window (rowsIn t) .memory) 15) _ (le-leb _ _ small))

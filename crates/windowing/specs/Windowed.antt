@@ -19,6 +19,7 @@ windowed c =
       window = window (c .table);
       constraint = c .constraint;
       start = c .start;
+      tail = c .tail;
       table = c .table;
     }))
 
@@ -32,6 +33,7 @@ withSize t m a = record {
   lookahead = a;
   constraint = t .constraint;
   start = t .start;
+  tail = t .tail;
   word = t .word;
   next = t .next;
 }

@@ -9,7 +9,7 @@ ghost use Rattle.constraint.specs.Value.{constraintOf};
 ghost use Rattle.table.specs.Value.{codeIn, rowsIn, tableHead, Ready};
 ghost use Rattle.answer.specs.Outcomes.{answerOf, outputOf};
 ghost use Rattle.record.specs.Checks.{packWith};
-ghost use Rattle.record.specs.Layout.{headerBits, stateSize, size, pack};
+ghost use Rattle.record.specs.Layout.{headerBits, headerBytes, stateSize, size, pack};
 ghost use Rattle.record.specs.Parts.{frontBits, nextBits, statesBits, rowsBits};
 use answer::Answer;
 use answer::Refusal;
@@ -43,7 +43,7 @@ fn less_one(x: usize) -> usize
 
 // The numbers in front.
 fn put_front(out: &mut [u8], f: Head)
-    requires { ⌜ 4 ≤ length (now out) ⌝ }
+    requires { ⌜ headerBytes ≤ length (now out) ⌝ }
     ensures written { λ r. ⌜ bitsOf (now (out .exit)) ≡ spliced 0 (frontBits f)
         (bitsOf (now (out .entry))) ⌝ }
     ensures kept { λ r. ⌜ length (now (out .exit)) ≡ length (now (out .entry)) ⌝ }
@@ -55,6 +55,7 @@ fn put_front(out: &mut [u8], f: Head)
     put_low(out, 18, 4, f.lookahead);
     put_low(out, 22, 4, less_one(f.count));
     put_low(out, 26, 4, f.start);
+    put_low(out, 30, 4, f.tail);
 }
 
 // A next state at the bit place `at`, 255 for none.

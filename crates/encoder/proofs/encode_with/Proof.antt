@@ -1,12 +1,12 @@
 -- The checks in their order, then the words of the blocks and the closing words.
 use Rattle.laws.proofs.All.{_≡_, sym, subst, _∙_, true, _+_, _≤_, arith, not-true, not-false, ltb-true, ltb-false}
-use Rattle.laws.proofs.All.{now, T, pow-pos, length, Below, needs}
+use Rattle.laws.proofs.All.{_^_, _<_, now, T, length, Below, needs}
 use Rattle.answer.specs.declared.Refusal.the-variants.{Field, BadByte, ShortOutput}
 use Rattle.table.specs.Paths.{recording}
 use Rattle.table.specs.Value.{Ready, ready, codeIn}
 use Rattle.table.specs.Edges.{arrays, Fits}
 use Rattle.table.proofs.Paths.{length-recording}
-use Rattle.table.proofs.ReadyTables.{ready→}
+use Rattle.table.proofs.ReadyTables.{ready→, ready-formed}
 use Rattle.table.proofs.RowsOf.{fits-lent}
 use Rattle.codec.specs.With.{encodedWith}
 use Rattle.answer.proofs.FirstBad.{below-firstBad, bad-le}
@@ -21,6 +21,11 @@ is-ready c = sym (c .before .is-ready .ensures) ∙ not-false _ (c .if1 .left)
 
 ready-table : (c : tie.Else1) → Ready (c .before .before .before .before .args .t)
 ready-table c = ready→ (c .before .before .before .before .args .t) (subst T (sym (is-ready c)) tt)
+
+-- the tail datum is a block
+tail-small : (c : tie.Else1)
+    → let t = c .before .before .before .before .args .t in t .tail < 2 ^ t .p
+tail-small c = ready-formed (c .before .before .before .before .args .t) (subst T (sym (is-ready c)) tt) .range .tail
 
 fits : (c : tie.After-ways)
     → let t = c .before .before .before .before .before .args .t in Fits (arrays (t .states) (c .ways .result)
@@ -83,7 +88,7 @@ write-closing-requires c κs =
     let s = c .before .before .before .before .before in
     let w = s .before .before .before .before .before .before .before .before .before .before .before in (
       fits w,
-      rw (w .ways .ensures .0) (pow-pos (w .before .before .before .before .before .args .t .p)),
+      rw (w .ways .ensures .0) (tail-small (w .before)),
       s .write-blocks .ensures .0 .1,
       omega arith,
       omega (arith, room (s .before .before .before .before .before .before .before .before)),
@@ -105,7 +110,7 @@ returns-4 c =
     (sym (length-recording (codeIn (a .t)) ds))
     (recorded-in (a .t) (w .ways .result) ds out _ _ (s .write-blocks .result) (w .ways .ensures .0)
     (s .write-blocks .ensures .0 .0) (s .write-blocks .ensures .1)
-    (c .before .before .write-closing .ensures (codeIn (a .t)) (omega arith)))
+    (c .before .before .write-closing .ensures))
 
 pub encode-with-spec : {M : Type 1} → statement M
 encode-with-spec =

@@ -3,6 +3,7 @@
 use Rattle.laws.proofs.All.{arith, now, needs}
 use Rattle.table.specs.Value.{tableHead}
 use Rattle.table.specs.Formed.{Ranges}
+use Rattle.table.proofs.RowsOf.{ways-small}
 use Rattle.views.proofs.Filled.{fill-same}
 use Rattle.info.proofs.Numbers.{in-range, numbers-are}
 use Rattle.info.proofs.tell_numbers.Statement.{statement}
@@ -37,10 +38,15 @@ cast-t11 c =
     let r = range (c .before .before .before .before .before .before .before .before) in
     omega (arith, r .start, r .k₂)
 
+cast-t12 : tie.Need-cast-t12
+cast-t12 c =
+    let r = range (c .before .before .before .before .before .before .before .before .before) in
+    omega (arith, r .tail, ways-small _ (r .p₂))
+
 returns : tie.Need-returns
 returns c =
     let f = c .before .before in
-    let a = f .before .before .before .before .before .before .before .before .before .before .before .args in
+    let a = f .before .before .before .before .before .before .before .before .before .before .before .before .args in
     fill-same (now (a .out)) (numbers-are (a .t)) (f .fill .ensures)
 
 pub tell-numbers-spec : {M : Type 1} → statement M
@@ -55,6 +61,7 @@ tell-numbers-spec =
     cast-t9
     cast-t10
     cast-t11
+    cast-t12
     (λ c. search needs)
     (λ c κs. search needs)
     (λ c. search needs)

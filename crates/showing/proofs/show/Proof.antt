@@ -21,13 +21,14 @@ put-constraint-requires c κs =
 put-listing-requires : tie.Need-put-listing-requires
 put-listing-requires c κs =
     let test = c .before .before .before .before .before .before .before .before .before .before .before .before
-    .before .before .before in
+    .before .before .before .before .before .before .before in
     let whole = test .before in
     whole→ _ (subst T (sym (sym (whole .is-whole .ensures) ∙ not-false _ (test .if1 .left))) tt)
 
 returns-2 : tie.Need-returns-2
 returns-2 c =
-    let x4 = c .before .before in
+    let x5 = c .before .before in
+    let x4 = x5 .before .before .before .before in
     let x3 = x4 .before .before .before .before in
     let x2 = x3 .before .before .before .before in
     let x1 = x2 .before .before .before .before in
@@ -35,7 +36,7 @@ returns-2 c =
     let whole = test .before in
     added-same (shown-is _ (sym (whole .is-whole .ensures) ∙ not-false _ (test .if1 .left)))
     (x1 .put-sentence .ensures then x2 .put-window .ensures then x3 .put-constraint .ensures then
-    x4 .put-listing .ensures)
+    x4 .put-sentence2 .ensures then x5 .put-listing .ensures)
 
 pub show-spec : {M : Type 1} → statement M
 show-spec =

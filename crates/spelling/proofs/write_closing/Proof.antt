@@ -1,4 +1,4 @@
--- Each turn writes the word of datum 0 and steps to its next state.
+-- Each turn writes the word of the datum and steps to its next state.
 use Rattle.laws.proofs.All.{_≡_, sym, List, ℕ, _+_, _-_, _*_, _≤_, _<_, arith, now, length, getD, take, replicate}
 use Rattle.laws.proofs.All.{length-replicate, getD-replicate, take-append-drop, length-take-le, needs}
 use Rattle.table.specs.Edges.{Arrays, arrays, nextOf}
@@ -8,12 +8,12 @@ use Rattle.spelling.proofs.write_closing.Statement.{statement}
 use Rattle.spelling.proofs.write_closing.Tie as tie
 
 abbrev Inv-loop : tie.InvT-loop
-Inv-loop states n word next state at end out₀ s₀ i₀ out s i =
+Inv-loop states n word next state datum at end out₀ s₀ i₀ out s i =
     (at ≤ i) × (i ≤ end) × (end ≤ length out₀)
-    × Writes (arrays states n word next) (take at out₀) state (replicate (end - at) 0) out₀ (i - at) i s out
+    × Writes (arrays states n word next) (take at out₀) state (replicate (end - at) datum) out₀ (i - at) i s out
 
 abbrev μ-loop : tie.MeasureT-loop
-μ-loop states n word next state at end out₀ s₀ i₀ out s i = end - i
+μ-loop states n word next state datum at end out₀ s₀ i₀ out s i = end - i
 
 abbrev table : tie.Start Inv-loop μ-loop → Arrays
 table s = arrays (s .args .states) (s .args .n) (now (s .args .word)) (now (s .args .next))
@@ -22,23 +22,22 @@ table s = arrays (s .args .states) (s .args .n) (now (s .args .word)) (now (s .a
 abbrev front : tie.Start Inv-loop μ-loop → List ℕ
 front s = take (s .args .at) (now (s .args .out))
 
-abbrev zeros : tie.Start Inv-loop μ-loop → List ℕ
-zeros s = replicate (s .args .end - s .args .at) 0
+abbrev copies : tie.Start Inv-loop μ-loop → List ℕ
+copies s = replicate (s .args .end - s .args .at) (s .args .datum)
 
--- the datum in hand is 0, and where its edge leads
-datum-0 : (c : tie.In-loop Inv-loop μ-loop) → getD (zeros (c .before .before))
-    (c .before .loop .i - c .before .before .args .at) 0 ≡ 0
-datum-0 c =
+-- the datum in hand, and where its edge leads
+datum-is : (c : tie.In-loop Inv-loop μ-loop) → getD (copies (c .before .before))
+    (c .before .loop .i - c .before .before .args .at) 0 ≡ c .before .before .args .datum
+datum-is c =
     let a = c .before .before .args in
-    getD-replicate {A = ℕ} (a .end - a .at) (c .before .loop .i - a .at) 0 0 (omega arith)
+    getD-replicate {A = ℕ} (a .end - a .at) (c .before .loop .i - a .at) (a .datum) 0 (omega arith)
 
 next-small : (c : tie.In-loop Inv-loop μ-loop) → nextOf (table (c .before .before))
-    (c .before .loop .s * 16) < c .before .before .args .states
+    (c .before .loop .s * 16 + c .before .before .args .datum) < c .before .before .args .states
 next-small c =
     let s = c .before .before in
     let l = c .before .loop in
-    let e : l .s * 16 + 0 ≡ l .s * 16 = omega arith in
-    rw e at (place-next (table s) (l .s) 0 (s .pre .0) (l .inv .3 .inside) (s .pre .1))
+    place-next (table s) (l .s) (s .args .datum) (s .pre .0) (l .inv .3 .inside) (s .pre .1)
 
 loop-holds : tie.Need-loop-holds Inv-loop μ-loop
 loop-holds c =
@@ -47,7 +46,7 @@ loop-holds c =
       omega arith,
       c .pre .3,
       c .pre .4,
-      rw z (writes-start (table c) (front c) (a .state) (zeros c) (now (a .out)) (a .at)
+      rw z (writes-start (table c) (front c) (a .state) (copies c) (now (a .out)) (a .at)
           (length-take-le (a .at) (now (a .out)) (omega arith)) (c .pre .2)
           (sym (take-append-drop (a .at) (now (a .out))))),
     )
@@ -74,17 +73,17 @@ loop-again c =
     let s = c .before .before .before .before in
     let a = s .args in
     let l = c .before .before .before .loop in
-    let z = datum-0 (c .before .before) in
-    let d : getD (zeros s) (l .i - a .at) 0 < a .n = omega (arith, s .pre .1) in
-    let e : l .s * 16 ≡ l .s * 16 + getD (zeros s) (l .i - a .at) 0 = omega arith in
-    let k : l .i - a .at < length (zeros s) = rw (length-replicate {A = ℕ} (a .end - a .at) 0) (omega arith) in
+    let z = datum-is (c .before .before) in
+    let d : getD (copies s) (l .i - a .at) 0 < a .n = omega (arith, s .pre .1) in
+    let e : l .s * 16 + a .datum ≡ l .s * 16 + getD (copies s) (l .i - a .at) 0 = omega arith in
+    let k : l .i - a .at < length (copies s) = rw (length-replicate {A = ℕ} (a .end - a .at) (a .datum)) (omega arith) in
     let q : l .i + 1 - a .at ≡ l .i - a .at + 1 = omega arith in (
       omega arith,
       omega arith,
       l .inv .2,
-      writes-more (table s) (front s) (a .state) (zeros s) (now (a .out)) (l .i - a .at) (l .i) (l .s) (l .out)
+      writes-more (table s) (front s) (a .state) (copies s) (now (a .out)) (l .i - a .at) (l .i) (l .s) (l .out)
           (l .inv .3)
-          (s .pre .0) (l .i + 1 - a .at) (l .s * 16) q e k d (omega arith),
+          (s .pre .0) (l .i + 1 - a .at) (l .s * 16 + a .datum) q e k d (omega arith),
     )
 
 same-length : tie.Need-same-length Inv-loop μ-loop
@@ -95,8 +94,8 @@ returns c =
     let s = c .before .before in
     let a = s .args in
     let l = c .before .loop in
-    λ d e. rw e (writes-end (table s) (front s) (a .state) (zeros s) (now (a .out)) (l .i - a .at) (l .i) (l .s)
-    (l .out) (l .inv .3) (a .end) (omega arith) (rw (length-replicate {A = ℕ} (a .end - a .at) 0) (omega arith)) .1)
+    writes-end (table s) (front s) (a .state) (copies s) (now (a .out)) (l .i - a .at) (l .i) (l .s) (l .out) (l .inv .3)
+    (a .end) (omega arith) (rw (length-replicate {A = ℕ} (a .end - a .at) (a .datum)) (omega arith)) .1
 
 pub write-closing-spec : {M : Type 1} → statement M
 write-closing-spec =

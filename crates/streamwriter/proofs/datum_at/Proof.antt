@@ -1,4 +1,4 @@
--- A block by its place; behind the last one a list reads as 0.
+-- A block by its place; behind the last one the list is read as the tail datum.
 -- Assumes nothing.
 use Rattle.laws.proofs.All.{sym, arith, now, List·getD-eq-default, needs}
 use Rattle.streamwriter.proofs.datum_at.Statement.{statement}
@@ -9,7 +9,7 @@ cast-result c = omega (arith, c .shared-slice-known .given (c .before .before .a
 
 returns-2 : tie.Need-returns-2
 returns-2 c =
-    let a = c .before .args in sym (List·getD-eq-default (now (a .blocks)) 0 {n = a .i} (c .if1 .left))
+    let a = c .before .args in sym (List·getD-eq-default (now (a .blocks)) (a .tail) {n = a .i} (c .if1 .left))
 
 pub datum-at-spec : {M : Type 1} → statement M
 datum-at-spec = tie.close (tie.spec (λ c. search needs) cast-result (λ c. search needs) returns-2)

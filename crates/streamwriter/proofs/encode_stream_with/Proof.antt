@@ -1,7 +1,7 @@
 -- The checks in their order, then the stream of the words of the blocks and of the closing words.
 -- Assumes nothing.
 use Rattle.laws.proofs.All.{_≡_, refl, sym, subst, _∙_, true, _+_, _≤_, _<_, arith, not-true, not-false, now, T}
-use Rattle.laws.proofs.All.{pow-pos, length, Below, needs}
+use Rattle.laws.proofs.All.{_^_, length, Below, needs}
 use Rattle.answer.specs.declared.Refusal.the-variants.{Field, BadByte, ShortOutput, Stream}
 use Rattle.answer.proofs.FirstBad.{below-firstBad, bad-le}
 use Rattle.answer.proofs.Answered.{declined, finished}
@@ -30,6 +30,10 @@ ready-table c = ready→ (start c .args .t) (subst T (sym (is-ready c)) tt)
 
 lookahead-small : (c : tie.Else1) → start c .args .t .lookahead < 16
 lookahead-small c = ready-formed (start c .args .t) (subst T (sym (is-ready c)) tt) .range .a
+
+-- the tail datum is a block
+tail-small : (c : tie.Else1) → start c .args .t .tail < 2 ^ start c .args .t .p
+tail-small c = ready-formed (start c .args .t) (subst T (sym (is-ready c)) tt) .range .tail
 
 few-words : (c : tie.Else2)
     → let a = start (c .before .before) .args in length (now (a .blocks)) + a .t .lookahead ≤ limit
@@ -110,7 +114,7 @@ put-recording-requires c κs =
       fits-lent t (w .ways .result) k n,
       (λ x d hx hd. k .reading x d hx (rw n at hd)),
       blocks-below i,
-      rw n (pow-pos (t .p)),
+      rw n (tail-small e),
       k .short,
       few-words (s .before .before),
       omega arith,
@@ -134,7 +138,7 @@ returns-5 c =
     (w .ways .result) (b .first-bad .result) (w .ways .ensures .0) (b .first-bad .ensures) (i .if4 .left))
     (recorded-size (a .t) ds (s .stream-size .result) (s .stream-size .ensures))
     (recorded-in (a .t) ds (s .stream-size .result) (s .stream-size .ensures) (w .ways .result) out _
-    (w .ways .ensures .0) (p .put-recording .ensures (codeIn (a .t)) (omega arith)))
+    (w .ways .ensures .0) (p .put-recording .ensures))
 
 pub encode-stream-with-spec : {M : Type 1} → statement M
 encode-stream-with-spec =

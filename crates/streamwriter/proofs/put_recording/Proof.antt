@@ -12,18 +12,18 @@ use Rattle.streamwriter.proofs.put_recording.Statement.{statement}
 use Rattle.streamwriter.proofs.put_recording.Tie as tie
 
 abbrev Inv-loop : tie.InvT-loop
-Inv-loop states n q word next blocks count out₀ p₀ s₀ i₀ out p s i =
-    (i ≤ count) × Puts (arrays states n word next) q (closed blocks count) out₀ i s p out
+Inv-loop states n q word next blocks tail count out₀ p₀ s₀ i₀ out p s i =
+    (i ≤ count) × Puts (arrays states n word next) q (closed blocks tail count) out₀ i s p out
 
 abbrev μ-loop : tie.MeasureT-loop
-μ-loop states n q word next blocks count out₀ p₀ s₀ i₀ out p s i = count - i
+μ-loop states n q word next blocks tail count out₀ p₀ s₀ i₀ out p s i = count - i
 
 abbrev table : tie.Start Inv-loop μ-loop → Arrays
 table s = arrays (s .args .states) (s .args .n) (now (s .args .word)) (now (s .args .next))
 
 -- the blocks and the closing data
 abbrev all-data : tie.Start Inv-loop μ-loop → List ℕ
-all-data s = closed (now (s .args .blocks)) (s .args .count)
+all-data s = closed (now (s .args .blocks)) (s .args .tail) (s .args .count)
 
 abbrev start : tie.At-loop Inv-loop μ-loop → tie.Start Inv-loop μ-loop
 start l = l .before .before .before
@@ -33,16 +33,18 @@ datum-is : (c : tie.After-datum-at Inv-loop μ-loop)
     → c .datum-at .result ≡ getD (all-data (start (c .before .before))) (c .before .before .loop .i) 0
 datum-is c =
     let l = c .before .before in
-    let a = start l .args in
-    c .datum-at .ensures ∙ closed-datum (now (a .blocks)) (a .count) (l .loop .i)
+    let s = start l in
+    let a = s .args in
+    c .datum-at .ensures
+    ∙ closed-datum (now (a .blocks)) (a .tail) (a .count) (s .pre .6) (l .loop .i) (c .before .loop-test .taken)
 
 datum-small : (c : tie.After-datum-at Inv-loop μ-loop) → c .datum-at .result < start (c .before .before) .args .n
 datum-small c =
     let l = c .before .before in
     let s = start l in
     let a = s .args in
-    rw (datum-is c) (closed-below (now (a .blocks)) (a .count) (a .n) (l .loop .i) (s .pre .2) (s .pre .3)
-    (c .before .loop-test .taken) (s .pre .6))
+    rw (datum-is c) (closed-below (now (a .blocks)) (a .tail) (a .count) (s .pre .6) (a .n) (l .loop .i) (s .pre .2)
+    (s .pre .3) (c .before .loop-test .taken))
 
 place-small : (c : tie.After-datum-at Inv-loop μ-loop)
     → c .before .before .loop .s * 16 + c .datum-at .result < 2048
@@ -66,7 +68,7 @@ room l j h =
     let s = start l in
     let a = s .args in
     puts-room (table s) (a .q) (all-data s) (now (a .out)) (l .loop .i) (l .loop .s) (l .loop .p) (l .loop .out)
-    (l .loop .inv .1) j (a .count) h (rw (length-closed (now (a .blocks)) (a .count) (s .pre .6)) (l .loop .inv .0))
+    (l .loop .inv .1) j (a .count) h (rw (length-closed (now (a .blocks)) (a .tail) (a .count) (s .pre .6)) (l .loop .inv .0))
     (s .pre .7)
 
 loop-holds : tie.Need-loop-holds Inv-loop μ-loop
@@ -115,7 +117,7 @@ loop-again c =
     let m = l .loop .inv .1 in (
       omega (arith, d .before .loop-test .taken),
       puts-more (table s) (a .q) E (now (a .out)) i (l .loop .s) (l .loop .p) (l .loop .out) m (s .pre .0)
-          (rw (length-closed (now (a .blocks)) (a .count) (s .pre .6)) (d .before .loop-test .taken))
+          (rw (length-closed (now (a .blocks)) (a .tail) (a .count) (s .pre .6)) (d .before .loop-test .taken))
           (rw (← datum-is d) (datum-small d)) _ (ap (λ x. l .loop .s * 16 + x) (datum-is d)) _ _
           (b .put-word .ensures _ (now (a .out)) (m .waits)),
     )
@@ -133,12 +135,12 @@ returns c =
     let a = s .args in
     let E = all-data s in
     let R = spells (rowsOf (table s)) 0 E in
-    let long : length E ≡ a .count = length-closed (now (a .blocks)) (a .count) (s .pre .6) in
-    λ k e. rw e (f .put-fill .ensures (a .q) R (now (a .out))
+    let long : length E ≡ a .count = length-closed (now (a .blocks)) (a .tail) (a .count) (s .pre .6) in
+    f .put-fill .ensures (a .q) R (now (a .out))
     (puts-end (table s) (a .q) E (now (a .out)) (l .loop .i) (l .loop .s) (l .loop .p) (l .loop .out) (l .loop .inv .1)
     (rw long (f .before .before .loop-test .left)))
     ∙ ap (λ n. packed (a .q) R ++ drop (streamSize (a .q) n) (now (a .out))) (length-spells (rowsOf (table s)) E 0
-    ∙ long))
+    ∙ long)
 
 pub put-recording-spec : {M : Type 1} → statement M
 put-recording-spec =

@@ -1,4 +1,4 @@
--- `put_front` meets its contract: the seven fields stand one behind the other.
+-- `put_front` meets its contract: the eight fields stand one behind the other.
 -- Assumes nothing.
 use Rattle.laws.proofs.All.{refl, _∙_, arith, needs, now}
 use Rattle.bits.specs.Fields.{bitsOf}
@@ -9,7 +9,8 @@ use Rattle.writer.proofs.put_front.Tie as tie
 
 returns : tie.Need-returns
 returns c =
-    let p7 = c .before .before in
+    let p8 = c .before .before in
+    let p7 = p8 .before .before .before .before in
     let p6 = p7 .before .before .before .before in
     let p5 = p6 .before .before .before .before .before in
     let p4 = p5 .before .before .before .before in
@@ -37,14 +38,14 @@ returns c =
                     (
                       _,
                       p6 .put-low6 .ensures .0,
-                      (_, p7 .put-low7 .ensures .0, refl),
+                      (_, p7 .put-low7 .ensures .0, (_, p8 .put-low8 .ensures .0, refl)),
                     ),
                   ),
                 ),
               ),
             ),
           ),
-      p7 .put-low7 .ensures .1 ∙ p6 .put-low6 .ensures .1 ∙ p5 .put-low5 .ensures .1 ∙ p4 .put-low4 .ensures .1
+      p8 .put-low8 .ensures .1 ∙ p7 .put-low7 .ensures .1 ∙ p6 .put-low6 .ensures .1 ∙ p5 .put-low5 .ensures .1 ∙ p4 .put-low4 .ensures .1
           ∙ p3 .put-low3 .ensures .1 ∙ p2 .put-low2 .ensures .1 ∙ p1 .put-low .ensures .1,
     )
 
@@ -54,4 +55,4 @@ put-front-spec =
     (tie.spec
     (λ c κs. search needs) (λ c κs. search needs) (λ c κs. search needs) (λ c κs. search needs)
     (λ c κs. search needs) (λ c κs. search needs) (λ c κs. search needs) (λ c κs. search needs)
-    (λ c κs. search needs) (λ c. search needs) returns)
+    (λ c κs. search needs) (λ c κs. search needs) (λ c. search needs) returns)

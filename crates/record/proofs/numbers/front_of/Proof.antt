@@ -8,18 +8,18 @@ use Rattle.record.proofs.numbers.front_of.Tie as tie
 
 returns : tie.Need-returns
 returns c =
-    let b = c .before .before .before .before .before .before in
-    front-is (bitsOf (now (b .before .before .args .bytes))) _ _ _ _ _ _ _ (
+    let b = c .before .before .before .before .before .before .before in
+    front-is (bitsOf (now (b .before .before .args .bytes))) _ _ _ _ _ _ _ _ (
       b .get .ensures,
       (
-        c .before .before .before .before .before .get2 .ensures,
+        c .before .before .before .before .before .before .get2 .ensures,
         (
-          c .before .before .before .before .get3 .ensures,
+          c .before .before .before .before .before .get3 .ensures,
           (
-            c .before .before .before .get4 .ensures,
+            c .before .before .before .before .get4 .ensures,
             (
-              c .before .before .get5 .ensures,
-              (c .before .get6 .ensures, (c .get7 .ensures, tt)),
+              c .before .before .before .get5 .ensures,
+              (c .before .before .get6 .ensures, (c .before .get7 .ensures, (c .get8 .ensures, tt))),
             ),
           ),
         ),
@@ -33,4 +33,4 @@ front-of-spec =
     (λ c κs. search needs) (λ c. search needs) (λ c κs. search needs) (λ c. search needs) (λ c κs. search needs)
     (λ c. search needs) (λ c. search needs) (λ c κs. search needs) (λ c. search needs) (λ c κs. search needs)
     (λ c. search needs) (λ c κs. search needs) (λ c. search needs) (λ c. search needs) (λ c κs. search needs)
-    (λ c. search needs) returns)
+    (λ c. search needs) (λ c κs. search needs) (λ c. search needs) returns)
