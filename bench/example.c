@@ -1,5 +1,5 @@
 /* Compiles the (0,1) code of rate 1 to 2, records four blocks under it, and reads them back. It prints
- *   record: 24 04 00 42 30 04 10 10 1c 04 04
+ *   record: 24 04 00 40 23 00 41 01 01 c0 40 40
  *   words: 02 03 02 02
  *   blocks: 01 00 01 01
  * Build: gcc -std=c99 -O2 bench/example.c target/staticlib/libapi.a -o target/example

@@ -57,6 +57,10 @@ int main(void)
     expect("decode_stream to no block", sbc_decode_stream(record, r, 1, out, 1, NULL, 0), SBC_DONE, 0);
     expect("info, no record", sbc_info(NULL, 0, out, sizeof out), SBC_LENGTH, 0);
     expect("info, no room", sbc_info(record, r, NULL, 0), SBC_SHORT_OUTPUT, 0);
+    expect("with_tail, no record", sbc_with_tail(NULL, 0, 1, out, sizeof out), SBC_LENGTH, 0);
+    expect("with_tail, a large datum", sbc_with_tail(record, r, ~(uint64_t)0, out, sizeof out), SBC_FIELD, 0);
+    expect("with_tail, no room", sbc_with_tail(record, r, 1, NULL, 0), SBC_SHORT_OUTPUT, 0);
+    expect("with_tail", sbc_with_tail(record, r, 3, out, sizeof out), SBC_DONE, r);
     expect("phrase, no room", sbc_phrase(SBC_NO_CODE, NULL, 0), SBC_SHORT_OUTPUT, 0);
     expect("phrase of no refusal", sbc_phrase(SBC_DONE, NULL, 0), SBC_DONE, 0);
     expect("phrase of a large number", sbc_phrase(~(uint64_t)0, NULL, 0), SBC_DONE, 0);

@@ -1,5 +1,5 @@
 //! Compiles the (0,1) code of rate 1 to 2, records four blocks under it, and reads them back. It prints
-//!   record: [36, 4, 0, 66, 48, 4, 16, 16, 28, 4, 4]
+//!   record: [36, 4, 0, 64, 35, 0, 65, 1, 1, 192, 64, 64]
 //!   words: [2, 3, 2, 2]
 //!   blocks: [1, 0, 1, 1]
 //! Build: rustc -O bench/examples/example.rs -L native=target/staticlib -l static=api -o target/example
@@ -18,7 +18,7 @@ fn written(answer: u64, mut out: Vec<u8>) -> Result<Vec<u8>, u64> {
 fn main() -> Result<(), u64> {
     let (job, data) = ([0u8, 1, 1, 2, 1], [1u8, 0, 1, 1]); // d, k, p, q, cap; four blocks
     let size = |bytes: &[u8]| bytes.len() as u64;
-    let mut out = vec![0; 3864]; // the longest record
+    let mut out = vec![0; 3865]; // the longest record
     let answer = unsafe { sbc_compile_run_length(job.as_ptr(), size(&job), out.as_mut_ptr(), size(&out)) };
     let r = written(answer, out)?;
     let mut out = vec![0; data.len() + 15]; // 15 is the longest lookahead

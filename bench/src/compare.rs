@@ -24,12 +24,14 @@ impl Numbers {
     }
 }
 
-/// Records of some run-length jobs, and two with memory, with their p and q.
+/// Records of some run-length jobs, and two with memory, with their p and q; each with every tail datum.
 fn records() -> Vec<(Vec<u8>, usize, usize)> {
     let jobs = [[0, 1, 1, 2, 1], [0, 1, 2, 3, 2], [1, 3, 1, 2, 1], [1, 7, 2, 3, 2], [2, 7, 1, 2, 4], [0, 2, 3, 4, 3]];
     let record = |job: &[u8; 5]| reference::calls::compile_run_length(job, 65535).output;
     let compiled = jobs.iter().map(|job| (record(job), usize::from(job[2]), usize::from(job[3])));
-    compiled.chain([(E2.to_vec(), 1, 2), (LISTED_FIRST.to_vec(), 2, 3)]).collect()
+    let all = compiled.chain([(E2.to_vec(), 1, 2), (LISTED_FIRST.to_vec(), 2, 3)]);
+    let closed = |record: &[u8], k| reference::calls::with_tail(record, k, 65535).output;
+    all.flat_map(|(r, p, q)| (0..1 << p).map(move |k| (closed(&r, k), p, q))).collect()
 }
 
 /// Bytes with some bits turned, or cut, or lengthened.
@@ -60,15 +62,24 @@ pub fn agree(what: &str, input: &[u8], ours: (u64, u64), out: &[u8], theirs: &An
 fn check(record: &[u8]) -> u64 {
     let ours = library::check(record);
     agree("check", record, ours, &[], &Answer { output: Vec::new(), ..reference::calls::check(record) });
-    let mut numbers = [0xa5; 8];
+    let mut numbers = [0xa5; 9];
     let answer = library::info(record, &mut numbers);
     if let Ok(theirs) = reference::accept::load(record) {
         let h = theirs.header();
-        let expected = [h.p, h.q, h.states - 1, h.m, h.a, h.k, h.start, 0xa5].map(|n| n as u8);
-        assert_eq!((answer, numbers), ((0, 7), expected), "info of {record:02x?}");
+        let expected = [h.p, h.q, h.states - 1, h.m, h.a, h.k, h.start, h.tail, 0xa5].map(|n| n as u8);
+        assert_eq!((answer, numbers), ((0, 8), expected), "info of {record:02x?}");
     } else {
-        assert_eq!((answer, numbers), (ours, [0xa5; 8]), "info of {record:02x?}");
+        assert_eq!((answer, numbers), (ours, [0xa5; 9]), "info of {record:02x?}");
     }
+    ours.0
+}
+
+/// A record with another tail datum, one of 2^p or more among them.
+fn with_tail(numbers: &mut Numbers, record: &[u8]) -> u64 {
+    let datum = [numbers.below(4), numbers.below(20), usize::MAX][numbers.below(9) / 4] as u64;
+    let mut out = vec![0xa5; (record.len() + 2).saturating_sub(numbers.below(4))];
+    let ours = library::with_tail(record, datum, &mut out);
+    agree("with_tail", record, ours, &out, &reference::calls::with_tail(record, datum, out.len()));
     ours.0
 }
 
@@ -192,7 +203,8 @@ pub fn for_seconds(seconds: u64) {
     while Instant::now() < end {
         let (record, p, q) = &records[numbers.below(records.len())];
         let bytes = if numbers.below(8) == 0 { damaged(&mut numbers, record) } else { record.clone() };
-        let refusal = match numbers.below(8) {
+        let refusal = match numbers.below(9) {
+            8 => with_tail(&mut numbers, &bytes),
             7 => streams::pack(&mut numbers),
             6 => streams::code(&mut numbers, &bytes, *p),
             5 => compile_joined(&mut numbers),

@@ -11,6 +11,7 @@ extern "C" {
     fn sbc_encode_stream(r: *const u8, rl: u64, blocks: *const u8, bl: u64, out: *mut u8, ol: u64) -> u64;
     fn sbc_decode_stream(r: *const u8, rl: u64, count: u64, s: *const u8, sl: u64, out: *mut u8, ol: u64) -> u64;
     fn sbc_info(r: *const u8, rl: u64, out: *mut u8, ol: u64) -> u64;
+    fn sbc_with_tail(r: *const u8, rl: u64, datum: u64, out: *mut u8, ol: u64) -> u64;
     fn sbc_phrase(refusal: u64, out: *mut u8, ol: u64) -> u64;
     fn sbc_compile(job: *const u8, jl: u64, out: *mut u8, ol: u64) -> u64;
     fn sbc_compile_run_length(job: *const u8, jl: u64, out: *mut u8, ol: u64) -> u64;
@@ -84,6 +85,12 @@ pub fn decode_stream(record: &[u8], count: u64, stream: &[u8], out: &mut [u8]) -
 /// The numbers of a record.
 pub fn info(record: &[u8], out: &mut [u8]) -> (u64, u64) {
     parts(unsafe { sbc_info(record.as_ptr(), record.len() as u64, out.as_mut_ptr(), out.len() as u64) })
+}
+
+/// A record with another tail datum.
+pub fn with_tail(record: &[u8], datum: u64, out: &mut [u8]) -> (u64, u64) {
+    let (r, o) = (record.as_ptr(), out.as_mut_ptr());
+    parts(unsafe { sbc_with_tail(r, record.len() as u64, datum, o, out.len() as u64) })
 }
 
 /// The words of a refusal.

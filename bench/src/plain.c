@@ -4,7 +4,7 @@
 #include <string.h>
 
 typedef struct {
-    size_t p, q, states, memory, lookahead;
+    size_t p, q, states, memory, lookahead, tail;
     const uint8_t *word, *next; // at state * 16 + datum
 } table;
 
@@ -24,8 +24,9 @@ size_t plain_encode(const table *t, const uint8_t *blocks, size_t count, uint8_t
         s = t->next[e];
     }
     for (size_t i = 0; i < t->lookahead; i++) {
-        out[count + i] = t->word[s * 16];
-        s = t->next[s * 16];
+        size_t e = s * 16 + t->tail;
+        out[count + i] = t->word[e];
+        s = t->next[e];
     }
     return count + t->lookahead;
 }

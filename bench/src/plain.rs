@@ -8,6 +8,7 @@ struct Table {
     states: usize,
     memory: usize,
     lookahead: usize,
+    tail: usize,
     word: *const u8,
     next: *const u8,
 }
@@ -24,6 +25,7 @@ fn lent(t: &Chains) -> Table {
         states: t.states,
         memory: t.memory,
         lookahead: t.lookahead,
+        tail: t.tail,
         word: t.word.as_ptr(),
         next: t.next.as_ptr(),
     }

@@ -2,7 +2,7 @@
 use crate::library;
 use std::process::{Command, Stdio};
 
-const CALLS: [&str; 16] = [
+const CALLS: [&str; 17] = [
     "check",
     "encode",
     "decode",
@@ -13,6 +13,7 @@ const CALLS: [&str; 16] = [
     "encode_stream",
     "decode_stream",
     "info",
+    "with_tail",
     "phrase",
     "compile",
     "compile_run_length",
@@ -39,6 +40,7 @@ fn call(name: &str) -> (u64, u64) {
         "encode_stream" => library::encode_stream(&record, &[1; 100], &mut out),
         "decode_stream" => library::decode_stream(&record, 3000, &[0; 3000], &mut out),
         "info" => library::info(&record, &mut out),
+        "with_tail" => library::with_tail(&record, 15, &mut out),
         "phrase" => library::phrase(7, &mut out),
         "compile" => library::compile(&general(JOB), &mut out),
         "compile_run_length" => library::compile_run_length(&JOB, &mut out),

@@ -5,6 +5,7 @@ use answer::answer_number;
 use answer::answer_value;
 use answer::refusal_number;
 use checker::check;
+use closing::with_tail;
 use compiler::bytes::compile_job;
 use compiler::bytes::compile_joined;
 use compiler::bytes::compile_run_length;
@@ -110,8 +111,8 @@ fn call_job(kind: usize, job: &[u8], out: &mut [u8]) -> Answer {
     list_or_tell(job, out)
 }
 
-// The call of a kind: 3 checks a record, 4 encodes, 5 decodes, 6 walks a set, 9 and above are on streams, and any other
-// takes a job.
+// The call of a kind: 3 checks a record, 4 encodes, 5 decodes, 6 walks a set, 9 to 12 are on streams, 13 writes a
+// record with another tail datum, and any other takes a job.
 pub fn call(kind: usize, first: &[u8], second: &[u8], out: &mut [u8]) -> Told {
     if kind == 3 {
         return told_by(check(first));
@@ -124,6 +125,9 @@ pub fn call(kind: usize, first: &[u8], second: &[u8], out: &mut [u8]) -> Told {
     }
     if kind == 6 {
         return walk_set(first);
+    }
+    if kind == 13 {
+        return told_by(with_tail(first, number_at(second, 0), out));
     }
     if 8 < kind {
         return told_by(call_stream(kind, first, second, out));
