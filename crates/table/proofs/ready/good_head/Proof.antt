@@ -83,7 +83,7 @@ returns-6 c =
 
 returns-7 : tie.Need-returns-7
 returns-7 c =
-    let k = c .before in
+    let k = c .before .before in
     let a = k .before .before in
     let m = a .before .before in
     let s = m .before .before in
@@ -112,8 +112,8 @@ narrow c =
 
 returns-8 : tie.Need-returns-8
 returns-8 c =
-    let z = c .before in
-    let k = z .before in
+    let z = c .before .before in
+    let k = z .before .before in
     let a = k .before .before in
     let m = a .before .before in
     let s = m .before .before in
@@ -131,7 +131,7 @@ returns-8 c =
       ← k .before .between4 .ensures,
       not-false (k .before .between4 .result) (k .if6 .left),
       lt-ltb _ _ (z .if7 .left),
-      c .ways .ensures .0,
+      c .before .ways .ensures .0,
     )
 
 pub good-head-spec : {M : Type 1} → statement M
@@ -140,4 +140,5 @@ good-head-spec =
     (tie.spec
     (λ c κs. search needs) returns (λ c κs. search needs) returns-2 (λ c κs. search needs) returns-3 returns-4
     returns-5 (λ c κs. search needs) returns-6 returns-7
-    (λ c κs. narrow (c .before .before .before .before .before .before .before .before .before .before)) returns-8)
+    (λ c κs. narrow (c .before .before .before .before .before .before .before .before .before .before .before .before))
+    returns-8)
