@@ -19,7 +19,7 @@ returns-2 c =
 
 returns-3 : tie.Need-returns-3
 returns-3 c =
-    let q = c .before in
+    let q = c .before .before in
     let b = q .before .before in
     rw (
       ← b .before .between .ensures,
@@ -38,8 +38,8 @@ narrow c =
 
 returns-4 : tie.Need-returns-4
 returns-4 c =
-    let z = c .before in
-    let q = z .before in
+    let z = c .before .before in
+    let q = z .before .before in
     let b = q .before .before in
     rw (
       ← b .before .between .ensures,
@@ -47,12 +47,12 @@ returns-4 c =
       ← q .before .between2 .ensures,
       not-false (q .before .between2 .result) (q .if2 .left),
       lt-ltb _ _ (z .if3 .left),
-      c .ways .ensures .0,
+      c .before .ways .ensures .0,
     )
 
 pub good-front-spec : {M : Type 1} → statement M
 good-front-spec =
     tie.close
     (tie.spec
-    (λ c κs. search needs) returns (λ c κs. search needs) returns-2 returns-3 (λ c κs. narrow (c .before .before .before))
+    (λ c κs. search needs) returns (λ c κs. search needs) returns-2 returns-3 (λ c κs. narrow (c .before .before .before .before))
     returns-4)
