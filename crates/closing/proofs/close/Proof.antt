@@ -12,7 +12,7 @@ use Rattle.closing.proofs.close.Tie as tie
 returns : tie.Need-returns
 returns c =
     let w = c .before .before in
-    let s = w .before .before in
+    let s = w .before .before .before in
     let a = s .args in
     handed (packWith _ (length (now (a .out)))) (closed (codeIn (a .t)) (a .datum) (length (now (a .out)))) _
     (now (a .out)) _ (closed-table (a .t) _ (a .datum) (length (now (a .out))) (s .pre) refl) (w .write .ensures .0)
