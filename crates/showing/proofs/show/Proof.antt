@@ -21,7 +21,7 @@ put-constraint-requires c κs =
 put-listing-requires : tie.Need-put-listing-requires
 put-listing-requires c κs =
     let test = c .before .before .before .before .before .before .before .before .before .before .before .before
-    .before .before .before .before .before .before .before .before in
+    .before .before .before .before .before .before .before .before .before in
     let whole = test .before in
     whole→ _ (subst T (sym (sym (whole .is-whole .ensures) ∙ not-false _ (test .if1 .left))) tt)
 
@@ -29,7 +29,7 @@ returns-2 : tie.Need-returns-2
 returns-2 c =
     let x5 = c .before .before in
     let x4 = x5 .before .before .before .before in
-    let x3 = x4 .before .before .before .before .before in
+    let x3 = x4 .before .before .before .before .before .before in
     let x2 = x3 .before .before .before .before in
     let x1 = x2 .before .before .before .before in
     let test = x1 .before .before .before .before in
@@ -44,4 +44,4 @@ show-spec =
     (tie.spec
     (λ c κs. search needs) (λ c. search needs) (λ c κs. search needs) (λ c. search needs) returns
     (λ c. search needs) (λ c. search needs) (λ c κs. search needs) (λ c κs. search needs) put-constraint-requires
-    put-listing-requires (λ c. search needs) returns-2)
+    (λ c. search needs) (λ c. search needs) (λ c κs. search needs) put-listing-requires (λ c. search needs) returns-2)
