@@ -1,9 +1,10 @@
 -- The compiler's code passes the checker: its fields are in range, every recording obeys, its window works.
--- In order: labelled-full; Made, made; made-formed; made-obeys; compiled-code; compile-parses; compiled-ready.
+-- In order: labelled-full; Made, made; made-obeys; Passes, compiled-passes; compiled-tail; compile-parses;
+-- compiled-ready.
 -- Assumes nothing.
 use Rattle.laws.proofs.All.{_≡_, sym, ap, subst, _∙_, inl, inr, [], ℕ, zero, _^_, _≤_, _<_, le-trans, le-of-eq, arith}
 use Rattle.laws.proofs.All.{T, ltb, leb, eqb, lt→ltb, le→leb, eqb-refl, length, getD, sum, all, Each, →and, →orL}
-use Rattle.laws.proofs.All.{→orR, →all, each-at}
+use Rattle.laws.proofs.All.{→orR, →all, each-at, refl}
 use Rattle.answer.specs.Outcomes.{done}
 use Rattle.constraint.specs.Walking.{Constraint, none, nowhere, walk, Target}
 use Rattle.table.specs.Rows.{edge, Rows, edges, at, Code}
