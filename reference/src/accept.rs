@@ -26,7 +26,8 @@ pub fn accept(record: &Record) -> Result<(), Refusal> {
 ///
 /// Any data may come after any data, so this asks every entry of each table state with each constraint state that
 /// can stand beside it. Table states not reachable from state 0 are not asked (the readings), and a table state
-/// may stand beside several constraint states ("Plausible and false", the last line).
+/// may stand beside several constraint states ("Plausible and false", the last line). The tail datum is not asked: the
+/// closing blocks are data that other recordings have as data blocks (request (e)).
 fn keeps_constraint(record: &Record) -> bool {
     let mut seen = vec![[false; 16]; record.table.states()];
     let mut open = vec![(0, record.start)];

@@ -1,5 +1,5 @@
-//! The refusals of "When the workshop declines" and of requests (a) and (b), by their numbers, and the answer of a
-//! call.
+//! The refusals of "When the workshop declines" and of requests (a), (b) and (e), by their numbers, and the answer of
+//! a call.
 
 /// A refusal's number in the document's table, or in the request that adds it.
 pub type Refusal = u8;
@@ -16,7 +16,8 @@ pub const WEIGHT_SUM: Refusal = 4;
 pub const EDGES: Refusal = 5;
 /// No window up to 15 and 15.
 pub const NO_WINDOW: Refusal = 6;
-/// Record field out of range, absent state not 0, or fill not 0.
+/// Record field out of range, absent state not 0, or fill not 0; "a tail datum of 2^p or more" (request (e)), in a
+/// record or given for one.
 pub const FIELD: Refusal = 7;
 /// Length is not what the fields say, or too short for them.
 pub const LENGTH: Refusal = 8;

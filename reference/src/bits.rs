@@ -11,7 +11,7 @@ impl Writer {
     /// Adds the low `width` bits of a value, the most significant first.
     pub fn put(&mut self, value: usize, width: usize) {
         for place in (0..width).rev() {
-            if self.bits % 8 == 0 {
+            if self.bits == self.bytes.len() * 8 {
                 self.bytes.push(0);
             }
             let bit = (value >> place & 1) as u8;

@@ -1,7 +1,7 @@
 //! Every call as a function from bytes to an answer.
 
 use crate::accept::load;
-use crate::answer::{Answer, Refusal, BAD_BYTE, FEW_WORDS, PARAMETER, ROOM};
+use crate::answer::{Answer, Refusal, BAD_BYTE, FEW_WORDS, FIELD, PARAMETER, ROOM};
 use crate::compile::compile;
 use crate::job::Job;
 use crate::record::Record;
@@ -31,7 +31,7 @@ fn compiled(job: Result<Job, Refusal>, room: usize) -> Answer {
     }
 }
 
-/// Checks a record. Order: 8, header by 7, 8, the rest by 7, 9, 10.
+/// Checks a record. Order: 8 below five bytes, header by 7 (the tail datum too, request (e)), 8, the rest by 7, 9, 10.
 pub fn check(record: &[u8]) -> Answer {
     match load(record) {
         Ok(_) => Answer::number(0),
@@ -39,7 +39,26 @@ pub fn check(record: &[u8]) -> Answer {
     }
 }
 
-/// Records data blocks. Order: record, 13, 11.
+/// The record with another tail datum, so that a compiled record can be made that of a rig which "closes with another
+/// datum" (request (e)): as many bytes as before, of which only the four bits of the tail datum change. The datum is
+/// any number of 64 bits. Order: record, 7 for a datum of 2^p or more, 13.
+pub fn with_tail(record: &[u8], datum: u64, room: usize) -> Answer {
+    match load(record) {
+        Ok(record) => with_tail_loaded(record, datum, room),
+        Err(refusal) => Answer::refused(refusal, 0),
+    }
+}
+
+/// A record that is known to be good with another tail datum. Order: 7, 13.
+pub fn with_tail_loaded(mut record: Record, datum: u64, room: usize) -> Answer {
+    if datum >= 1 << record.p {
+        return Answer::refused(FIELD, 0);
+    }
+    record.tail = datum as usize;
+    Answer::fitted(record.pack(), room)
+}
+
+/// Records data blocks, and closes with a blocks of the tail datum (request (e)). Order: record, 13, 11.
 pub fn encode(record: &[u8], blocks: &[u8], room: usize) -> Answer {
     match load(record) {
         Ok(record) => encode_loaded(&record, blocks, room),
@@ -108,7 +127,7 @@ pub fn unpack(q: u64, count: u64, stream: &[u8], room: usize) -> Answer {
     }
 }
 
-/// Records data blocks as a stream (request (b)). Order: record, 15, 13, 11.
+/// Records data blocks as a stream (request (b)), closed with the tail datum too. Order: record, 15, 13, 11.
 pub fn encode_stream(record: &[u8], blocks: &[u8], room: usize) -> Answer {
     match load(record) {
         Ok(record) => encode_stream_loaded(&record, blocks, room),

@@ -23,8 +23,9 @@ pub fn rising(job: &Job) -> Result<(Table, usize), Refusal> {
     Ok((Table::of(&graph, job.n()), start))
 }
 
-/// The record of a job with this table: "the working pair with least m + a, then least a", or refusal 6.
+/// The record of a job with this table: "the working pair with least m + a, then least a", or refusal 6. The tail
+/// datum is 0: "the compiler writes 0" (request (e)).
 pub fn with_window(job: &Job, start: usize, table: Table) -> Result<Record, Refusal> {
     let (m, a) = Search::of(&table).least().ok_or(NO_WINDOW)?;
-    Ok(Record { p: job.p, q: job.q, m, a, start, constraint: job.constraint.clone(), table })
+    Ok(Record { p: job.p, q: job.q, m, a, start, tail: 0, constraint: job.constraint.clone(), table })
 }

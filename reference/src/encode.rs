@@ -1,14 +1,15 @@
-//! "Recording and decoding": recording.
+//! "Recording and decoding": recording, closed with the tail datum of request (e).
 
 use crate::record::Record;
 
-/// The words of data blocks: the blocks from state 0, then a blocks of data 0.
+/// The words of data blocks: the blocks from state 0, then a blocks of the record's tail datum. "Encoding closes with
+/// the stated datum, and what counts as a recording follows it."
 pub fn words(record: &Record, blocks: &[u8]) -> Vec<u8> {
     let mut state = 0;
     let mut words = Vec::with_capacity(blocks.len() + record.a);
-    let tail = std::iter::repeat(&0).take(record.a);
-    for block in blocks.iter().chain(tail) {
-        let entry = record.table.rows[state][usize::from(*block)];
+    let closing = vec![record.tail; record.a];
+    for datum in blocks.iter().map(|block| usize::from(*block)).chain(closing) {
+        let entry = record.table.rows[state][datum];
         words.push(entry.word);
         state = entry.next;
     }

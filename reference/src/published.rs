@@ -2,7 +2,7 @@
 //!
 //! Each table stands below as its source prints it, one line a state: for each datum in rising order the word in
 //! binary and the next state. The first state starts. The constraint start is the lowest from which every recording
-//! obeys, the window the smallest that works (least m + a, then least a).
+//! obeys, the window the smallest that works (least m + a, then least a), the tail datum 0 (request (e)).
 //!
 //! The (2,7) codes of IBM and of Xerox are published as code words for strings of data bits. A data bit's word is known
 //! when its string is whole, so their machines write each word late: see `Late`.
@@ -182,7 +182,7 @@ impl Late {
 fn record(run_length: (u8, u8), p: usize, q: usize, table: Table) -> Option<Record> {
     let (m, a) = Search::of(&table).least()?;
     let constraint = Constraint::run_length(run_length.0, run_length.1);
-    let with = |start| Record { p, q, m, a, start, constraint: constraint.clone(), table: table.clone() };
+    let with = |start| Record { p, q, m, a, start, tail: 0, constraint: constraint.clone(), table: table.clone() };
     (0..constraint.states()).map(with).find(|record| accept(record).is_ok())
 }
 

@@ -1,4 +1,5 @@
-//! "The packed record": packing, and parsing with refusals 8 and 7.
+//! "The packed record", with the tail datum of request (e): packing, and parsing with refusals 8 and 7. Bytes are read
+//! by these fields alone: nothing marks the shape that records had before, and "the old shape is no longer read".
 
 use crate::answer::{Refusal, FIELD, LENGTH};
 use crate::bits::{Reader, Writer};
@@ -14,12 +15,17 @@ pub struct Record {
     pub a: usize,
     /// The constraint start.
     pub start: usize,
+    /// The tail datum: the datum of the a closing blocks (request (e)).
+    pub tail: usize,
     /// All K states, those of weight 0 included.
     pub constraint: Constraint,
     pub table: Table,
 }
 
-/// The fields of the first 30 bits.
+/// The least number of bytes that a record may have: "the header now needs five bytes" (request (e)).
+const HEADER_BYTES: usize = 5;
+
+/// The fields of the first 34 bits.
 #[derive(Clone, Copy, Debug, PartialEq, Eq)]
 pub struct Header {
     pub p: usize,
@@ -31,6 +37,8 @@ pub struct Header {
     /// Constraint states.
     pub k: usize,
     pub start: usize,
+    /// "4 bits straight after the constraint start" (request (e)).
+    pub tail: usize,
 }
 
 impl Header {
@@ -43,16 +51,20 @@ impl Header {
             a: reader.take(4),
             k: reader.take(4) + 1,
             start: reader.take(4),
+            tail: reader.take(4),
         }
     }
 
+    /// p, q, the constraint start and the tail datum are in range: "a tail datum of 2^p or more is refusal 7, with the
+    /// header", even where a is 0 and no block closes.
     fn in_range(&self) -> bool {
-        (1..=4).contains(&self.p) && (1..=8).contains(&self.q) && self.start < self.k
+        let known = (1..=4).contains(&self.p) && (1..=8).contains(&self.q);
+        known && self.start < self.k && self.tail < 1 << self.p
     }
 
     /// The length in bytes that the fields say.
     pub fn length(&self) -> usize {
-        let bits = 30 + self.k * 2 * 5 + self.states * (1 << self.p) * (self.q + 7);
+        let bits = 34 + self.k * 2 * 5 + self.states * (1 << self.p) * (self.q + 7);
         bits.div_ceil(8)
     }
 }
@@ -67,6 +79,7 @@ impl Record {
             a: self.a,
             k: self.constraint.states(),
             start: self.start,
+            tail: self.tail,
         }
     }
 
@@ -85,9 +98,9 @@ impl Record {
         writer.bytes()
     }
 
-    /// A record from bytes. Order: 8 below four bytes, header by 7, 8, the rest by 7.
+    /// A record from bytes. Order: "the first check is 8 below five" (request (e)), header by 7, 8, the rest by 7.
     pub fn parse(bytes: &[u8]) -> Result<Record, Refusal> {
-        if bytes.len() < 4 {
+        if bytes.len() < HEADER_BYTES {
             return Err(LENGTH);
         }
         let mut reader = Reader::of(bytes);
@@ -103,8 +116,8 @@ impl Record {
         if !reader.rest_is_zero() {
             return Err(FIELD);
         }
-        let Header { p, q, m, a, start, .. } = header;
-        Ok(Record { p, q, m, a, start, constraint, table })
+        let Header { p, q, m, a, start, tail, .. } = header;
+        Ok(Record { p, q, m, a, start, tail, constraint, table })
     }
 }
 
@@ -116,6 +129,7 @@ fn put_header(writer: &mut Writer, header: &Header) {
     writer.put(header.a, 4);
     writer.put(header.k - 1, 4);
     writer.put(header.start, 4);
+    writer.put(header.tail, 4);
 }
 
 /// The constraint's fields: a present state is below K, an absent one is written 0.

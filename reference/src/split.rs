@@ -76,8 +76,11 @@ fn run(weights: &[u32], n: u32) -> Option<(usize, usize, u32)> {
     None
 }
 
+/// Edges of one state, each a word and a target.
+type Row = Vec<(u8, usize)>;
+
 /// Edges parted into those at the kept places and all others, both in order.
-fn parted(edges: &[(u8, usize)], kept: &[usize]) -> (Vec<(u8, usize)>, Vec<(u8, usize)>) {
+fn parted(edges: &[(u8, usize)], kept: &[usize]) -> (Row, Row) {
     let pick = |wanted: bool| {
         let places = (0..edges.len()).filter(|place| kept.contains(place) == wanted);
         places.map(|place| edges[place]).collect()

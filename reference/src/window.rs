@@ -95,9 +95,9 @@ fn joined(one: &Pairs, other: &Pairs) -> Pairs {
 /// The pairs to which two edges of one word lead from a pair of the set.
 fn ends(edges: &Edges, pairs: &Pairs) -> Pairs {
     let mut found = vec![0; edges.states];
-    for s in 0..edges.states {
+    for (s, partners) in pairs.iter().enumerate() {
         for word in edges.words[s].iter().copied() {
-            let partners = edges.after(pairs[s], word);
+            let partners = edges.after(*partners, word);
             for next in members(edges.targets[word][s]) {
                 found[next] |= partners;
             }
@@ -109,10 +109,10 @@ fn ends(edges: &Edges, pairs: &Pairs) -> Pairs {
 /// The pairs from which two edges of one word lead to a pair of the set.
 fn beginnings(edges: &Edges, pairs: &Pairs) -> Pairs {
     let mut found = vec![0; edges.states];
-    for s in 0..edges.states {
+    for (s, found) in found.iter_mut().enumerate() {
         for word in edges.words[s].iter().copied() {
             let partners = members(edges.targets[word][s]).fold(0, |set, next| set | pairs[next]);
-            found[s] |= edges.before(partners, word);
+            *found |= edges.before(partners, word);
         }
     }
     found
@@ -121,15 +121,15 @@ fn beginnings(edges: &Edges, pairs: &Pairs) -> Pairs {
 /// The pairs from which two edges of one word with different data lead to a pair of readers.
 fn bad_pairs(edges: &Edges, readers: &Pairs) -> Pairs {
     let mut found = vec![0; edges.states];
-    for s in 0..edges.states {
+    for (s, found) in found.iter_mut().enumerate() {
         for one in &edges.out[s] {
-            let close = edges.before(readers[one.next], one.word) & !found[s];
+            let close = edges.before(readers[one.next], one.word) & !*found;
             for t in members(close) {
                 let differs = |other: &crate::edges::Out| {
                     other.word == one.word && other.datum != one.datum && readers[one.next] >> other.next & 1 == 1
                 };
                 if edges.out[t].iter().any(differs) {
-                    found[s] |= 1 << t;
+                    *found |= 1 << t;
                 }
             }
         }

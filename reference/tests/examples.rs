@@ -1,5 +1,6 @@
 //! E1 to E10 and the listing. E1, E3, E7 and the listing are those of request (c), "worked afresh", and E4 is that of
-//! request (d); E2 is as the document first printed it, and so is the first listing, whose record stays a good one.
+//! request (d); E2 is that of request (e), "for the table it already holds"; the first listing is as the document
+//! first printed it, and its table stays a good one. All records have the tail datum 0 of request (e).
 
 use reference::accept::load;
 use reference::calls::{check, compile_job, compile_run_length, decode, encode, listing};
@@ -71,22 +72,23 @@ fn e1_weights_table_and_window() {
     let record = record(&E1);
     assert_eq!(rows(&record), [[(1, 0), (2, 1)], [(3, 0), (2, 1)]]);
     assert_eq!((record.m, record.a, record.start), (0, 0, 0));
-    assert_eq!(compile_run_length(&E1, 11).output, hex("24 04 00 42 30 04 10 10 1c 04 04"));
+    assert_eq!(compile_run_length(&E1, 12).output, hex("24 04 00 40 23 00 41 01 01 c0 40 40"));
 }
 
-/// "E2's old bytes remain an accepted record": the record that E1's job had before request (c).
+/// "E2's old bytes remain an accepted record" (request (c)), "worked afresh for the table it already holds, with tail
+/// datum 0" (request (e)): the record that E1's job had before request (c).
 #[test]
 fn e2_record() {
     assert_eq!(check(&hex(E2)).refusal, 0);
     let record = load(&hex(E2)).unwrap();
     assert_eq!(rows(&record), [[(1, 0), (2, 1)], [(2, 1), (3, 0)]]);
-    assert_eq!((record.m, record.a, record.start), (1, 0, 0));
+    assert_eq!((record.m, record.a, record.start, record.tail), (1, 0, 0, 0));
     assert_eq!(before(&E1), record);
 }
 
 #[test]
 fn e3_encoding() {
-    let compiled = compile_run_length(&E1, 11).output;
+    let compiled = compile_run_length(&E1, 12).output;
     for (record, words) in [(compiled, vec![2, 3, 2, 2]), (hex(E2), vec![2, 2, 3, 2])] {
         let answer = encode(&record, &[1, 0, 1, 1], 4);
         assert_eq!((answer.refusal, answer.value), (0, 4));
@@ -120,7 +122,7 @@ fn e7_one_three() {
     let record = record(&[1, 3, 1, 2, 1]);
     assert_eq!(rows(&record), [[(0, 2), (1, 0)], [(2, 1), (1, 0)], [(2, 1), (1, 0)]]);
     assert_eq!((record.m, record.a, record.constraint.states()), (0, 0, 4));
-    assert_eq!(record.pack(), hex("24 08 00 c2 20 94 27 00 40 04 80 80 a0 20 28 00"));
+    assert_eq!(record.pack(), hex("24 08 00 c0 22 09 42 70 04 00 48 08 0a 02 02 80"));
 }
 
 #[test]
@@ -128,6 +130,7 @@ fn e8_mfm_is_accepted() {
     let record = load(&mfm()).unwrap();
     assert_eq!(rows(&record), [[(0, 1), (1, 0)], [(2, 1), (1, 0)]]);
     assert_eq!((record.m, record.a, record.start), (0, 0, 0));
+    assert_eq!(mfm(), hex("24 04 00 c0 22 09 42 70 04 00 28 08 0a 00"));
 }
 
 #[test]
@@ -152,7 +155,7 @@ fn the_listing() {
     assert_eq!(String::from_utf8(answer.output).unwrap(), LISTING);
     assert_eq!(listing(&LISTED, LISTING.len() - 1).refusal, 13);
     let record = compile_run_length(&LISTED, 22).output;
-    assert_eq!(record, hex("46 08 04 42 30 04 18 06 0a 80 a0 b0 1e 02 80 a0 b0 1e 01 01 e0 80"));
+    assert_eq!(record, hex("46 08 04 40 23 00 41 80 60 a8 0a 0b 01 e0 28 0a 0b 01 e0 10 1e 08"));
 }
 
 /// The record of the first listing has its entries line by line, is the one that the job had before request (c), and is

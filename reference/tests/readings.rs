@@ -53,8 +53,8 @@ fn refusal_5_counts_state_word_target() {
 
 #[test]
 fn unreachable_states_count_for_the_window_alone() {
-    assert_eq!(check(&hex("24 08 40 42 30 04 10 10 18 0e 00 00 80")).refusal, 0);
-    assert_eq!(check(&hex("24 04 00 02 10 00 20 10 20 10")).refusal, 10);
+    assert_eq!(check(&hex("24 08 40 40 23 00 41 01 01 80 e0 00 08 00")).refusal, 0);
+    assert_eq!(check(&hex("24 04 00 00 21 00 02 01 02 01")).refusal, 10);
 }
 
 #[test]
@@ -115,8 +115,8 @@ fn the_listing_of_a_refused_job() {
 
 #[test]
 fn the_largest_record() {
-    let header = Header { p: 4, q: 8, states: 128, m: 15, a: 15, k: 16, start: 15 };
-    assert_eq!(header.length(), 3864);
+    let header = Header { p: 4, q: 8, states: 128, m: 15, a: 15, k: 16, start: 15, tail: 15 };
+    assert_eq!(header.length(), 3865, "3,864 before request (e)");
 }
 
 #[test]
@@ -130,6 +130,6 @@ fn extreme_jobs() {
     assert_eq!(run_length([2, 9, 1, 2, 16]).table.states(), 128);
     let record = run_length([2, 10, 1, 2, 14]);
     assert_eq!((record.m, record.a), (5, 15));
-    assert_eq!(run_length([2, 7, 4, 8, 16]).pack().len(), 3164);
+    assert_eq!(run_length([2, 7, 4, 8, 16]).pack().len(), 3165);
     assert_eq!(compile_run_length(&[1, 11, 4, 7, 6], 4096).refusal, 5);
 }

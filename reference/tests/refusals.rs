@@ -38,10 +38,10 @@ fn rows_1_to_6() {
 
 #[test]
 fn rows_7_to_10() {
-    assert_eq!(checked("04 04 40 42 30 04 10 10 18 0e 00"), 7);
+    assert_eq!(checked("04 04 40 40 23 00 41 01 01 80 e0 00"), 7);
     assert_eq!(checked(""), 8);
-    assert_eq!(checked("24 04 40 42 30 04 00 10 18 0e 00"), 9);
-    assert_eq!(checked("24 04 00 42 30 04 10 10 18 0e 00"), 10);
+    assert_eq!(checked("24 04 40 40 23 00 40 01 01 80 e0 00"), 9);
+    assert_eq!(checked("24 04 00 40 23 00 41 01 01 80 e0 00"), 10);
 }
 
 #[test]
@@ -50,8 +50,8 @@ fn rows_11_to_13() {
     assert_eq!(encode(&hex(E2), &[1, 0, 2, 9], 9), refused(11, 2));
     assert_eq!(decode(&hex(E2), &[1, 4], 9), refused(11, 1));
     assert_eq!(decode(&listed(), &[], 9), refused(12, 0));
-    assert_eq!(compile_run_length(&[0, 1, 1, 2, 1], 10), refused(13, 0));
-    assert_eq!(compile_run_length(&[0, 1, 1, 2, 1], 11).refusal, 0);
+    assert_eq!(compile_run_length(&[0, 1, 1, 2, 1], 11), refused(13, 0));
+    assert_eq!(compile_run_length(&[0, 1, 1, 2, 1], 12).refusal, 0);
 }
 
 #[test]
@@ -92,15 +92,16 @@ fn order_of_a_run_length_job() {
 
 #[test]
 fn order_of_a_record() {
-    assert_eq!(checked("04 04 40"), 8);
-    assert_eq!(checked("04 04 40 42"), 7);
-    assert_eq!(checked("24 04 40 4a"), 7, "the constraint start is a field of the header");
-    assert_eq!(checked("24 04 40 42"), 8);
-    assert_eq!(checked("24 04 40 42 7c 04 10 10 18 0e 00 00"), 8, "8 before a next state");
-    assert_eq!(checked("24 04 40 42 7c 04 10 10 18 0e 00"), 7, "a next state of the constraint");
-    assert_eq!(checked("24 04 40 42 30 14 10 10 18 0e 00"), 7, "an absent state that is not 0");
-    assert_eq!(checked("24 04 40 42 30 04 00 10 18 0e 01"), 7, "fill before 9");
-    assert_eq!(checked("24 04 00 42 30 04 00 10 18 0e 00"), 9, "9 before 10");
+    assert_eq!(checked("04 04 40 40"), 8);
+    assert_eq!(checked("04 04 40 40 23"), 7);
+    assert_eq!(checked("24 04 40 48 23"), 7, "the constraint start is a field of the header");
+    assert_eq!(checked("24 04 40 40 a3"), 7, "so is the tail datum");
+    assert_eq!(checked("24 04 40 40 23"), 8);
+    assert_eq!(checked("24 04 40 40 27 c0 41 01 01 80 e0 00 00"), 8, "8 before a next state");
+    assert_eq!(checked("24 04 40 40 27 c0 41 01 01 80 e0 00"), 7, "a next state of the constraint");
+    assert_eq!(checked("24 04 40 40 23 01 41 01 01 80 e0 00"), 7, "an absent state that is not 0");
+    assert_eq!(checked("24 04 40 40 23 00 40 01 01 80 e0 01"), 7, "fill before 9");
+    assert_eq!(checked("24 04 00 40 23 00 40 01 01 80 e0 00"), 9, "9 before 10");
 }
 
 #[test]
@@ -113,7 +114,7 @@ fn order_of_encoding() {
 
 #[test]
 fn order_of_decoding() {
-    assert_eq!(decode(&[4, 0, 0, 0], &[], 0), refused(7, 0), "the record before 12");
+    assert_eq!(decode(&[4, 0, 0, 0, 0], &[], 0), refused(7, 0), "the record before 12");
     assert_eq!(decode(&listed(), &[], 0), refused(12, 0));
     assert_eq!(decode(&listed(), &[8, 8], 0), refused(13, 0), "13 before 11");
     assert_eq!(decode(&listed(), &[7, 8], 1), refused(11, 1));
@@ -127,9 +128,9 @@ fn sets() {
     assert_eq!(set(&[0]), number(0));
     assert_eq!(set(&pair), number(2));
     assert_eq!(set(&pair[..1]), refused(8, 0));
-    assert_eq!(set(&pair[..15]), refused(8, 1), "the second length is cut off");
+    assert_eq!(set(&pair[..16]), refused(8, 1), "the second length is cut off");
     assert_eq!(set(&pair[..pair.len() - 1]), refused(8, 1));
     assert_eq!(set(&[&pair[..], &[0]].concat()), refused(8, 2), "bytes left over");
-    assert_eq!(set(&pack(&[hex(E2), vec![4, 0, 0, 0]])), refused(7, 1));
-    assert_eq!(set(&pack(&[vec![], vec![4, 0, 0, 0]])), refused(8, 0), "the first bad one ends the walk");
+    assert_eq!(set(&pack(&[hex(E2), vec![4, 0, 0, 0, 0]])), refused(7, 1));
+    assert_eq!(set(&pack(&[vec![], vec![4, 0, 0, 0, 0]])), refused(8, 0), "the first bad one ends the walk");
 }

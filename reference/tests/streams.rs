@@ -97,7 +97,7 @@ fn the_file_has_every_input_that_tells() {
 fn plain(q: usize, m: usize, a: usize) -> Vec<u8> {
     let constraint = Constraint { next: vec![[Some(0), Some(0)]] };
     let table = Table { rows: vec![vec![Entry { word: 0, next: 0 }, Entry { word: 1, next: 0 }]] };
-    Record { p: 1, q, m, a, start: 0, constraint, table }.pack()
+    Record { p: 1, q, m, a, start: 0, tail: 0, constraint, table }.pack()
 }
 
 #[test]
@@ -112,7 +112,7 @@ fn the_reach_as_told() {
     assert_eq!(reach(&plain(8, 0, 0), 7, 8), blocks(0, 1));
     assert_eq!(reach(&plain(2, 3, 4), 9, 9), blocks(0, 7));
     assert_eq!(reach(&plain(2, 3, 4), 40, 9), blocks(16, 7), "the formula where f comes after l");
-    assert_eq!(reach(&hex("04 00 00 00"), 0, u64::MAX), Err(7), "the record before 15");
+    assert_eq!(reach(&hex("04 00 00 00 00"), 0, u64::MAX), Err(7), "the record before 15");
 }
 
 /// The last bit of the longest stream has a reach, the next has none; nothing overflows for any bit number.
@@ -174,7 +174,7 @@ fn a_million_words_under_records() {
 }
 
 /// A record that is refused with 10: E2 with m 0.
-const NO_WINDOW: &str = "24 04 00 42 30 04 10 10 18 0e 00";
+const NO_WINDOW: &str = "24 04 00 40 23 00 41 01 01 80 e0 00";
 
 #[test]
 fn order_of_packing() {
@@ -217,7 +217,7 @@ fn order_of_encoding_to_a_stream() {
 #[test]
 fn order_of_decoding_from_a_stream() {
     assert_eq!(decode_stream(&hex(NO_WINDOW), u64::MAX, &[1], 0), refused(10, 0), "the record before 15");
-    assert_eq!(decode_stream(&[4, 0, 0, 0], 0, &[], 0), refused(7, 0), "the record before 12");
+    assert_eq!(decode_stream(&[4, 0, 0, 0, 0], 0, &[], 0), refused(7, 0), "the record before 12");
     assert_eq!(decode_stream(&listed(), 0, &[0], 0), refused(15, 0), "15 before 12");
     assert_eq!(decode_stream(&listed(), 0, &[], 0), refused(12, 0), "12 before 13");
     assert_eq!(decode_stream(&listed(), 3, &[0, 1], 0), refused(15, 0), "15 before 13");

@@ -8,7 +8,7 @@ use reference::vectors::file::{DECODE_STREAM, ENCODE, KINDS, LISTING, RECORD_ROO
 use reference::vectors::fixed::{E2, TELLING};
 use reference::vectors::marks::{self, Told};
 use reference::vectors::stream_borders::{count_and_stream, telling};
-use reference::vectors::{data, generate, hex};
+use reference::vectors::{data, generate, hex, tails, with_tail};
 use std::collections::HashSet;
 
 #[test]
@@ -40,6 +40,7 @@ fn the_file_walks_and_every_case_answers_again() {
     assert_eq!(refusals(10), [0, 1, 13, 15]);
     assert_eq!(refusals(11), [0, 7, 8, 9, 10, 11, 13], "so are 1,000,001 blocks");
     assert_eq!(refusals(12), [0, 7, 8, 9, 10, 12, 13, 15]);
+    assert_eq!(refusals(13), [0, 7, 8, 9, 10, 13]);
 }
 
 /// Every input that tells for request (a) stands in the file, and where it compiles also with the exact room and with
@@ -96,12 +97,30 @@ fn the_file_has_the_marks_that_tell() {
     }
 }
 
+/// So does every input that tells for request (e); every value of the tail datum is checked, and each good one is
+/// encoded and decoded under; records in the old shape are checked whole, cut and lengthened by a byte.
+#[test]
+fn the_file_has_the_tail_data_that_tell() {
+    let bytes = generate(1);
+    let inputs: HashSet<_> = Walk(&bytes).map(|case| (case.kind, case.room, case.first, case.second)).collect();
+    assert!(tails::telling().iter().chain(&with_tail::telling()).all(|call| inputs.contains(call)));
+    let records: HashSet<_> = inputs.into_iter().map(|(kind, _, first, _)| (kind, first)).collect();
+    for (record, value) in tails::records().iter().flat_map(|record| (0..16).map(move |value| (record, value))) {
+        let kinds = if value < 1 << record.p { &[CHECK, ENCODE, DECODE][..] } else { &[CHECK] };
+        assert!(kinds.iter().all(|kind| records.contains(&(*kind, tails::with_value(record, value)))));
+    }
+    for shape in tails::old_records().iter().map(tails::old_shape) {
+        let (cut, longer) = (shape[..shape.len() - 1].to_vec(), [&shape[..], &[0]].concat());
+        assert!([shape, cut, longer].into_iter().all(|bytes| records.contains(&(CHECK, bytes))));
+    }
+}
+
 /// The numbers that the README states.
 #[test]
 fn the_file_is_the_one_described() {
     let bytes = generate(1);
     let mut checksum = Checksum::default();
     checksum.add(&bytes);
-    assert_eq!((Walk(&bytes).count(), bytes.len()), (11_163, 798_443));
-    assert_eq!(checksum.value(), 0xd1ea_5ec8_34f7_a4d9);
+    assert_eq!((Walk(&bytes).count(), bytes.len()), (11_518, 799_028));
+    assert_eq!(checksum.value(), 0x77f4_3ce1_7414_6caa);
 }

@@ -8,29 +8,29 @@ use crate::encode;
 use std::collections::HashSet;
 
 pub fn add(file: &mut File, random: &mut Random, pool: &Pool, scale: usize) {
-    for _ in 0..407 * scale {
+    file.rounds(407 * scale, |file| {
         let good = pool.any(random);
         encoding(file, random, good);
-    }
+    });
     decodings(file, random, pool, scale);
-    for _ in 0..326 * scale {
+    file.rounds(326 * scale, |file| {
         let good = pool.any(random);
         refused(file, random, good);
-    }
+    });
     long_recordings(file, random, pool);
 }
 
 /// Decodings, of those under records of over 3,000 bytes the first eight only.
 fn decodings(file: &mut File, random: &mut Random, pool: &Pool, scale: usize) {
     let mut long = 0;
-    for _ in 0..950 * scale {
+    file.rounds(950 * scale, |file| {
         let good = pool.any(random);
         let (room, words) = decoding(random, good);
         long += usize::from(good.bytes.len() > 3000);
         if good.bytes.len() <= 3000 || long <= 8 * scale {
             file.add(DECODE, room, &good.bytes, &words);
         }
-    }
+    });
 }
 
 /// Long recordings under large records, of those of one length the first only.
@@ -55,7 +55,7 @@ fn blocks(random: &mut Random, good: &Good) -> Vec<u8> {
 }
 
 /// Blocks encoded with the exact room, more, or one byte less.
-fn encoding(file: &mut File, random: &mut Random, good: &Good) {
+pub fn encoding(file: &mut File, random: &mut Random, good: &Good) {
     let blocks = blocks(random, good);
     let length = blocks.len() + good.record.a;
     file.add(ENCODE, any_room(random, length), &good.bytes, &blocks);
@@ -72,7 +72,7 @@ pub fn any_room(random: &mut Random, length: usize) -> usize {
 }
 
 /// The room and the words of a recording to decode, mostly after damage; or words that are no recording at all.
-fn decoding(random: &mut Random, good: &Good) -> (usize, Vec<u8>) {
+pub fn decoding(random: &mut Random, good: &Good) -> (usize, Vec<u8>) {
     let (a, q) = (good.record.a, good.record.q);
     let recording = encode::words(&good.record, &blocks(random, good));
     let words = match random.below(8) {
@@ -84,7 +84,7 @@ fn decoding(random: &mut Random, good: &Good) -> (usize, Vec<u8>) {
 }
 
 /// Calls with a bad byte, too few words, too little room, or a damaged record, often several at once.
-fn refused(file: &mut File, random: &mut Random, good: &Good) {
+pub fn refused(file: &mut File, random: &mut Random, good: &Good) {
     let (p, q, a) = (good.record.p, good.record.q, good.record.a);
     let encodes = random.once_in(2);
     let bits = if encodes { p } else { q };

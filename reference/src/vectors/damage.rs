@@ -3,20 +3,39 @@
 use super::random::Random;
 use crate::record::Record;
 
-/// The first bit and the width of every field of a good record, the fill (if any) last.
-pub fn fields(record: &Record) -> Vec<(usize, usize)> {
-    let mut widths = vec![3, 4, 7, 4, 4, 4, 4];
+/// The number of fields in front, from p to the constraint start; the tail datum comes behind them.
+pub const IN_FRONT: usize = 7;
+
+/// The place of the tail datum among the fields (request (e)).
+pub const TAIL: usize = 7;
+
+/// The widths of the fields of a good record, without the fill.
+pub fn widths(record: &Record) -> Vec<usize> {
+    let mut widths = vec![3, 4, 7, 4, 4, 4, 4, 4];
     (0..record.constraint.states() * 2).for_each(|_| widths.extend([1, 4]));
     (0..record.table.states() << record.p).for_each(|_| widths.extend([record.q, 7]));
+    widths
+}
+
+/// The first bit and the width of every field of a good record, the fill (if any) last.
+pub fn fields(record: &Record) -> Vec<(usize, usize)> {
+    let mut widths = widths(record);
     let bits: usize = widths.iter().sum();
     let fill = bits.next_multiple_of(8) - bits;
     widths.extend((fill > 0).then_some(fill));
     let mut first = 0;
-    let mut place = |width: usize| {
+    let place = |width: usize| {
         first += width;
         (first - width, width)
     };
-    widths.into_iter().map(|width| place(width)).collect()
+    widths.into_iter().map(place).collect()
+}
+
+/// The fields but the tail datum, which has cases of its own.
+pub fn other_fields(record: &Record) -> Vec<(usize, usize)> {
+    let mut fields = fields(record);
+    fields.remove(TAIL);
+    fields
 }
 
 /// The bytes with one field set.

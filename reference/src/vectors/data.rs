@@ -4,8 +4,9 @@ use super::file::{File, COMPILE_JOB, COMPILE_RUN_LENGTH, DECODE, ENCODE, LISTING
 use super::fixed::{record_of, E2, LISTED};
 use super::hex;
 
-/// The record of the listed code as the document first printed it, with rising data in each state: m 1, a 1.
-pub const FIRST_LISTED: &str = "46 08 44 42 30 04 18 06 0a 80 a0 a8 0a 0b 01 e0 10 1c 07 80 e0 80";
+/// The record of the listed code as the document first printed it, with rising data in each state: m 1, a 1. The tail
+/// datum is 0.
+pub const FIRST_LISTED: &str = "46 08 44 40 23 00 41 80 60 a8 0a 0a 80 a0 b0 1e 01 01 c0 78 0e 08";
 
 /// The job of E1.
 pub const E1: [u8; 5] = [0, 1, 1, 2, 1];

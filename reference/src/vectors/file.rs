@@ -16,9 +16,10 @@ pub const PACK: u8 = 9;
 pub const UNPACK: u8 = 10;
 pub const ENCODE_STREAM: u8 = 11;
 pub const DECODE_STREAM: u8 = 12;
+pub const WITH_TAIL: u8 = 13;
 
 /// The kinds by number; those from their count up to 23 are kept for calls to come, and a file has none from 24 on.
-pub const KINDS: [&str; 13] = [
+pub const KINDS: [&str; 14] = [
     "",
     "compile_job",
     "compile_run_length",
@@ -32,10 +33,14 @@ pub const KINDS: [&str; 13] = [
     "unpack",
     "encode_stream",
     "decode_stream",
+    "with_tail",
 ];
 
 /// Room enough for every record.
 pub const RECORD_ROOM: usize = 4096;
+
+/// Of so many rounds of random cases under records one is left out.
+const LEFT_OUT: usize = 8;
 
 /// Makes one call.
 pub fn call(kind: u8, room: usize, first: &[u8], second: &[u8]) -> Answer {
@@ -55,11 +60,12 @@ pub fn call(kind: u8, room: usize, first: &[u8], second: &[u8]) -> Answer {
             let (count, stream) = split_count(second);
             calls::decode_stream(first, count, stream, room)
         }
+        WITH_TAIL => calls::with_tail(first, split_count(second).0, room),
         _ => panic!("no such kind"),
     }
 }
 
-/// A count in 8 bytes, most significant first, and the bytes behind it.
+/// A count, or a datum, in 8 bytes, most significant first, and the bytes behind it.
 fn split_count(bytes: &[u8]) -> (u64, &[u8]) {
     let (count, rest) = bytes.split_first_chunk().expect("a count of eight bytes");
     (u64::from_be_bytes(*count), rest)
@@ -70,6 +76,8 @@ fn split_count(bytes: &[u8]) -> (u64, &[u8]) {
 pub struct File {
     bytes: Vec<u8>,
     inputs: HashSet<Vec<u8>>,
+    /// Nothing is added now.
+    silent: bool,
 }
 
 impl File {
@@ -81,7 +89,7 @@ impl File {
         self.two(room);
         self.counted(first);
         self.counted(second);
-        if !self.inputs.insert(self.bytes[begun..].to_vec()) {
+        if self.silent || !self.inputs.insert(self.bytes[begun..].to_vec()) {
             self.bytes.truncate(begun);
             return answer;
         }
@@ -99,6 +107,16 @@ impl File {
             self.add(kind, length - 1, first, second);
         }
         answer
+    }
+
+    /// Makes so many rounds of random cases, and adds none in the last of each eight. That round is drawn all the same,
+    /// so that the other rounds do not depend on how many are left out.
+    pub fn rounds(&mut self, count: usize, mut round: impl FnMut(&mut File)) {
+        for number in 0..count {
+            self.silent = number % LEFT_OUT == LEFT_OUT - 1;
+            round(self);
+        }
+        self.silent = false;
     }
 
     pub fn check(&mut self, record: &[u8]) -> Answer {

@@ -11,8 +11,9 @@ use crate::constraint::Constraint;
 use crate::record::Record;
 use crate::table::{Entry, Table};
 
-/// E2: the record that E1 had before request (c). It stays a good one.
-pub const E2: &str = "24 04 40 42 30 04 10 10 18 0e 00";
+/// E2: the record of the table that E1 had before request (c), "worked afresh for the table it already holds, with
+/// tail datum 0" (request (e)).
+pub const E2: &str = "24 04 40 40 23 00 41 01 01 80 e0 00";
 
 /// The job of the listing.
 pub const LISTED: [u8; 5] = [0, 1, 2, 3, 2];
@@ -137,28 +138,28 @@ pub const TELLING: [&str; 19] = [
 /// Records of the refusal table and the readings, and some with two faults.
 pub const RECORDS: [&str; 16] = [
     E2,
-    "04 04 40 42 30 04 10 10 18 0e 00", // p is 0
-    "24 04 00 42 30 04 10 10 18 0e 00", // m is 0
+    "04 04 40 40 23 00 41 01 01 80 e0 00", // p is 0
+    "24 04 00 40 23 00 41 01 01 80 e0 00", // m is 0
     "",
-    "24 04 40",
-    "24 04 40 42", // the header alone
-    "04 04 40 42",
-    "24 04 40 42 30 04 00 10 18 0e 00", // word 00 from the start: 9
-    "24 04 00 42 30 04 00 10 18 0e 00", // 9 before 10
-    "24 04 40 42 30 04 10 10 18 0e 01", // fill
-    "24 04 40 42 30 04 10 10 18 0e 00 00",
-    "24 04 40 42 30 04 10 10 18 0e",
-    "24 08 40 42 30 04 10 10 18 0e 00 00 80", // an unreachable state that breaks the constraint
-    "24 04 00 02 10 00 20 10 20 10",          // an unreachable state that breaks the window
-    "24 04 00 c2 20 94 27 00 40 02 80 80 a0", // E8 cut short
-    "24 04 00 0a 04",                         // start above K
+    "24 04 40 40",
+    "24 04 40 40 23", // the header alone
+    "04 04 40 40 23",
+    "24 04 40 40 23 00 40 01 01 80 e0 00", // word 00 from the start: 9
+    "24 04 00 40 23 00 40 01 01 80 e0 00", // 9 before 10
+    "24 04 40 40 23 00 41 01 01 80 e0 01", // fill
+    "24 04 40 40 23 00 41 01 01 80 e0 00 00",
+    "24 04 40 40 23 00 41 01 01 80 e0",
+    "24 08 40 40 23 00 41 01 01 80 e0 00 08 00", // an unreachable state that breaks the constraint
+    "24 04 00 00 21 00 02 01 02 01",             // an unreachable state that breaks the window
+    "24 04 00 c0 22 09 42 70 04 00 28 08 0a",    // E8 cut short
+    "24 04 00 08 20",                            // start above K
 ];
 
 /// E8: the MFM table for (1,3), as a packed record.
 pub fn mfm() -> Vec<u8> {
     let row = |words: [u8; 2]| vec![Entry { word: words[0], next: 1 }, Entry { word: words[1], next: 0 }];
     let table = Table { rows: vec![row([0, 1]), row([2, 1])] };
-    Record { p: 1, q: 2, m: 0, a: 0, start: 0, constraint: Constraint::run_length(1, 3), table }.pack()
+    Record { p: 1, q: 2, m: 0, a: 0, start: 0, tail: 0, constraint: Constraint::run_length(1, 3), table }.pack()
 }
 
 /// The row of refusal 4: bit 0 to state 0, bit 1 to the next state, the last to 0; p 1, q 1, cap 16.

@@ -22,7 +22,7 @@ pub fn any(random: &mut Random) -> Record {
 /// A record with these rows under the constraint of one state that allows every bit.
 fn free(p: usize, q: usize, rows: Vec<Vec<Entry>>) -> Record {
     let constraint = Constraint { next: vec![[Some(0), Some(0)]] };
-    with_least(Record { p, q, m: 0, a: 0, start: 0, constraint, table: Table { rows } })
+    with_least(Record { p, q, m: 0, a: 0, start: 0, tail: 0, constraint, table: Table { rows } })
 }
 
 /// The record with the least window of its table, or 15 and 15.

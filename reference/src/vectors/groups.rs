@@ -1,6 +1,6 @@
 //! Sets good and bad, and listings.
 
-use super::damage::{fields, with_field};
+use super::damage::{other_fields, with_field};
 use super::file::{File, LISTING};
 use super::fixed::{loops, E2};
 use super::hex;
@@ -14,10 +14,10 @@ pub fn add(file: &mut File, random: &mut Random, pool: &Pool, scale: usize) {
     full(file);
     let pair = sets::pack(&[hex(E2), hex(E2)]);
     (0..=pair.len()).for_each(|length| drop(file.set(&pair[..length])));
-    for _ in 0..362 * scale {
+    file.rounds(362 * scale, |file| {
         let records = some(random, pool);
         one_set(file, random, records);
-    }
+    });
     for _ in 0..27 * scale {
         file.add(LISTING, 4000, &any_run_length(random), &[]);
     }
@@ -72,7 +72,7 @@ fn damaged(random: &mut Random, bytes: &[u8]) -> Vec<u8> {
         return bytes[..random.below(bytes.len())].to_vec();
     }
     let record = crate::accept::load(bytes).expect("the pool's records are good");
-    let place = *random.pick(&fields(&record));
+    let place = *random.pick(&other_fields(&record));
     with_field(bytes, place, random.below(1 << place.1))
 }
 

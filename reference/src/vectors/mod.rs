@@ -15,6 +15,9 @@ pub mod random;
 pub mod records;
 pub mod stream_borders;
 pub mod streams;
+pub mod tailed;
+pub mod tails;
+pub mod with_tail;
 
 use file::File;
 use random::Random;
@@ -34,6 +37,9 @@ pub fn generate(scale: usize) -> Vec<u8> {
     streams::add(&mut file, &mut Random::seeded(6), &pool, scale);
     data::add(&mut file);
     marks::add(&mut file, &mut Random::seeded(7), &pool, scale);
+    tails::add(&mut file);
+    tailed::add(&mut file, &mut Random::seeded(8), &pool, scale);
+    with_tail::add(&mut file, &mut Random::seeded(9), &pool, scale);
     file.ended()
 }
 

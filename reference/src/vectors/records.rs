@@ -1,6 +1,6 @@
 //! Records to check: whole, foreign, and damaged in every field.
 
-use super::damage::{field, fields, with_field};
+use super::damage::{field, fields, other_fields, with_field, IN_FRONT};
 use super::file::File;
 use super::fixed::{mfm, E2};
 use super::foreign;
@@ -16,29 +16,15 @@ pub fn add(file: &mut File, random: &mut Random, pool: &Pool, scale: usize) {
         file.check(&good.bytes);
     }
     pool.small.iter().take(12).for_each(|good| every_length(file, &good.bytes));
-    for _ in 0..1204 * scale {
-        let good = random.pick(&pool.small);
-        one_field(file, random, good);
+    for (count, goods) in [(1204, &pool.small), (150, &pool.middle), (18, &pool.large)] {
+        file.rounds(count * scale, |file| one_field(file, random, goods));
     }
-    for _ in 0..150 * scale {
-        let good = random.pick(&pool.middle);
-        one_field(file, random, good);
-    }
-    for _ in 0..18 * scale {
-        let good = random.pick(&pool.large);
-        one_field(file, random, good);
-    }
-    for _ in 0..98 * scale {
-        let record = foreign::any(random);
-        windows_about(file, &record);
-    }
-    for _ in 0..226 * scale {
+    file.rounds(98 * scale, |file| windows_about(file, &foreign::any(random)));
+    file.rounds(226 * scale, |file| {
         let good = random.pick(&pool.small);
         file.check(&foreign::with_unreachable(random, &good.record).pack());
-    }
-    for _ in 0..226 * scale {
-        several_faults(file, random, pool);
-    }
+    });
+    file.rounds(226 * scale, |file| several_faults(file, random, pool));
 }
 
 /// Every value of every field.
@@ -60,11 +46,12 @@ fn every_length(file: &mut File, bytes: &[u8]) {
     }
 }
 
-/// One field set to a value near its own, to its least or greatest, or to any.
-fn one_field(file: &mut File, random: &mut Random, good: &Good) {
-    let fields = fields(&good.record);
+/// One field of a record set to a value near its own, to its least or greatest, or to any.
+fn one_field(file: &mut File, random: &mut Random, goods: &[Good]) {
+    let good = random.pick(goods);
+    let fields = other_fields(&good.record);
     let header = random.once_in(4);
-    let place = if header { *random.pick(&fields[..7]) } else { *random.pick(&fields) };
+    let place = if header { *random.pick(&fields[..IN_FRONT]) } else { *random.pick(&fields) };
     let most = (1usize << place.1) - 1;
     let old = field(&good.bytes, place);
     let value = match random.below(4) {
@@ -91,10 +78,10 @@ fn windows_about(file: &mut File, record: &Record) {
 /// Two or three fields changed, sometimes with the length wrong too: the first refusal in the order wins.
 fn several_faults(file: &mut File, random: &mut Random, pool: &Pool) {
     let good = random.pick(&pool.small);
-    let fields = fields(&good.record);
+    let fields = other_fields(&good.record);
     let mut bytes = good.bytes.clone();
     for _ in 0..random.within(2, 3) {
-        let place = if random.once_in(3) { *random.pick(&fields[..7]) } else { *random.pick(&fields) };
+        let place = if random.once_in(3) { *random.pick(&fields[..IN_FRONT]) } else { *random.pick(&fields) };
         bytes = with_field(&bytes, place, random.below(1 << place.1));
     }
     match random.below(4) {

@@ -8,23 +8,21 @@ use super::random::Random;
 use super::stream_borders::{self, count_and_stream, width_and_count};
 use crate::{encode, streams};
 
+/// A way to add a case under a record.
+pub type Way = fn(&mut File, &mut Random, &Good);
+
 pub fn add(file: &mut File, random: &mut Random, pool: &Pool, scale: usize) {
     stream_borders::add(file);
     for q in (1..=8).cycle().take(8 * 6 * scale) {
         packing(file, random, q);
         unpacking(file, random, q);
     }
-    for _ in 0..90 * scale {
-        let good = any(random, pool);
-        encoding(file, random, good);
-    }
-    for _ in 0..170 * scale {
-        let good = any(random, pool);
-        decoding(file, random, good);
-    }
-    for _ in 0..70 * scale {
-        let good = any(random, pool);
-        refused(file, random, good);
+    let ways: [(usize, Way); 3] = [(90, encoding), (170, decoding), (70, refused)];
+    for (count, way) in ways {
+        file.rounds(count * scale, |file| {
+            let good = any(random, pool);
+            way(file, random, good);
+        });
     }
 }
 
@@ -68,7 +66,7 @@ fn unpacking(file: &mut File, random: &mut Random, q: usize) {
 }
 
 /// Blocks encoded to a stream.
-fn encoding(file: &mut File, random: &mut Random, good: &Good) {
+pub fn encoding(file: &mut File, random: &mut Random, good: &Good) {
     let count = some(random);
     let blocks = random.bytes(count, 1 << good.record.p);
     let length = streams::length(good.record.q, count + good.record.a);
@@ -77,7 +75,7 @@ fn encoding(file: &mut File, random: &mut Random, good: &Good) {
 
 /// A recording decoded from its stream: mostly after channel bits f to l are overwritten, else whole, or with words
 /// taken out and put in.
-fn decoding(file: &mut File, random: &mut Random, good: &Good) {
+pub fn decoding(file: &mut File, random: &mut Random, good: &Good) {
     let (p, q, a) = (good.record.p, good.record.q, good.record.a);
     let count = some(random);
     let mut words = encode::words(&good.record, &random.bytes(count, 1 << p));
@@ -106,7 +104,7 @@ fn last_bit(random: &mut Random, bits: usize) -> usize {
 
 /// Calls with a bad block, too few words, a wrong count, length or fill, too little room, or a damaged record, often
 /// several at once.
-fn refused(file: &mut File, random: &mut Random, good: &Good) {
+pub fn refused(file: &mut File, random: &mut Random, good: &Good) {
     let (p, q, a) = (good.record.p, good.record.q, good.record.a);
     let mut bytes = good.bytes.clone();
     if random.once_in(4) {
