@@ -90,7 +90,7 @@ module _ (j : JobValue) (a : JobReady j) (n : ℕ) (g : Graph) (start : ℕ) (b 
           window = window T;
           constraint = jobIn j .constraint;
           start = z;
-          tail = 0;
+          tail = t .tail;
           table = T;
         }))) (b .first)
         table-rows

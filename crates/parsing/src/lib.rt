@@ -26,7 +26,7 @@ pub fn read(bytes: &[u8]) -> TableAnswer
     }
     let f = numbers::front_of(bytes);
     if !numbers::good_front(f) {
-        return declined(Refusal::Field);
+        return declined(Refusal::Field); // with the header, before 8
     }
     if bytes.len() != numbers::size_of(f) {
         return declined(Refusal::Length);

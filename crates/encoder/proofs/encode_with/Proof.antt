@@ -88,7 +88,7 @@ write-closing-requires c κs =
     let s = c .before .before .before .before .before in
     let w = s .before .before .before .before .before .before .before .before .before .before .before in (
       fits w,
-      rw (w .ways .ensures .0) (tail-small (w .before)),
+      omega (arith, w .ways .ensures .0, tail-small (w .before)),
       s .write-blocks .ensures .0 .1,
       omega arith,
       omega (arith, room (s .before .before .before .before .before .before .before .before)),

@@ -1,7 +1,7 @@
 -- `read` meets its contract: each return follows the checks before it, in document 01's order.
 -- Assumes nothing.
 use Rattle.laws.proofs.All.{true, _≡_, sym, ap, _∙_, not-true, not-false, lt-leb, le-leb, eq-eqb, ne-eqb, needs}
-use Rattle.laws.proofs.All.{now, length}
+use Rattle.laws.proofs.All.{now, length, arith}
 use Rattle.answer.specs.Outcomes.{done}
 use Rattle.table.specs.Formed.{Ranges}
 use Rattle.record.specs.Parse.{goodHead}
@@ -39,7 +39,8 @@ sized c = c .if3 .left ∙ c .before .size-of .ensures
 returns : tie.Need-returns
 returns c =
     let xs = now (c .before .before .before .args .bytes) in (
-      c .declined .ensures .0 ∙ sym (checked-short xs (lt-leb headerBytes (length xs) (c .before .if1 .taken))),
+      c .declined .ensures .0
+          ∙ sym (checked-short xs (lt-leb headerBytes (length xs) (omega (arith, c .before .if1 .taken)))),
       (λ e. absurd (c .declined .ensures .1 .0 e), λ x e. c .declined .ensures .1 .1),
     )
 
@@ -49,7 +50,7 @@ returns-2 c =
     let f = g .before in
     let xs = now (f .before .before .before .args .bytes) in (
       c .declined2 .ensures .0 ∙ sym (checked-front xs (f .front-of .result) (f .front-of .ensures)
-          (le-leb headerBytes (length xs) (f .before .if1 .left))
+          (le-leb headerBytes (length xs) (omega (arith, f .before .if1 .left)))
           (sym (g .good-front .ensures) ∙ not-true (g .good-front .result) (c .before .if2 .taken))),
       (λ e. absurd (c .declined2 .ensures .1 .0 e), λ x e. c .declined2 .ensures .1 .1),
     )
@@ -63,7 +64,7 @@ returns-3 c =
     let f = s .before .before .before in
     let xs = now (f .before .before .before .args .bytes) in (
       c .declined3 .ensures .0 ∙ sym (checked-length xs (f .front-of .result) (f .front-of .ensures)
-          (le-leb headerBytes (length xs) (f .before .if1 .left)) (fronted (s .before))
+          (le-leb headerBytes (length xs) (omega (arith, f .before .if1 .left))) (fronted (s .before))
           (ne-eqb _ _ (λ e. c .before .if3 .taken (e ∙ sym (s .size-of .ensures))))),
       (λ e. absurd (c .declined3 .ensures .1 .0 e), λ x e. c .declined3 .ensures .1 .1),
     )
@@ -78,7 +79,7 @@ returns-4 c =
     let f = s .before .before .before in
     let xs = now (f .before .before .before .args .bytes) in (
       c .declined4 .ensures .0 ∙ sym (checked-rest xs (f .front-of .result) (f .front-of .ensures)
-          (le-leb headerBytes (length xs) (f .before .if1 .left)) (fronted (s .before)) (eq-eqb _ _ (sized (g .before)))
+          (le-leb headerBytes (length xs) (omega (arith, f .before .if1 .left))) (fronted (s .before)) (eq-eqb _ _ (sized (g .before)))
           (sym (g .good-rest .ensures) ∙ not-true (g .good-rest .result) (c .before .if4 .taken))),
       (λ e. absurd (c .declined4 .ensures .1 .0 e), λ x e. c .declined4 .ensures .1 .1),
     )
@@ -95,7 +96,7 @@ returns-5 c =
     let xs = now (f .before .before .before .args .bytes) in
     let good = sym (g .good-rest .ensures) ∙ not-false (g .good-rest .result) (c .before .if4 .left) in
     let same = ap done (c .table-of .ensures) ∙ sym (checked-good xs h (f .front-of .ensures)
-    (le-leb headerBytes (length xs) (f .before .if1 .left)) (fronted (s .before)) (eq-eqb _ _ (sized (g .before))) good) in
+    (le-leb headerBytes (length xs) (omega (arith, f .before .if1 .left))) (fronted (s .before)) (eq-eqb _ _ (sized (g .before))) good) in
     (same, (λ e. read-ready xs (c .table-of .result) same, good-not))
 
 pub read-spec : {M : Type 1} → statement M
