@@ -21,7 +21,8 @@ module _ (c : Code) (good : Sound c) (data′ L : List ℕ) (fit : Below (2 ^ c 
       let l : length R ≡ length D = length-spells (c .table) D 0 in
       let z : i - 0 ≡ i = omega arith in
       one-path c good R D 0 0
-      (blocks→path (c .table) (2 ^ c .p) (good .closed) (good .full) D 0 (good .some) (closed-blocks c (good .tail) data′ fit))
+      (blocks→path (c .table) (2 ^ c .p) (good .closed) (good .full) D 0 (good .some)
+      (closed-blocks c (good .tail) data′ fit))
       (sym (take-all (length D) R (omega arith))) i (good .some) (inl (refl, refl)) zero-le
       (omega (arith, length-recording c data′))
       ∙ ap (λ k. getD D k 0) z ∙ List·getD-append data′ (closing c) 0 i hi

@@ -161,8 +161,8 @@ pub clear-unmarked : (rec : List ℕ) → Below 256 rec → (c : Code) → parse
     → (getD out j 254 ≡ getD ds i 0) × (getD out j 254 < 16)
 clear-unmarked = Rattle.codec.proofs.Marked.clear-unmarked
 
--- ---- (e) The tail datum in the record. Main's `recording` closes with it and its `parse` reads it, so what Main says of
--- records, round trip, recognition and damage is said of every tail datum.
+-- ---- (e) The tail datum in the record. Main's `recording` closes with it and its `parse` reads it, so what Main says
+-- of records, round trip, recognition and damage is said of every tail datum.
 
 -- A recording closes with the stated datum, and the compiler states 0.
 pub closes : ((c : Code) (ds : List ℕ)
@@ -179,7 +179,7 @@ pub tail-place : (c : Code) → T (formed c)
     → (field (bitsOf (pack c)) 26 4 ≡ c .start) × (field (bitsOf (pack c)) 30 4 ≡ c .tail)
 tail-place = Rattle.record.proofs.RecordWrite.tail-place
 
--- A record that passes, given a datum below 2^p and room, is written with that tail datum, as long as before, and passes.
+-- A record that passes, with room and a datum below 2^p, is written with that tail datum; it stays as long and passes.
 pub closes-record : (rec : List ℕ) → Below 256 rec → (c : Code) → parse rec ≡ done c → (k room : ℕ) → k < 2 ^ c .p
     → length rec ≤ room → (out : List ℕ) × (closedWith rec k room ≡ done out) × (length out ≡ length rec)
     × (parse out ≡ done (withTail c k))

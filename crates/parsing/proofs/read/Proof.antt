@@ -79,7 +79,8 @@ returns-4 c =
     let f = s .before .before .before in
     let xs = now (f .before .before .before .args .bytes) in (
       c .declined4 .ensures .0 ∙ sym (checked-rest xs (f .front-of .result) (f .front-of .ensures)
-          (le-leb headerBytes (length xs) (omega (arith, f .before .if1 .left))) (fronted (s .before)) (eq-eqb _ _ (sized (g .before)))
+          (le-leb headerBytes (length xs) (omega (arith, f .before .if1 .left))) (fronted (s .before))
+          (eq-eqb _ _ (sized (g .before)))
           (sym (g .good-rest .ensures) ∙ not-true (g .good-rest .result) (c .before .if4 .taken))),
       (λ e. absurd (c .declined4 .ensures .1 .0 e), λ x e. c .declined4 .ensures .1 .1),
     )
@@ -96,7 +97,8 @@ returns-5 c =
     let xs = now (f .before .before .before .args .bytes) in
     let good = sym (g .good-rest .ensures) ∙ not-false (g .good-rest .result) (c .before .if4 .left) in
     let same = ap done (c .table-of .ensures) ∙ sym (checked-good xs h (f .front-of .ensures)
-    (le-leb headerBytes (length xs) (omega (arith, f .before .if1 .left))) (fronted (s .before)) (eq-eqb _ _ (sized (g .before))) good) in
+    (le-leb headerBytes (length xs) (omega (arith, f .before .if1 .left))) (fronted (s .before))
+    (eq-eqb _ _ (sized (g .before))) good) in
     (same, (λ e. read-ready xs (c .table-of .result) same, good-not))
 
 pub read-spec : {M : Type 1} → statement M

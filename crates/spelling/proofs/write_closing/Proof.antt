@@ -84,7 +84,8 @@ loop-again c =
     let z = datum-is (c .before .before) in
     let d : getD (copies s) (l .i - a .at) 0 < a .n = omega (arith, s .pre .1) in
     let e : l .s * 16 + a .datum ≡ l .s * 16 + getD (copies s) (l .i - a .at) 0 = omega arith in
-    let k : l .i - a .at < length (copies s) = rw (length-replicate {A = ℕ} (a .end - a .at) (a .datum)) (omega arith) in
+    let k : l .i - a .at < length (copies s) =
+    rw (length-replicate {A = ℕ} (a .end - a .at) (a .datum)) (omega arith) in
     let q : l .i + 1 - a .at ≡ l .i - a .at + 1 = omega arith in (
       omega arith,
       omega arith,
@@ -102,8 +103,8 @@ returns c =
     let s = c .before .before in
     let a = s .args in
     let l = c .before .loop in
-    writes-end (table s) (front s) (a .state) (copies s) (now (a .out)) (l .i - a .at) (l .i) (l .s) (l .out) (l .inv .3)
-    (a .end) (omega arith) (rw (length-replicate {A = ℕ} (a .end - a .at) (a .datum)) (omega arith)) .1
+    writes-end (table s) (front s) (a .state) (copies s) (now (a .out)) (l .i - a .at) (l .i) (l .s) (l .out)
+    (l .inv .3) (a .end) (omega arith) (rw (length-replicate {A = ℕ} (a .end - a .at) (a .datum)) (omega arith)) .1
 
 pub write-closing-spec : {M : Type 1} → statement M
 write-closing-spec =

@@ -68,8 +68,8 @@ room l j h =
     let s = start l in
     let a = s .args in
     puts-room (table s) (a .q) (all-data s) (now (a .out)) (l .loop .i) (l .loop .s) (l .loop .p) (l .loop .out)
-    (l .loop .inv .1) j (a .count) h (rw (length-closed (now (a .blocks)) (a .tail) (a .count) (s .pre .6)) (l .loop .inv .0))
-    (s .pre .7)
+    (l .loop .inv .1) j (a .count) h
+    (rw (length-closed (now (a .blocks)) (a .tail) (a .count) (s .pre .6)) (l .loop .inv .0)) (s .pre .7)
 
 loop-holds : tie.Need-loop-holds Inv-loop μ-loop
 loop-holds c =

@@ -54,5 +54,5 @@ pub good-front-spec : {M : Type 1} → statement M
 good-front-spec =
     tie.close
     (tie.spec
-    (λ c κs. search needs) returns (λ c κs. search needs) returns-2 returns-3 (λ c κs. narrow (c .before .before .before .before))
-    returns-4)
+    (λ c κs. search needs) returns (λ c κs. search needs) returns-2 returns-3
+    (λ c κs. narrow (c .before .before .before .before)) returns-4)
