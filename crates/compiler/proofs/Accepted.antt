@@ -3,7 +3,7 @@
 -- compiled-ready.
 -- Assumes nothing.
 use Rattle.laws.proofs.All.{_≡_, sym, ap, subst, _∙_, inl, inr, [], ℕ, zero, _^_, _≤_, _<_, le-trans, le-of-eq, arith}
-use Rattle.laws.proofs.All.{T, ltb, leb, eqb, lt→ltb, le→leb, eqb-refl, length, getD, sum, all, Each, →and, →orL}
+use Rattle.laws.proofs.All.{T, ltb, eqb, lt→ltb, le→leb, eqb-refl, length, getD, sum, all, Each, →and, →orL}
 use Rattle.laws.proofs.All.{→orR, →all, each-at, refl}
 use Rattle.answer.specs.Outcomes.{done}
 use Rattle.constraint.specs.Walking.{Constraint, none, nowhere, walk, Target}
@@ -14,7 +14,7 @@ use Rattle.obeying.specs.Obeys.{obeys}
 use Rattle.table.specs.declared.Table.{Table}
 use Rattle.table.specs.Value.{codeIn, ready}
 use Rattle.table.specs.Paths.{Full}
-use Rattle.table.specs.Formed.{head, inRange, goodState, goodNext, goodEdge, goodRow, formed}
+use Rattle.table.specs.Formed.{head, goodState, goodNext, goodEdge, goodRow, formed}
 use Rattle.obeying.proofs.AnyClosure.{obeys-by}
 use Rattle.record.specs.Layout.{pack}
 use Rattle.checker.specs.Parse.{parse}

@@ -2,7 +2,7 @@
 -- In order: length-nexts, length-pairs, length-rows; code-back, length-pack, bits-pack, tail-place,
 -- fields-pack.
 -- Assumes nothing.
-use Rattle.laws.proofs.All.{T→true, eq-eqb, eqb-is, so, nay, _≡_, refl, sym, ap, ap₂, subst, _∙_, true, _&&_, List}
+use Rattle.laws.proofs.All.{T→true, eq-eqb, eqb-is, so, nay, _≡_, refl, sym, ap, ap₂, subst, _∙_, _&&_, List}
 use Rattle.laws.proofs.All.{[], _∷_, _++_, append-assoc, ℕ, zero, _+_, _*_, _-_, _^_, suc-mul, arith, T, ltb, leb}
 use Rattle.laws.proofs.All.{eqb, eqb→eq, le→leb, lt→ltb, length, getD, take, drop, replicate, length-append}
 use Rattle.laws.proofs.All.{length-replicate, lit<, drop-at, all, Each, and→, →and, each-map, all-each, all-of}
