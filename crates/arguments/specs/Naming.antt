@@ -9,7 +9,7 @@ use Rattle.text.specs.Words.{same}
 use Rattle.arguments.specs.declared.Action.{Action}
 use Rattle.arguments.specs.declared.Action.the-variants.{Compile, CompileJob, CompileJoined, Trace}
 use Rattle.arguments.specs.declared.Action.the-variants.{Collection, Help, Version, Viewing, Coding, Stream}
-use Rattle.arguments.specs.declared.Action.the-variants.{Unknown}
+use Rattle.arguments.specs.declared.Action.the-variants.{WithTail, Unknown}
 use Rattle.arguments.specs.declared.View.the-variants.{Check, Show, Draw}
 use Rattle.arguments.specs.declared.Way.the-variants.{Encode, Decode}
 use Rattle.arguments.specs.declared.OnStream.the-variants.{Pack, Unpack, Reach}
@@ -38,6 +38,7 @@ recordAction w =
     if same w (bytes "check") then Viewing Check else
     if same w (bytes "show") then Viewing Show else
     if same w (bytes "draw") then Viewing Draw else
+    if same w (bytes "with-tail") then WithTail else
     if same w (bytes "encode") then Coding Encode else
     if same w (bytes "decode") then Coding Decode else streamAction w
 

@@ -38,6 +38,8 @@ pub enum Action {
     Help,
     Version,
     Viewing(View),
+    // A record with another tail datum.
+    WithTail,
     Coding(Way),
     Stream(OnStream),
     // No action has this name.
@@ -110,6 +112,7 @@ pub fn shape_of(a: Action) -> Shape
         Action::Help => with_places(2, 3, 0, 0, 0),
         Action::Version => with_places(2, 2, 0, 0, 0),
         Action::Viewing(_) => with_places(3, 3, 2, 0, 0),
+        Action::WithTail => with_places(5, 5, 2, 0, 4),
         Action::Coding(_) => with_places(5, 5, 2, 3, 4),
         Action::Stream(s) => stream_shape(s),
         Action::Unknown => with_places(0, 0, 0, 0, 0),

@@ -61,6 +61,9 @@ fn record_action(word: &[u8]) -> Action
     if is_same(word, b"draw") {
         return Action::Viewing(View::Draw);
     }
+    if is_same(word, b"with-tail") {
+        return Action::WithTail;
+    }
     if is_same(word, b"encode") {
         return Action::Coding(Way::Encode);
     }

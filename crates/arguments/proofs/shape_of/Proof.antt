@@ -33,15 +33,20 @@ returns-9 : tie.Need-returns-9
 returns-9 c = c .with-places9 .ensures ∙ sym (ap shapeOf (c .before .enum-told9 .given .1))
 
 returns-10 : tie.Need-returns-10
-returns-10 c = c .stream-shape .ensures ∙ sym (ap shapeOf (c .before .before .a .given .1))
+returns-10 c = c .with-places10 .ensures ∙ sym (ap shapeOf (c .before .enum-told10 .given .1))
 
 returns-11 : tie.Need-returns-11
-returns-11 c = c .with-places10 .ensures ∙ sym (ap shapeOf (c .before .enum-told10 .given .1))
+returns-11 c = c .stream-shape .ensures ∙ sym (ap shapeOf (c .before .before .a .given .1))
+
+returns-12 : tie.Need-returns-12
+returns-12 c = c .with-places11 .ensures ∙ sym (ap shapeOf (c .before .enum-told11 .given .1))
 
 pub shape-of-spec : {M : Type 1} → statement M
 shape-of-spec =
     tie.close
     (tie.spec
+    (λ c. search needs)
+    (λ c κs. search needs)
     (λ c. search needs)
     (λ c κs. search needs)
     (λ c. search needs)
@@ -74,4 +79,5 @@ shape-of-spec =
     returns-8
     returns-9
     returns-10
-    returns-11)
+    returns-11
+    returns-12)
