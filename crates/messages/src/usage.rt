@@ -26,6 +26,7 @@ fn tell_all(file: i32) -> bool {
   check FILE                             say whether a record is accepted
   show FILE                              print the code of a record
   draw FILE                              print the code of a record as a Graphviz digraph or an SVG matrix
+  with-tail RECORD DATUM OUT             write a record with another tail datum
   encode RECORD DATA OUT                 record data blocks as words
   decode RECORD WORDS OUT                read words as data blocks
   pack q WORDS OUT                       pack words of q bits into a bit stream
@@ -87,7 +88,7 @@ Says whether the record in FILE is accepted.
         View::Show => io::write_all(
             file,
             b"usage: sbc show FILE
-Prints the code of the record in FILE: its rate, its window, its constraint and its table.
+Prints the code of the record in FILE: its rate, its window, its constraint, its closing datum and its table.
 ",
         ),
         View::Draw => io::write_all(
@@ -107,7 +108,8 @@ fn tell_coding(file: i32, w: Way) -> bool {
             file,
             b"usage: sbc encode RECORD DATA OUT
 Encodes the blocks in DATA, one byte each and below 2^p, under the record in RECORD, and writes the words to OUT, one
-byte each. N blocks give N + a words. At most 1,000,000 blocks. Only one of RECORD and DATA can be -.
+byte each. N blocks give N + a words: the recording closes with a blocks of the record's tail datum. At most 1,000,000
+blocks. Only one of RECORD and DATA can be -.
 ",
         ),
         Way::Decode => io::write_all(
@@ -181,6 +183,13 @@ fn tell(file: i32, a: Action) -> bool {
         Action::CompileJoined => tell_compiling(file, a),
         Action::Trace => tell_compiling(file, a),
         Action::Viewing(v) => tell_record(file, v),
+        Action::WithTail => io::write_all(
+            file,
+            b"usage: sbc with-tail RECORD DATUM OUT
+Writes the record in RECORD with another tail datum to OUT. DATUM is a number below 2^p. Nothing else of the record
+changes. Recordings under OUT close with DATUM; a record that compile writes closes with 0.
+",
+        ),
         Action::Coding(w) => tell_coding(file, w),
         Action::Stream(s) => tell_stream(file, s),
         Action::Collection => io::write_all(
@@ -226,5 +235,5 @@ pub fn print_use(a: Action) -> Status
 pub fn print_version() -> Status
     ensures past { λ s. ⌜ statusOf s ≤ 1 ⌝ }
 {
-    print(b"sbc 1.2\n")
+    print(b"sbc 2.0\n")
 }
