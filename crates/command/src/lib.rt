@@ -126,6 +126,7 @@ fn act(a: Action) -> u32
         Action::Help => status_number(help()),
         Action::Version => status_number(print_version()),
         Action::Viewing(v) => status_number(records::view_file(v)),
+        Action::WithTail => status_number(records::close_file()),
         Action::Coding(w) => sbc_action_code(is_decoding(w)),
         Action::Stream(s) => act_on_stream(s),
         Action::Unknown => status_number(misused(Action::Unknown)),

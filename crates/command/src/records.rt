@@ -1,16 +1,25 @@
 // The actions on one record and on a set of records.
+ghost use mathlib.Core.Path.{_≡_};
+ghost use lib.ListN.{length};
+ghost use Rattle.answer.specs.Outcomes.{answerOf, outputOf};
+ghost use Rattle.closing.specs.Closing.{closedWith};
+ghost use Rattle.outputs.specs.Results.{Fails};
 use answer::Verdict;
 use arguments::Action;
 use arguments::Status;
 use arguments::View;
 use arguments::read_place;
 use arguments::under_place;
+use arguments::written_place;
+use closing::with_tail;
 use inputs::load;
 use inputs::load_whole;
+use inputs::number_at;
 use inputs::page;
 use messages::refuse;
 use messages::refuse_set;
 use messages::system::print;
+use outputs::finish;
 use setlines::put_set;
 use sets::SetAnswer;
 use sets::check_set;
@@ -39,6 +48,35 @@ pub fn view_file(v: View) -> Status {
         Verdict::Bad(x) => refuse(x),
         Verdict::Good => print_view(v, t),
     }
+}
+
+// The record in the bytes with another tail datum; the run fails where it is refused.
+fn close_bytes(bytes: &[u8], datum: usize, out: &mut [u8]) -> Status
+    ensures answer { λ s. ⌜
+        Fails (answerOf (closedWith (now (bytes .entry)) datum (length (now (out .entry))))) s ⌝ }
+    ensures written { λ s. ⌜
+        now (out .exit)
+        ≡ outputOf (closedWith (now (bytes .entry)) datum (length (now (out .entry)))) (now (out .entry)) ⌝ }
+{
+    let i = written_place(Action::WithTail);
+    let r = with_tail(bytes, datum, out);
+    finish(Action::WithTail, i, r, out)
+}
+
+// with-tail RECORD DATUM OUT
+pub fn close_file() -> Status {
+    let datum = number_at(Action::WithTail, 3);
+    if !datum.good {
+        return Status::Misused;
+    }
+    let mut bytes = [0u8; 3866];
+    let l = load(under_place(Action::WithTail), &mut bytes);
+    if !l.good {
+        return Status::Failed;
+    }
+    let n = l.size;
+    let mut out = [0u8; 3865];
+    close_bytes(&bytes[..n], datum.value, &mut out)
 }
 
 // Prints a good set, or says the refusal of a bad one.
