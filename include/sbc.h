@@ -94,7 +94,7 @@ static inline uint64_t sbc_value(uint64_t answer)
 
 /* Compiles a job to a record. Since version 1.1.0 the tables of all three calls that compile carry other data than
  * before, and since version 2.0.0 a record states its tail datum: the compiler writes 0, and sbc_with_tail another. A
- * record of an older version is no longer read; compile its job anew, or give it the field.
+ * record of an older version is no longer read: it lacks the 4 bits behind the constraint start.
  * job: p (1 to 4), q (1 to 8), cap (1 to 16), K (1 to 16), then for each of K states the next states for channel bits
  * 0 and 1, with 255 for none.
  * out: the packed record; SBC_RECORD_MAX bytes are always enough. It lies apart from job.

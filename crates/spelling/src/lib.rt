@@ -62,9 +62,9 @@ pub fn write_closing(
     let mut s = state;
     let mut i = at;
     while i < end {
-        let e = s * 16 + datum;
-        out[i] = word[e];
-        s = next[e] as usize;
+        let place = s * 16 + datum;
+        out[i] = word[place];
+        s = next[place] as usize;
         i += 1;
     }
 }

@@ -126,7 +126,7 @@ pub checker-exact : (xs : List ℕ) → Below 256 xs → (checkedOnly xs ≡ don
     ↔ ((c : Code) × T (formed c) × (pack c ≡ xs) × Rattle.checker.specs.Accepted.Accepted c)
 checker-exact = Rattle.checker.proofs.Accepted.check-exact
 
--- A record is refused in order: 8, 7, 8, 7; 9 exactly if a recording breaks the constraint, 10 if the window fails.
+-- A record's refusals: 8 below five bytes, 7, 8, 7; 9 exactly if a recording disobeys, 10 exactly if the window fails.
 pub record-order : (xs : List ℕ) → Below 256 xs → Rattle.checker.specs.Reasons.Reason xs (parse xs)
     × ((parse xs ≡ refused Disobeys) ↔ ((c : Code) × T (formed c) × (pack c ≡ xs) × Breaks c))
     × ((parse xs ≡ refused WindowFails)

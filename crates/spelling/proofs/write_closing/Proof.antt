@@ -51,8 +51,8 @@ loop-holds c =
           (sym (take-append-drop (a .at) (now (a .out))))),
     )
 
-mul-e : tie.Need-mul-e Inv-loop μ-loop
-mul-e c = omega (arith, c .before .loop .inv .3 .inside, c .before .before .pre .0 .few)
+mul-place : tie.Need-mul-place Inv-loop μ-loop
+mul-place c = omega (arith, c .before .loop .inv .3 .inside, c .before .before .pre .0 .few)
 
 -- the datum's edge stands within the arrays
 place-small : (c : tie.In-loop Inv-loop μ-loop) → c .before .loop .s * 16 + c .before .before .args .datum < 2048
@@ -60,8 +60,8 @@ place-small c =
     let f = c .before .before .pre .0 in
     omega (arith, c .before .loop .inv .3 .inside, f .few, f .narrow, c .before .before .pre .1)
 
-add-e : tie.Need-add-e Inv-loop μ-loop
-add-e c = omega (arith, place-small c)
+add-place : tie.Need-add-place Inv-loop μ-loop
+add-place c = omega (arith, place-small c)
 
 element-copy-out-out : tie.Need-element-copy-out-out Inv-loop μ-loop
 element-copy-out-out c = place-small c
@@ -110,5 +110,5 @@ pub write-closing-spec : {M : Type 1} → statement M
 write-closing-spec =
     tie.close
     (tie.spec
-    Inv-loop μ-loop loop-holds mul-e add-e element-copy-out-out slice-write-out element-copy-out-s cast-s
+    Inv-loop μ-loop loop-holds mul-place add-place element-copy-out-out slice-write-out element-copy-out-s cast-s
     (λ c. search needs) (λ c. search needs) loop-again same-length returns)
