@@ -7,10 +7,11 @@ use Rattle.answer.specs.declared.Refusal.{Refusal}
 use Rattle.answer.specs.declared.Refusal.the-variants.{Parameters, States, NoCode, TooHeavy, TooManyEdges}
 use Rattle.answer.specs.declared.Refusal.the-variants.{NoWindow, Field, Length, Disobeys, WindowFails}
 use Rattle.answer.specs.declared.Refusal.the-variants.{BadByte, TooFewWords, ShortOutput, TooManyPairs}
-use Rattle.answer.specs.declared.Refusal.the-variants.{Stream}
+use Rattle.answer.specs.declared.Refusal.the-variants.{Stream, Depth}
 
--- the number of a refusal in document 01's table, "14 for more than 16 pairs", or "15 for a word count over the limit,
--- a byte length other than count × q / 8 rounded up, or a fill that is not 0"
+-- the number of a refusal in document 01's table, "14 for more than 16 pairs", "15 for a word count over the limit, a
+-- byte length other than count × q / 8 rounded up, or a fill that is not 0", or "16 for D out of range or a length that
+-- D does not divide"
 abbrev pub numberOf : Refusal → ℕ
 numberOf Parameters = 1
 numberOf States = 2
@@ -27,10 +28,11 @@ numberOf TooFewWords = 12
 numberOf ShortOutput = 13
 numberOf TooManyPairs = 14
 numberOf Stream = 15
+numberOf Depth = 16
 
 -- the largest number of a refusal
 abbrev pub most : ℕ
-most = 15
+most = 16
 
 -- "for 11, the place of the first bad byte, counted from 0"; the others name no place, and 0 stands for it
 abbrev pub placeOf : Refusal → ℕ
@@ -49,3 +51,4 @@ placeOf TooFewWords = 0
 placeOf ShortOutput = 0
 placeOf TooManyPairs = 0
 placeOf Stream = 0
+placeOf Depth = 0

@@ -38,6 +38,8 @@ pub enum Refusal {
     // 15: a stream of more than 1,000,000 words, one with another number of bytes than its words take, or a fill that
     // is not 0.
     Stream,
+    // 16: recordings to be woven or unwoven whose depth is not 2 to 16, or does not divide their words.
+    Depth,
 }
 
 // What a check says of a value that stands beside it: the value is good, or why it is declined.
@@ -72,6 +74,7 @@ pub fn refusal_number(r: Refusal) -> u64
         Refusal::ShortOutput => 13,
         Refusal::TooManyPairs => 14,
         Refusal::Stream => 15,
+        Refusal::Depth => 16,
     }
 }
 

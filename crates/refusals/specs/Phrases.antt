@@ -30,6 +30,7 @@ phrases =
     ∷ bytes "the output is too short"
     ∷ bytes "two constraints give more than 16 pairs of states"
     ∷ bytes "over 1,000,000 words, wrong number of bytes, or fill not 0"
+    ∷ bytes "depth D is not 2 to 16, or does not divide the length"
     ∷ []
 
 -- the words of a number

@@ -1,0 +1,86 @@
+// Recordings woven word by word, and unwoven.
+ghost use mathlib.Core.Path.{_≡_};
+ghost use mathlib.Core.List.{_++_, map};
+ghost use Prim.Native.Nat.{_+_, _*_, _≤_, _<_};
+ghost use lib.ListN.{length, take, drop};
+ghost use Rattle.laws.specs.Lists.{from};
+ghost use Rattle.answer.specs.Outcomes.{answerOf, outputOf};
+ghost use Rattle.weaving.specs.Weaving.{transposedAt, transposed, goodDepth, weaveInto, unweaveInto};
+use answer::Answer;
+use answer::Refusal;
+
+// Elements j of a lists of b elements each, written behind the j times a that stand before them.
+fn put_column(words: &[u8], a: usize, b: usize, j: usize, out: &mut [u8])
+    requires { ⌜ (j < b) × (length (now words) ≡ a * b) × (a * b ≤ length (now out)) ⌝ }
+    ensures written { λ r. ⌜
+        now (out .exit)
+        ≡ (take (j * a) (now (out .entry)) ++ map (transposedAt a b (now (words .entry))) (from (j * a) a))
+        ++ drop (j * a + a) (now (out .entry)) ⌝ }
+{
+    let at = j * a;
+    let mut r = 0;
+    while r < a {
+        out[at + r] = words[r * b + j];
+        r += 1;
+    }
+}
+
+// The words as a lists of b elements each, one after the other, read across.
+fn transpose(words: &[u8], a: usize, b: usize, out: &mut [u8])
+    requires { ⌜ (length (now words) ≡ a * b) × (a * b ≤ length (now out)) ⌝ }
+    ensures written { λ r. ⌜
+        now (out .exit) ≡ transposed a b (now (words .entry)) ++ drop (a * b) (now (out .entry)) ⌝ }
+{
+    let mut j = 0;
+    while j < b {
+        put_column(words, a, b, j, out);
+        j += 1;
+    }
+}
+
+// Whether the depth is 2 to 16 and divides the length: 16 otherwise.
+fn is_good_depth(d: usize, length: usize) -> bool
+    ensures answer { λ r. ⌜ r ≡ goodDepth d length ⌝ }
+{
+    if d < 2 {
+        return false;
+    }
+    if 16 < d {
+        return false;
+    }
+    length % d == 0
+}
+
+// The d recordings that stand one after the other in the words, woven, in the output: word j of recording r goes to
+// place j times d plus r. Declines with 16, then 13.
+pub fn weave(d: usize, words: &[u8], out: &mut [u8]) -> Answer
+    ensures answer { λ r. ⌜ r ≡ answerOf (weaveInto d (length (now (out .entry))) (now (words .entry))) ⌝ }
+    ensures written { λ r. ⌜
+        now (out .exit) ≡ outputOf (weaveInto d (length (now (out .entry))) (now (words .entry))) (now (out .entry)) ⌝ }
+{
+    if !is_good_depth(d, words.len()) {
+        return Answer::Refused(Refusal::Depth);
+    }
+    if out.len() < words.len() {
+        return Answer::Refused(Refusal::ShortOutput);
+    }
+    transpose(words, d, words.len() / d, out);
+    Answer::Done(words.len())
+}
+
+// The d recordings that are woven in the words, one after the other, in the output. Declines with 16, then 13.
+pub fn unweave(d: usize, words: &[u8], out: &mut [u8]) -> Answer
+    ensures answer { λ r. ⌜ r ≡ answerOf (unweaveInto d (length (now (out .entry))) (now (words .entry))) ⌝ }
+    ensures written { λ r. ⌜
+        now (out .exit)
+        ≡ outputOf (unweaveInto d (length (now (out .entry))) (now (words .entry))) (now (out .entry)) ⌝ }
+{
+    if !is_good_depth(d, words.len()) {
+        return Answer::Refused(Refusal::Depth);
+    }
+    if out.len() < words.len() {
+        return Answer::Refused(Refusal::ShortOutput);
+    }
+    transpose(words, words.len() / d, d, out);
+    Answer::Done(words.len())
+}
