@@ -12,6 +12,7 @@ ghost use Rattle.packing.specs.Streams.{packInto, unpackInto};
 ghost use Rattle.sets.specs.Sets.{readSet};
 ghost use Rattle.sets.specs.Results.{setAnswer};
 ghost use Rattle.streams.specs.Recorded.{encodeStream, decodeStream};
+ghost use Rattle.weaving.specs.Weaving.{weaveInto, unweaveInto};
 ghost use Rattle.word.specs.Words.{wordOf};
 ghost use Rattle.api.specs.Words.{setWordOf};
 ghost use Rattle.api.specs.Version.{version};
@@ -110,6 +111,30 @@ pub extern "C" fn sbc_unpack(q: u64, count: u64, bytes: &[u8], out: &mut [u8]) -
         (unpackInto q count (length (now (out .entry))) (now (bytes .entry))) (now (out .entry)) ⌝ }
 {
     word(packing::unpack(q as usize, count as usize, bytes, out))
+}
+
+// The recordings that stand one after the other in the words, as many as the depth says, woven: 16 for a depth that is
+// not 2 to 16 or does not divide the number of words, 13; otherwise how many words were written.
+#[no_mangle]
+pub extern "C" fn sbc_weave(depth: u64, words: &[u8], out: &mut [u8]) -> u64
+    ensures answer { λ r. ⌜ r ≡ wordOf (answerOf
+        (weaveInto depth (length (now (out .entry))) (now (words .entry)))) ⌝ }
+    ensures written { λ r. ⌜ now (out .exit)
+        ≡ outputOf (weaveInto depth (length (now (out .entry))) (now (words .entry))) (now (out .entry)) ⌝ }
+{
+    word(weaving::weave(depth as usize, words, out))
+}
+
+// The recordings that are woven in the words, one after the other: 16 and 13 as for weaving; otherwise how many words
+// were written.
+#[no_mangle]
+pub extern "C" fn sbc_unweave(depth: u64, words: &[u8], out: &mut [u8]) -> u64
+    ensures answer { λ r. ⌜ r ≡ wordOf (answerOf
+        (unweaveInto depth (length (now (out .entry))) (now (words .entry)))) ⌝ }
+    ensures written { λ r. ⌜ now (out .exit)
+        ≡ outputOf (unweaveInto depth (length (now (out .entry))) (now (words .entry))) (now (out .entry)) ⌝ }
+{
+    word(weaving::unweave(depth as usize, words, out))
 }
 
 // Blocks recorded under a record as a bit stream: the record's refusals, 15 for too many words, 13, 11 with the place
@@ -218,5 +243,5 @@ pub extern "C" fn sbc_phrase(number: u64, out: &mut [u8]) -> u64
 pub extern "C" fn sbc_version() -> u64
     ensures answer { λ r. ⌜ r ≡ version ⌝ }
 {
-    20000
+    20100
 }

@@ -1,1 +1,2 @@
 pub mod BitReach
+pub mod Scratch

@@ -37,21 +37,21 @@ pub use native.Mathlib.Numerals.{add-one}
 pub use native.Mathlib.Omega.{arith}
 pub use Rattle.laws.proofs.Anys.{any-append, any-concat, any-filter, any-image, any-map, any-none, any-union}
 pub use Rattle.laws.proofs.Anys.{each-range, each-union}
-pub use Rattle.laws.proofs.Arrays.{Filled, fill-more, fill-none, map-more, put-at, put-more, take-is, take-same}
+pub use Rattle.laws.proofs.Arrays.{Filled, fill-more, fill-none, map-more, piece-more, put-at, put-more, take-is}
+pub use Rattle.laws.proofs.Arrays.{take-same, within-more}
 pub use Rattle.laws.proofs.Elems.{all-each, all-of, at-index, each-at, each-below, each-elem, elem-below}
 pub use Rattle.laws.proofs.Elems.{elem-each, elem-filter, elem-range, index-at, index-lt, not-all, once-more}
 pub use Rattle.laws.proofs.Elems.{range-once, times-none, times-two, tot-filter-le, →elem-filter}
 pub use Rattle.laws.proofs.Extend.{extend-at, extend-more, extend-start, length-extend}
 pub use Rattle.laws.proofs.Filters.{concat-first, concat-none, filter-first, filter-none, filter-pos}
-pub use Rattle.laws.proofs.Filters.{filter-taken}
-pub use Rattle.laws.proofs.Filters.{filter-some, first-head, pick-range}
+pub use Rattle.laws.proofs.Filters.{filter-interval, filter-some, filter-taken, first-head, pick-range}
 pub use Rattle.laws.proofs.Firsts.{FirstList, first-at, first-image, first-least, first-no, first-none}
 pub use Rattle.laws.proofs.Firsts.{first-nowhere, first-part, first-place, first-union, first-yes, none-lower}
 pub use Rattle.laws.proofs.Grids.{grid→, grow-sub, missing-le, rests, →grid}
 unfoldable pub use Rattle.laws.proofs.Grids.{missing}
 pub use Rattle.laws.proofs.Indexes.{index-elem, index-end, index-free, index-here, index-later}
-pub use Rattle.laws.proofs.Lists.{below-all, below-append, below-at, below-drop, below-take, below-replicate}
-pub use Rattle.laws.proofs.Lists.{drop-min, drop-take, getD-any, getD-padded, head-none, head-some}
+pub use Rattle.laws.proofs.Lists.{below-all, below-any, below-append, below-at, below-drop, below-replicate}
+pub use Rattle.laws.proofs.Lists.{below-take, drop-min, drop-take, getD-any, getD-padded, head-none, head-some}
 pub use Rattle.laws.proofs.Lists.{length-repeat, sum-append, sum-repeat, sum-replicate, take-replicate}
 pub use Rattle.laws.proofs.Lists.{take-rest}
 pub use Rattle.laws.proofs.Maps.{all-filter, filter-append, filter-both, filter-concat, filter-filter}

@@ -1,18 +1,20 @@
 -- Arrays: their front as a list, and loops that fill them from the front.
 -- In order: take-is, take-same; Filled, fill-none, fill-more, an array filled from the front; put-at, put-more,
--- map-more, elements and bytes written behind one another.
+-- map-more, elements and bytes written behind one another; within-more, the same from a place on, and piece-more, which
+-- puts what it gives together.
 -- Assumes nothing.
 use mathlib.Core.Path.{_≡_, sym, ap, ap₂, _∙_}
-use mathlib.Core.List.{List, [], _∷_, _++_, map}
-use Prim.Native.Nat.{ℕ, suc, _+_, _≤_, _<_}
+use mathlib.Core.List.{List, [], _∷_, _++_, map, append-assoc}
+use Prim.Native.Nat.{ℕ, suc, _+_, _-_, _≤_, _<_}
 use native.Mathlib.Numerals.{add-one}
 use native.Mathlib.Omega.{arith}
 use borrow.Author.Count.{below-more}
-use lib.ListN.{length, getD, take, drop, set, length-set, length-map, replicate, length-replicate}
+use lib.ListN.{length, getD, take, drop, set, length-set, length-map, length-append, replicate, length-replicate}
 use lib.Seq.{drop-cons, set-at, append-snoc, length-take-le, getD-take, ext-getD, getD-set-same, getD-set-other}
-use Rattle.laws.specs.Lists.{from}
+use lib.Seq.{take-at, drop-at, drop-drop}
+use Rattle.laws.specs.Lists.{from, range}
 use Rattle.laws.proofs.Tests.{getD-map-lt}
-use Rattle.laws.proofs.Ranges.{length-map-from, map-from-append}
+use Rattle.laws.proofs.Ranges.{length-map-from, length-map-range, map-from-append}
 
 -- ---- the front of an array
 pub take-is : {A : Type 0} (f : A → ℕ) (d : A) (R : List ℕ) (L : List A) (n : ℕ) → length L ≡ n → n ≤ length R
@@ -63,3 +65,36 @@ map-more f first out₀ out i w b e h =
     ap₂ (λ o v. set o i v) b e
     ∙ put-more (map f (from first i)) out₀ i (f (first + i)) (length-map-from f first i) h
     ∙ ap (λ l. l ++ drop (i + 1) out₀) (sym (map-from-append f first i 1))
+
+-- one byte more of those from the place `at` on, where the bytes before it stay
+pub within-more : (f : ℕ → ℕ) (at : ℕ) (out₀ out : List ℕ) (i w : ℕ)
+    → out ≡ (take at out₀ ++ map f (from at i)) ++ drop (at + i) out₀ → w ≡ f (at + i) → at + i < length out₀
+    → set out (at + i) w ≡ (take at out₀ ++ map f (from at (i + 1))) ++ drop (at + (i + 1)) out₀
+within-more f at out₀ out i w b e h =
+    let xs = take at out₀ ++ map f (from at i) in
+    let l : length xs ≡ at + i =
+    length-append (take at out₀) (map f (from at i))
+    ∙ ap₂ _+_ (length-take-le at out₀ (omega arith)) (length-map-from f at i) in
+    let n : at + i + 1 ≡ at + (i + 1) = omega arith in
+    ap₂ (λ o v. set o (at + i) v) b e ∙ put-more xs out₀ (at + i) (f (at + i)) l h
+    ∙ ap₂ (λ x k. x ++ drop k out₀)
+    (append-assoc (take at out₀) (map f (from at i)) (f (at + i) ∷ [])
+    ∙ ap (λ x. take at out₀ ++ x) (sym (map-from-append f at i 1))) n
+
+-- a piece more of them, behind those that were written
+pub piece-more : (f : ℕ → ℕ) (i end : ℕ) (out₀ out out′ : List ℕ) → i ≤ end → out ≡ map f (range i) ++ drop i out₀
+    → out′ ≡ (take i out ++ map f (from i (end - i))) ++ drop end out → out′ ≡ map f (range end) ++ drop end out₀
+piece-more f i end out₀ out out′ h e g =
+    let B = map f (range i) in
+    let l : length B ≡ i = length-map-range f i in
+    let m : i + (end - i) ≡ end = omega arith in
+    let z : 0 + i ≡ i = omega arith in
+    let t : take i out ≡ B = ap (take i) e ∙ take-at B (drop i out₀) i l in
+    let d : drop end out ≡ drop end out₀ =
+    ap (λ n. drop n out) (sym m) ∙ sym (drop-drop (end - i) i out)
+    ∙ ap (drop (end - i)) (ap (drop i) e ∙ drop-at B (drop i out₀) i l)
+    ∙ drop-drop (end - i) i out₀ ∙ ap (λ n. drop n out₀) m in
+    g ∙ ap₂ (λ x y. (x ++ map f (from i (end - i))) ++ y) t d
+    ∙ ap (λ x. x ++ drop end out₀)
+    (sym (ap (λ n. map f (range n)) (sym m) ∙ map-from-append f 0 i (end - i)
+    ∙ ap (λ n. B ++ map f (from n (end - i))) z))

@@ -1,13 +1,14 @@
 -- Lists that a test leaves: when they are empty, their first element, and lists in a row of which few have elements.
--- In order: filter-pos, filter-some; first-head; filter-taken; filter-none, filter-first, concat-none, concat-first;
--- pick-range.
+-- In order: filter-pos, filter-some; first-head; filter-taken; filter-none, filter-first; filter-interval; concat-none,
+-- concat-first; pick-range.
 -- Assumes nothing.
 use mathlib.Core.Path.{_≡_, refl, sym, ap, ap₂, _∙_}
+use mathlib.Core.Logic.{_⊎_, inl, inr}
 use mathlib.Core.Bool.{Bool, true, false, _||_}
 use mathlib.Core.List.{List, [], _∷_, _++_, map, append-nil}
-use Prim.Native.Nat.{ℕ, zero, suc, _+_, _≤_, _<_}
+use Prim.Native.Nat.{ℕ, zero, suc, _+_, _-_, _≤_, _<_}
 use native.Mathlib.Omega.{arith}
-use native.Mathlib.Decide.{ℕ-discrete}
+use native.Mathlib.Decide.{decLt, ℕ-discrete}
 use lib.Dec.{T}
 use lib.ListN.{length, getD}
 use Rattle.laws.specs.Lists.{if_then_else_, from, range, filter, any, first, concat}
@@ -92,6 +93,38 @@ module _ (p : ℕ → Bool) where
       go (no z) f =
           let (r, e) = f (omega arith) in
           (r, rw (h i (omega arith) (omega arith)) e)
+
+-- ---- the numbers that pass lie in the interval of k numbers from u on: they are at most k
+module _ (p : ℕ → Bool) (u k : ℕ) where
+  one-more : (b : Bool) (x m : ℕ) (r : List ℕ) → length r ≤ m → length (if b then x ∷ r else r) ≤ suc m
+  one-more true x m r h = omega arith
+  one-more false x m r h = omega arith
+
+  -- of the numbers from i on, where i is not before the interval
+  filter-within : (i n : ℕ) → u ≤ i → ((d : ℕ) → d < i + n → u + k ≤ d → p d ≡ false)
+      → length (filter p (from i n)) ≤ u + k - i
+  filter-within i zero g h = omega arith
+  filter-within i (suc n) g h =
+      go (decLt i (u + k)) (filter-within (suc i) n (omega arith) (λ d a b. h d (omega arith) b))
+    where
+      go : Dec (i < u + k) → length (filter p (from (suc i) n)) ≤ u + k - suc i
+          → length (filter p (from i (suc n))) ≤ u + k - i
+      go (yes l) r =
+          let e : suc (u + k - suc i) ≤ u + k - i = omega arith in
+          let f = one-more (p i) i (u + k - suc i) (filter p (from (suc i) n)) r in
+          omega (arith, e, f)
+      go (no l) r = rw (h i (omega arith) (omega arith)) (omega (arith, r))
+
+  pub filter-interval : (i n : ℕ) → ((d : ℕ) → d < i + n → (d < u) ⊎ (u + k ≤ d) → p d ≡ false)
+      → length (filter p (from i n)) ≤ k
+  filter-interval i zero h = omega arith
+  filter-interval i (suc n) h =
+      go (decLt i u) (filter-interval (suc i) n (λ d a b. h d (omega arith) b))
+    where
+      go : Dec (i < u) → length (filter p (from (suc i) n)) ≤ k → length (filter p (from i (suc n))) ≤ k
+      go (yes l) r = rw (h i (omega arith) (inl l)) r
+      go (no l) r =
+          omega (arith, filter-within i (suc n) (omega arith) (λ d a b. h d a (inr b)))
 
 module _ (f : ℕ → List ℕ) where
   pub concat-none : (i k : ℕ) → ((s : ℕ) → i ≤ s → s < i + k → f s ≡ []) → concat (map f (from i k)) ≡ []

@@ -1,12 +1,13 @@
 -- The theorems of what was asked for after the first delivery, each written out in full as on the main page.
 -- In order: (a) joint, joined-pairs, numbered, too-many-pairs, joined-job, both-obeyed; (b) streams, good-streams,
 -- stream-words, stream-returns, bits-reach; (c) labels, labels-rule, labels-hold; (d) decoded-blocks, marks,
--- no-mark-ahead, clear-unmarked; (e) closes, tail-free, tail-place, closes-record.
+-- no-mark-ahead, clear-unmarked; (e) closes, tail-free, tail-place, closes-record; (f) weave-places, weaving,
+-- one-word-each, fewer-places, scratch.
 -- Assumes nothing.
 use mathlib.Core.Path.{_≡_}
 use mathlib.Core.Logic.{_⊎_, _↔_}
 use mathlib.Core.List.{List, _++_}
-use Prim.Native.Nat.{ℕ, _+_, _*_, _/_, _%_, _^_, _≤_, _<_}
+use Prim.Native.Nat.{ℕ, _+_, _*_, _-_, _/_, _%_, _^_, _≤_, _<_}
 use lib.Dec.{T}
 use lib.ListN.{length, getD, take, replicate}
 use Rattle.laws.specs.Lists.{sum, elem}
@@ -26,12 +27,13 @@ use Rattle.checker.specs.Parse.{parse}
 use Rattle.stepping.specs.Reading.{markAhead, block}
 use Rattle.codec.specs.Answers.{encodeUnder, decodeUnder}
 use Rattle.codec.specs.Follows.{Follows}
-use Rattle.codec.specs.Damage.{StandsClear, SameOutside}
+use Rattle.codec.specs.Damage.{StandsClear, SameOutside, differences}
 use Rattle.finish.specs.TableOf.{tableOf}
 use Rattle.labels.specs.Labels.{relabelledRow, relabelled, Rearranged}
 use Rattle.job.specs.Jobs.{Job, Allowed, readJoined, Joins}
 use Rattle.compiler.specs.Compile.{ways, componentOf, finishedOf, compile, compileJoined}
 use Rattle.packing.specs.Streams.{limit, packed, unpacked, goodStream}
+use Rattle.weaving.specs.Weaving.{woven, unwoven, part, goodDepth}
 use Rattle.streams.specs.Recorded.{encodeStream, decodeStream}
 use Rattle.damage.specs.declared.BitNo.{BitNo}
 use Rattle.damage.specs.declared.BlockNo.{BlockNo}
@@ -184,3 +186,35 @@ pub closes-record : (rec : List ℕ) → Below 256 rec → (c : Code) → parse 
     → length rec ≤ room → (out : List ℕ) × (closedWith rec k room ≡ done out) × (length out ≡ length rec)
     × (parse out ≡ done (withTail c k))
 closes-record = Rattle.closing.proofs.Closed.closes-record
+
+-- ---- (f) Spreading a scratch: D recordings of equally many words, one after the other, are woven. `part k r ws` is
+-- recording r of those that stand one after the other, k words each.
+
+-- Word j of recording r goes to place j × D + r.
+pub weave-places : (D : ℕ) (ws : List ℕ) → T (goodDepth D (length ws)) → (r j : ℕ) → r < D → j < length ws / D
+    → getD (woven D ws) (j * D + r) 0 ≡ getD ws (r * (length ws / D) + j) 0
+weave-places = Rattle.weaving.proofs.Weaving.weave-places
+
+-- Weaving and unweaving undo each other.
+pub weaving : (D : ℕ) (ws : List ℕ) → T (goodDepth D (length ws))
+    → (unwoven D (woven D ws) ≡ ws) × (woven D (unwoven D ws) ≡ ws)
+weaving = Rattle.weaving.proofs.Weaving.weaving
+
+-- Overwriting at most D neighbouring places touches at most one word of each recording.
+pub one-word-each : (D : ℕ) (ws W : List ℕ) → T (goodDepth D (length ws)) → (x : ℕ)
+    → SameOutside x (x + D - 1) W (woven D ws) → (r : ℕ) → r < D → let k = length ws / D in
+    (y : ℕ) × SameOutside y y (part k r (unwoven D W)) (part k r ws)
+one-word-each = Rattle.damage.proofs.Scratch.one-word-each
+
+-- Fewer places overwritten are a special case: what is said of damage from x to z holds of damage from x to y below z.
+pub fewer-places : (x y z : ℕ) (L R : List ℕ) → y ≤ z → SameOutside x y L R → SameOutside x z L R
+fewer-places = Rattle.codec.proofs.Reach.outside-wider
+
+-- So in each recording at most m + a + 1 blocks come out otherwise than written.
+pub scratch : (rec : List ℕ) → Below 256 rec → (c : Code) → parse rec ≡ done c → (D : ℕ) (ws W : List ℕ)
+    → T (goodDepth D (length ws)) → Below (2 ^ c .q) W → (x : ℕ) → SameOutside x (x + D - 1) W (woven D ws)
+    → (r : ℕ) → r < D → (ds : List ℕ) → Blocks c ds → part (length ws / D) r ws ≡ recording c ds
+    → (room : ℕ) → length ds ≤ room
+    → (out : List ℕ) × (decodeUnder rec room (part (length ws / D) r (unwoven D W)) ≡ done out)
+    × (differences out ds ≤ c .window .memory + c .window .lookahead + 1)
+scratch = Rattle.damage.proofs.Scratch.scratch

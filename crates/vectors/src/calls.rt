@@ -21,6 +21,8 @@ use sets::set_number;
 use sets::set_value;
 use streaming::decode_stream;
 use streaming::encode_stream;
+use weaving::unweave;
+use weaving::weave;
 
 // The number and the value of an answer.
 fn told_by(a: Answer) -> Told {
@@ -111,8 +113,17 @@ fn call_job(kind: usize, job: &[u8], out: &mut [u8]) -> Answer {
     list_or_tell(job, out)
 }
 
+// The call of a kind on several recordings: 14 weaves, and any other unweaves.
+fn call_woven(kind: usize, depth: &[u8], words: &[u8], out: &mut [u8]) -> Answer {
+    let d = number_at(depth, 0);
+    if kind == 14 {
+        return weave(d, words, out);
+    }
+    unweave(d, words, out)
+}
+
 // The call of a kind: 3 checks a record, 4 encodes, 5 decodes, 6 walks a set, 9 to 12 are on streams, 13 writes a
-// record with another tail datum, and any other takes a job.
+// record with another tail datum, 14 and 15 are on several recordings, and any other takes a job.
 pub fn call(kind: usize, first: &[u8], second: &[u8], out: &mut [u8]) -> Told {
     if kind == 3 {
         return told_by(check(first));
@@ -128,6 +139,9 @@ pub fn call(kind: usize, first: &[u8], second: &[u8], out: &mut [u8]) -> Told {
     }
     if kind == 13 {
         return told_by(with_tail(first, number_at(second, 0), out));
+    }
+    if 13 < kind {
+        return told_by(call_woven(kind, first, second, out));
     }
     if 8 < kind {
         return told_by(call_stream(kind, first, second, out));

@@ -1,7 +1,7 @@
 -- Weaving of recordings and the way back: "A scratch crosses many words in a row", and woven recordings share its words
 -- among them (in the field: block interleaving of depth D).
 -- In order: transposedAt, transposed, an array read by columns; woven, unwoven, the two ways; part, one recording of
--- several; goodDepth, the check; weaveInto, unweaveInto, what weaving and unweaving come to.
+-- several; goodDepth, checked, the checks; weaveInto, unweaveInto, what weaving and unweaving come to.
 -- `room` is the length of the output that was lent.
 -- Assumes nothing.
 use mathlib.Core.Bool.{Bool, _&&_}
@@ -10,8 +10,8 @@ use Prim.Native.Nat.{ℕ, _+_, _*_, _/_, _%_}
 use lib.Dec.{leb, eqb}
 use lib.ListN.{length, getD, take, drop}
 use Rattle.laws.specs.Lists.{range}
-use Rattle.answer.specs.declared.Refusal.the-variants.{Depth}
-use Rattle.answer.specs.Outcomes.{Outcome, unless, fitting}
+use Rattle.answer.specs.declared.Refusal.the-variants.{Depth, ShortOutput}
+use Rattle.answer.specs.Outcomes.{Outcome, done, unless, onward}
 
 -- place i of a lists of b elements each, one after the other, read across: element i / a of list i % a
 abbrev pub transposedAt : ℕ → ℕ → List ℕ → ℕ → ℕ
@@ -38,10 +38,14 @@ part k r ws = take k (drop (r * k) ws)
 unfoldable pub goodDepth : ℕ → ℕ → Bool
 goodDepth D k = (leb 2 D && leb D 16) && eqb (k % D) 0
 
--- weaving: "16 for D out of range or a length that D does not divide, before 13"
+-- n words, if they pass: "16 for D out of range or a length that D does not divide, before 13"
+abbrev pub checked : ℕ → ℕ → ℕ → Outcome ℕ
+checked D n room = unless Depth (goodDepth D n) (unless ShortOutput (leb n room) (done n))
+
+-- weaving, with these checks
 unfoldable pub weaveInto : ℕ → ℕ → List ℕ → Outcome (List ℕ)
-weaveInto D room ws = unless Depth (goodDepth D (length ws)) (fitting room (woven D ws))
+weaveInto D room ws = onward (checked D (length ws) room) (λ n. done (woven D ws))
 
 -- unweaving, with the same checks
 unfoldable pub unweaveInto : ℕ → ℕ → List ℕ → Outcome (List ℕ)
-unweaveInto D room ws = unless Depth (goodDepth D (length ws)) (fitting room (unwoven D ws))
+unweaveInto D room ws = onward (checked D (length ws) room) (λ n. done (unwoven D ws))

@@ -4,10 +4,12 @@ ghost use mathlib.Core.List.{_++_, map};
 ghost use Prim.Native.Nat.{_+_, _*_, _≤_, _<_};
 ghost use lib.ListN.{length, take, drop};
 ghost use Rattle.laws.specs.Lists.{from};
-ghost use Rattle.answer.specs.Outcomes.{answerOf, outputOf};
-ghost use Rattle.weaving.specs.Weaving.{transposedAt, transposed, goodDepth, weaveInto, unweaveInto};
+ghost use Rattle.answer.specs.Outcomes.{verdictOn, answerOf, outputOf};
+ghost use Rattle.weaving.specs.Weaving.{transposedAt, transposed, goodDepth, checked};
+ghost use Rattle.weaving.specs.Weaving.{weaveInto, unweaveInto};
 use answer::Answer;
 use answer::Refusal;
+use answer::Verdict;
 
 // Elements j of a lists of b elements each, written behind the j times a that stand before them.
 fn put_column(words: &[u8], a: usize, b: usize, j: usize, out: &mut [u8])
@@ -51,6 +53,21 @@ fn is_good_depth(d: usize, length: usize) -> bool
     length % d == 0
 }
 
+// The checks of both ways: 16, then 13.
+fn check(d: usize, length: usize, room: usize) -> Verdict
+    ensures answer { λ v. ⌜ verdictOn v length ≡ checked d length room ⌝ }
+{
+    let good = is_good_depth(d, length);
+    let fits = length <= room;
+    if !good {
+        return Verdict::Bad(Refusal::Depth);
+    }
+    if !fits {
+        return Verdict::Bad(Refusal::ShortOutput); // 13 comes behind 16
+    }
+    Verdict::Good
+}
+
 // The d recordings that stand one after the other in the words, woven, in the output: word j of recording r goes to
 // place j times d plus r. Declines with 16, then 13.
 pub fn weave(d: usize, words: &[u8], out: &mut [u8]) -> Answer
@@ -58,14 +75,14 @@ pub fn weave(d: usize, words: &[u8], out: &mut [u8]) -> Answer
     ensures written { λ r. ⌜
         now (out .exit) ≡ outputOf (weaveInto d (length (now (out .entry))) (now (words .entry))) (now (out .entry)) ⌝ }
 {
-    if !is_good_depth(d, words.len()) {
-        return Answer::Refused(Refusal::Depth);
+    let v = check(d, words.len(), out.len());
+    match v {
+        Verdict::Bad(r) => Answer::Refused(r),
+        Verdict::Good => {
+            transpose(words, d, words.len() / d, out);
+            Answer::Done(words.len())
+        }
     }
-    if out.len() < words.len() {
-        return Answer::Refused(Refusal::ShortOutput);
-    }
-    transpose(words, d, words.len() / d, out);
-    Answer::Done(words.len())
 }
 
 // The d recordings that are woven in the words, one after the other, in the output. Declines with 16, then 13.
@@ -75,12 +92,12 @@ pub fn unweave(d: usize, words: &[u8], out: &mut [u8]) -> Answer
         now (out .exit)
         ≡ outputOf (unweaveInto d (length (now (out .entry))) (now (words .entry))) (now (out .entry)) ⌝ }
 {
-    if !is_good_depth(d, words.len()) {
-        return Answer::Refused(Refusal::Depth);
+    let v = check(d, words.len(), out.len());
+    match v {
+        Verdict::Bad(r) => Answer::Refused(r),
+        Verdict::Good => {
+            transpose(words, words.len() / d, d, out);
+            Answer::Done(words.len())
+        }
     }
-    if out.len() < words.len() {
-        return Answer::Refused(Refusal::ShortOutput);
-    }
-    transpose(words, words.len() / d, d, out);
-    Answer::Done(words.len())
 }

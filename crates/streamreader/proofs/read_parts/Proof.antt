@@ -1,12 +1,12 @@
 -- `streamreader::read_parts` meets its contract: each turn reads one part.
 -- Assumes nothing.
 use Rattle.laws.proofs.All.{_≡_, refl, sym, ap, _∙_, _++_, map, ℕ, _-_, _%_, min, zero-min, min-eq-left, min-eq-right}
-use Rattle.laws.proofs.All.{arith, now, length, drop, range, needs}
+use Rattle.laws.proofs.All.{arith, now, length, drop, range, piece-more, needs}
 use Rattle.table.specs.Edges.{arrays, rowsOf}
 use Rattle.stepping.specs.Reading.{block}
 use Rattle.stepping.specs.BlockParts.{under}
 use Rattle.packing.specs.Streams.{unpacked}
-use Rattle.streamreader.proofs.Parts.{part-end, parts-more}
+use Rattle.streamreader.proofs.Parts.{part-end}
 use Rattle.streamreader.proofs.read_parts.Statement.{statement}
 use Rattle.streamreader.proofs.read_parts.Tie as tie
 
@@ -66,7 +66,7 @@ loop-again c =
     let whole : min (l .i) n ≡ l .i = min-eq-left (omega arith) in (
       omega (arith, l .inv .0),
       omega (arith, c .before .out .given, l .inv .1),
-      parts-more (blockAt s) (l .i) (m .smaller .result) o (l .out) _ b
+      piece-more (blockAt s) (l .i) (m .smaller .result) o (l .out) _ b
           (l .inv .2 ∙ ap (λ k. map (blockAt s) (range k) ++ drop k o) whole) (r .read-part .ensures)
           ∙ ap (λ k. map (blockAt s) (range k) ++ drop k o) (m .smaller .ensures),
     )

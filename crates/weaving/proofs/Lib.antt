@@ -1,0 +1,3 @@
+pub mod Transposed
+pub mod Weaving
+pub mod Checks
