@@ -55,6 +55,20 @@ int main(void)
     expect("decode_stream, a word too many", sbc_decode_stream(record, r, SBC_WORDS_MAX + 1, NULL, 0, NULL, 0),
            SBC_STREAM, 0);
     expect("decode_stream to no block", sbc_decode_stream(record, r, 1, out, 1, NULL, 0), SBC_DONE, 0);
+    expect("weave, no word", sbc_weave(2, NULL, 0, NULL, 0), SBC_DONE, 0);
+    expect("weave, no word, depth 17", sbc_weave(17, NULL, 0, NULL, 0), SBC_DEPTH, 0);
+    expect("weave, a large depth", sbc_weave(~(uint64_t)0, NULL, 0, NULL, 0), SBC_DEPTH, 0);
+    expect("weave, no room", sbc_weave(5, job, sizeof job, NULL, 0), SBC_SHORT_OUTPUT, 0);
+    expect("weave, room for three of four", sbc_weave(2, job, 4, out, 3), SBC_SHORT_OUTPUT, 0);
+    expect("weave, a bad length and no room", sbc_weave(4, joined, 6, NULL, 0), SBC_DEPTH, 0);
+    expect("weave", sbc_weave(5, job, sizeof job, out, sizeof out), SBC_DONE, sizeof job);
+    expect("unweave, no word", sbc_unweave(2, NULL, 0, NULL, 0), SBC_DONE, 0);
+    expect("unweave, no word, depth 17", sbc_unweave(17, NULL, 0, NULL, 0), SBC_DEPTH, 0);
+    expect("unweave, a large depth", sbc_unweave(~(uint64_t)0, NULL, 0, NULL, 0), SBC_DEPTH, 0);
+    expect("unweave, no room", sbc_unweave(5, job, sizeof job, NULL, 0), SBC_SHORT_OUTPUT, 0);
+    expect("unweave, room for three of four", sbc_unweave(2, job, 4, out, 3), SBC_SHORT_OUTPUT, 0);
+    expect("unweave, a bad length and no room", sbc_unweave(4, joined, 6, NULL, 0), SBC_DEPTH, 0);
+    expect("unweave", sbc_unweave(5, job, sizeof job, out, sizeof out), SBC_DONE, sizeof job);
     expect("info, no record", sbc_info(NULL, 0, out, sizeof out), SBC_LENGTH, 0);
     expect("info, no room", sbc_info(record, r, NULL, 0), SBC_SHORT_OUTPUT, 0);
     expect("with_tail, no record", sbc_with_tail(NULL, 0, 1, out, sizeof out), SBC_LENGTH, 0);

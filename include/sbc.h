@@ -40,7 +40,8 @@ enum {
     SBC_TOO_FEW_WORDS = 12,  /* fewer than a words */
     SBC_SHORT_OUTPUT = 13,   /* the output is too short */
     SBC_TOO_MANY_PAIRS = 14, /* two constraints give more than 16 pairs of states */
-    SBC_STREAM = 15          /* over 1,000,000 words, wrong number of bytes, or fill not 0 */
+    SBC_STREAM = 15,         /* over 1,000,000 words, wrong number of bytes, or fill not 0 */
+    SBC_DEPTH = 16           /* depth D is not 2 to 16, or does not divide the length */
 };
 
 /* The most words of a bit stream, closing words included. */
@@ -192,6 +193,30 @@ uint64_t sbc_encode_stream(const uint8_t *record, uint64_t record_length, const 
 uint64_t sbc_decode_stream(const uint8_t *record, uint64_t record_length, uint64_t count, const uint8_t *stream,
                            uint64_t stream_length, uint8_t *out, uint64_t out_length);
 
+/* Weaves recordings into one another, so that a scratch across neighbouring words is shared among them.
+ * depth: how many recordings, 2 to 16.
+ * words: the recordings one after the other, equally many words each. Every byte is moved as it is: no q comes with the
+ * call, so none is refused.
+ * out: word j of recording r at place j x depth + r, all counted from 0; words_length bytes are enough. It lies apart
+ * from words.
+ * Overwriting at most depth neighbouring places of woven recordings with words below 2^q touches at most one word of
+ * each recording, so in each at most m + a + 1 blocks can come out otherwise than written when it is unwoven and
+ * decoded. Lost or added words are outside this, since they shift every recording: nothing is promised of them.
+ * Answers how many words were written: words_length.
+ * Refusals in order: 16 for a depth that is not 2 to 16, or does not divide words_length; 13. */
+uint64_t sbc_weave(uint64_t depth, const uint8_t *words, uint64_t words_length, uint8_t *out, uint64_t out_length);
+
+/* Unweaves recordings. It undoes sbc_weave, and sbc_weave undoes it.
+ * depth: how many recordings, 2 to 16.
+ * words: the woven recordings. Every byte is moved as it is, an overwritten one too.
+ * out: the recordings one after the other, words_length / depth words each: word j of recording r is the one at place
+ * j x depth + r; words_length bytes are enough. It lies apart from words.
+ * Where at most depth neighbouring places were overwritten with words below 2^q, at most one word of each recording is
+ * not as it was woven, and sbc_decode gives each with at most m + a + 1 blocks otherwise than written.
+ * Answers how many words were written: words_length.
+ * Refusals in order: 16 for a depth that is not 2 to 16, or does not divide words_length; 13. */
+uint64_t sbc_unweave(uint64_t depth, const uint8_t *words, uint64_t words_length, uint8_t *out, uint64_t out_length);
+
 /* Records blocks under a record that sbc_check accepted once: refusals 9 and 10 are not looked at, and for such a
  * record it answers and writes as sbc_encode does. For any other bytes it is as safe, but what it writes need not obey
  * the constraint.
@@ -250,7 +275,7 @@ uint64_t sbc_listing(const uint8_t *job, uint64_t job_length, uint8_t *out, uint
 uint64_t sbc_phrase(uint64_t refusal, uint8_t *out, uint64_t out_length);
 
 /* The version of the library, and no answer: 10,000 times the major number, plus 100 times the minor number, plus the
- * patch. 20000 is 2.0.0. */
+ * patch. 20100 is 2.1.0. */
 uint64_t sbc_version(void);
 
 #ifdef __cplusplus
