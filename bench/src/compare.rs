@@ -26,11 +26,15 @@ impl Numbers {
 
 /// Records of some run-length jobs, and two with memory, with their p and q; each with every tail datum.
 fn records() -> Vec<(Vec<u8>, usize, usize)> {
-    let jobs = [[0, 1, 1, 2, 1], [0, 1, 2, 3, 2], [1, 3, 1, 2, 1], [1, 7, 2, 3, 2], [2, 7, 1, 2, 4], [0, 2, 3, 4, 3]];
+    let jobs = [[0, 1, 1, 2, 1], [0, 1, 2, 3, 2], [1, 3, 1, 2, 1], [1, 7, 2, 3, 3], [2, 7, 1, 2, 4], [0, 2, 3, 4, 3]];
     let record = |job: &[u8; 5]| reference::calls::compile_run_length(job, 65535).output;
     let compiled = jobs.iter().map(|job| (record(job), usize::from(job[2]), usize::from(job[3])));
     let all = compiled.chain([(E2.to_vec(), 1, 2), (LISTED_FIRST.to_vec(), 2, 3)]);
-    let closed = |record: &[u8], k| reference::calls::with_tail(record, k, 65535).output;
+    let closed = |record: &[u8], k| {
+        let closed = reference::calls::with_tail(record, k, 65535).output;
+        assert_eq!(library::check(&closed), (0, 0), "{record:02x?} with tail datum {k}");
+        closed
+    };
     all.flat_map(|(r, p, q)| (0..1 << p).map(move |k| (closed(&r, k), p, q))).collect()
 }
 
