@@ -7,7 +7,7 @@ fn main() {
     let run = |program: &str, arguments: &[&str]| {
         assert!(Command::new(program).args(arguments).status().expect(program).success(), "{program}");
     };
-    for name in ["plain", "shifts"] {
+    for name in ["plain", "shifts", "weave"] {
         let (source, object) = (format!("{root}/src/{name}.c"), format!("{out}/{name}.o"));
         run("gcc", &["-O3", "-march=x86-64", "-c", &source, "-o", &object]);
         run("ar", &["crs", &format!("{out}/libplain.a"), &object]);

@@ -1,5 +1,6 @@
 //! Random calls, good and bad, of the proved library and of the outside implementation.
 use crate::speed::{E2, LISTED_FIRST};
+use crate::weaving::{self, Scratches};
 use crate::{library, streams};
 use reference::answer::Answer;
 use std::time::{Duration, Instant};
@@ -202,12 +203,16 @@ pub fn for_seconds(seconds: u64) {
     let mut numbers = Numbers::new();
     streams::limits(&records[0].0, 0);
     streams::limits(&records[1].0, 1);
+    weaving::limits();
+    let mut scratches = Scratches::default();
     let end = Instant::now() + Duration::from_secs(seconds);
-    let (mut answers, mut marks) = ([0u64; 16], [0u64; 2]);
+    let (mut answers, mut marks) = ([0u64; 17], [0u64; 2]);
     while Instant::now() < end {
         let (record, p, q) = &records[numbers.below(records.len())];
         let bytes = if numbers.below(8) == 0 { damaged(&mut numbers, record) } else { record.clone() };
-        let refusal = match numbers.below(9) {
+        let refusal = match numbers.below(11) {
+            10 => scratches.one(&mut numbers, record),
+            9 => weaving::calls(&mut numbers),
             8 => with_tail(&mut numbers, &bytes),
             7 => streams::pack(&mut numbers),
             6 => streams::code(&mut numbers, &bytes, *p),
@@ -222,4 +227,5 @@ pub fn for_seconds(seconds: u64) {
     }
     println!("{} calls, no difference; answers by number: {answers:?}", answers.iter().sum::<u64>());
     println!("{} decoded blocks marked 254, {} marked 255", marks[0], marks[1]);
+    scratches.print();
 }

@@ -9,6 +9,7 @@ mod speed;
 mod stack;
 mod streams;
 mod sweep;
+mod weaving;
 
 fn main() {
     let arguments: Vec<String> = std::env::args().collect();

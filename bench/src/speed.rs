@@ -174,4 +174,5 @@ pub fn all() {
     checked("listed code", [0, 1, 2, 3, 2]);
     checked("1 13 4 6 9", [1, 13, 4, 6, 9]);
     crate::streams::all();
+    crate::weaving::all();
 }

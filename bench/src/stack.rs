@@ -2,7 +2,7 @@
 use crate::library;
 use std::process::{Command, Stdio};
 
-const CALLS: [&str; 17] = [
+const CALLS: [&str; 19] = [
     "check",
     "encode",
     "decode",
@@ -12,6 +12,8 @@ const CALLS: [&str; 17] = [
     "unpack",
     "encode_stream",
     "decode_stream",
+    "weave",
+    "unweave",
     "info",
     "with_tail",
     "phrase",
@@ -39,6 +41,8 @@ fn call(name: &str) -> (u64, u64) {
         "unpack" => library::unpack(8, 100, &[1; 100], &mut out),
         "encode_stream" => library::encode_stream(&record, &[1; 100], &mut out),
         "decode_stream" => library::decode_stream(&record, 3000, &[0; 3000], &mut out),
+        "weave" => library::weave(16, &[1; 1600], &mut out),
+        "unweave" => library::unweave(16, &[1; 1600], &mut out),
         "info" => library::info(&record, &mut out),
         "with_tail" => library::with_tail(&record, 15, &mut out),
         "phrase" => library::phrase(7, &mut out),
