@@ -1,5 +1,5 @@
-//! The refusals of "When the workshop declines" and of requests (a), (b) and (e), by their numbers, and the answer of
-//! a call.
+//! The refusals of "When the workshop declines" and of requests (a), (b), (e) and (f), by their numbers, and the
+//! answer of a call.
 
 /// A refusal's number in the document's table, or in the request that adds it.
 pub type Refusal = u8;
@@ -36,6 +36,8 @@ pub const PAIRS: Refusal = 14;
 /// A word count over the limit, a byte length other than count × q / 8 rounded up, or a fill that is not 0 (request
 /// (b)).
 pub const STREAM: Refusal = 15;
+/// D out of range or a length that D does not divide (request (f)).
+pub const DEPTH: Refusal = 16;
 
 /// What a call answers.
 ///

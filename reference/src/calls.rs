@@ -6,6 +6,7 @@ use crate::compile::compile;
 use crate::job::Job;
 use crate::record::Record;
 use crate::streams::{BitNumber, BlockNumber};
+use crate::weaving::Recordings;
 use crate::{decode, encode, listing, sets, streams};
 
 /// Compiles a job to a record. Order: 8, 1, K by 2, 8, next states by 2, 3, 4, 5, 6, 13.
@@ -172,6 +173,23 @@ pub fn decode_stream_loaded(record: &Record, count: u64, stream: &[u8], room: us
 /// record, 15.
 pub fn reach(record: &[u8], first: u64, last: u64) -> Result<(BlockNumber, BlockNumber), Refusal> {
     streams::reach(&load(record)?, BitNumber(first), BitNumber(last))
+}
+
+/// Weaves D recordings of the same number of words, handed over one after the other (request (f)). D is any number of
+/// 64 bits. No q comes with the call, so that no word is compared with anything (the readings). Order: 16, 13.
+pub fn weave(depth: u64, words: &[u8], room: usize) -> Answer {
+    match Recordings::of(depth, words.len()) {
+        Ok(recordings) => Answer::fitted(recordings.weave(words), room),
+        Err(refusal) => Answer::refused(refusal, 0),
+    }
+}
+
+/// Unweaves places to D recordings, one after the other (request (f)). D is any number of 64 bits. Order: 16, 13.
+pub fn unweave(depth: u64, places: &[u8], room: usize) -> Answer {
+    match Recordings::of(depth, places.len()) {
+        Ok(recordings) => Answer::fitted(recordings.unweave(places), room),
+        Err(refusal) => Answer::refused(refusal, 0),
+    }
 }
 
 /// Walks a set: its count, or the refusal with the number of the record at which the walk ends.

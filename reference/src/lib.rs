@@ -1,7 +1,7 @@
 //! An outside implementation of the sliding-block code workshop.
 //!
 //! It is written from the scope document ("the document" in all comments), from the list of later change requests
-//! (so far "request (a)" to "request (e)") and from the table of readings of their unclear places ("the readings").
+//! (so far "request (a)" to "request (f)") and from the table of readings of their unclear places ("the readings").
 //! It shares no code with the proved crates. `calls` holds every call as a function from bytes to an answer; the other
 //! modules follow the sections of the document and the requests.
 
@@ -29,5 +29,6 @@ pub mod split;
 pub mod streams;
 pub mod table;
 pub mod vectors;
+pub mod weaving;
 pub mod weights;
 pub mod window;

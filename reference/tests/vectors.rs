@@ -4,19 +4,19 @@ use reference::accept::load;
 use reference::checksum::Checksum;
 use reference::streams::pack;
 use reference::vectors::file::{call, Case, Walk, CHECK, COMPILE_JOB, COMPILE_JOINED, COMPILE_RUN_LENGTH, DECODE};
-use reference::vectors::file::{DECODE_STREAM, ENCODE, KINDS, LISTING, RECORD_ROOM};
+use reference::vectors::file::{DECODE_STREAM, ENCODE, KINDS, LISTING, RECORD_ROOM, UNWEAVE, WEAVE};
 use reference::vectors::fixed::{E2, TELLING};
 use reference::vectors::marks::{self, Told};
 use reference::vectors::stream_borders::{count_and_stream, telling};
-use reference::vectors::{data, generate, hex, tails, with_tail};
+use reference::vectors::{data, generate, hex, tails, weaving, with_tail};
 use std::collections::HashSet;
 
 #[test]
 fn the_file_walks_and_every_case_answers_again() {
     let bytes = generate(1);
-    assert!(bytes.len() < 800_000);
+    assert!(bytes.len() < 850_000);
     assert_eq!(bytes.last(), Some(&0));
-    let mut seen = [[false; 16]; KINDS.len()];
+    let mut seen = [[false; 17]; KINDS.len()];
     let mut inputs = HashSet::new();
     let mut walk = Walk(&bytes);
     for (place, case) in walk.by_ref().enumerate() {
@@ -27,7 +27,7 @@ fn the_file_walks_and_every_case_answers_again() {
         }
     }
     assert!(walk.0.is_empty());
-    let refusals = |kind: usize| (0..16).filter(|refusal| seen[kind][*refusal]).collect::<Vec<_>>();
+    let refusals = |kind: usize| (0..17).filter(|refusal| seen[kind][*refusal]).collect::<Vec<_>>();
     assert_eq!(refusals(1), [0, 1, 2, 3, 4, 5, 6, 8, 13]);
     assert_eq!(refusals(2), [0, 1, 2, 3, 4, 5, 6, 8, 13]);
     assert_eq!(refusals(3), [0, 7, 8, 9, 10]);
@@ -41,6 +41,8 @@ fn the_file_walks_and_every_case_answers_again() {
     assert_eq!(refusals(11), [0, 7, 8, 9, 10, 11, 13], "so are 1,000,001 blocks");
     assert_eq!(refusals(12), [0, 7, 8, 9, 10, 12, 13, 15]);
     assert_eq!(refusals(13), [0, 7, 8, 9, 10, 13]);
+    assert_eq!(refusals(14), [0, 13, 16]);
+    assert_eq!(refusals(15), [0, 13, 16]);
 }
 
 /// Every input that tells for request (a) stands in the file, and where it compiles also with the exact room and with
@@ -115,12 +117,36 @@ fn the_file_has_the_tail_data_that_tell() {
     }
 }
 
-/// The numbers that the README states.
+/// So does every input that tells for request (f); every D from 2 to 16 is done both ways with words that tell them
+/// apart, and refused with too little room and for a length that it does not divide.
+#[test]
+fn the_file_has_the_weavings_that_tell() {
+    let bytes = generate(1);
+    let cases: Vec<Case> = Walk(&bytes).filter(|case| [WEAVE, UNWEAVE].contains(&case.kind)).collect();
+    let has = |call| cases.iter().any(|case| (case.kind, case.room, case.first.clone(), case.second.clone()) == call);
+    assert!(weaving::telling().into_iter().all(has));
+    for (d, kind) in (2..=16).flat_map(|d| weaving::WAYS.map(|kind| (d, kind))) {
+        let with = |refusal| cases.iter().filter(move |case| (case.kind, case.answer.refusal) == (kind, refusal));
+        let of = |refusal| with(refusal).filter(|case| case.first == weaving::depth(d));
+        let other = WEAVE + UNWEAVE - kind;
+        assert!(of(0).any(|case| call(other, case.room, &case.first, &case.second).output != case.answer.output));
+        assert!(of(13).count() > 0 && of(16).count() > 0, "D {d}");
+    }
+}
+
+/// The bytes' checksum.
+fn checksum(bytes: &[u8]) -> u64 {
+    let mut checksum = Checksum::default();
+    checksum.add(bytes);
+    checksum.value()
+}
+
+/// The numbers that the README states. The cases before request (f) are what they were, byte for byte.
 #[test]
 fn the_file_is_the_one_described() {
     let bytes = generate(1);
-    let mut checksum = Checksum::default();
-    checksum.add(&bytes);
-    assert_eq!((Walk(&bytes).count(), bytes.len()), (11_518, 799_028));
-    assert_eq!(checksum.value(), 0x77f4_3ce1_7414_6caa);
+    assert_eq!((Walk(&bytes).count(), bytes.len()), (11_769, 817_200));
+    assert_eq!(checksum(&bytes), 0xa2f7_5655_598d_1e1e);
+    let before = [&bytes[..799_027], &[0]].concat();
+    assert_eq!((Walk(&before).count(), checksum(&before)), (11_518, 0x77f4_3ce1_7414_6caa));
 }

@@ -1,4 +1,4 @@
-//! Damage to a record, field by field, to lists of words, and to the channel bits of a stream.
+//! Damage to a record, field by field, to lists of words, to the channel bits of a stream, and to neighbouring places.
 
 use super::random::Random;
 use crate::record::Record;
@@ -86,6 +86,19 @@ pub fn bits(random: &mut Random, stream: &[u8], f: usize, l: usize) -> Vec<u8> {
         let old = field(stream, (place, 1));
         let bit = [0, 1, 1 - old, random.below(2)][way];
         damaged = with_field(&damaged, (place, 1), bit);
+    }
+    damaged
+}
+
+/// Places f to l, both included, overwritten with words below 2^q: by one word throughout, each by another word than it
+/// was, or at random.
+pub fn scratch(random: &mut Random, places: &[u8], (f, l): (usize, usize), q: usize) -> Vec<u8> {
+    let way = random.below(3);
+    let (n, one) = (1 << q, random.below(1 << q));
+    let mut damaged = places.to_vec();
+    for word in &mut damaged[f..=l] {
+        let other = (usize::from(*word) + random.within(1, n - 1)) % n;
+        *word = [one, other, random.below(n)][way] as u8;
     }
     damaged
 }

@@ -17,9 +17,11 @@ pub const UNPACK: u8 = 10;
 pub const ENCODE_STREAM: u8 = 11;
 pub const DECODE_STREAM: u8 = 12;
 pub const WITH_TAIL: u8 = 13;
+pub const WEAVE: u8 = 14;
+pub const UNWEAVE: u8 = 15;
 
 /// The kinds by number; those from their count up to 23 are kept for calls to come, and a file has none from 24 on.
-pub const KINDS: [&str; 14] = [
+pub const KINDS: [&str; 16] = [
     "",
     "compile_job",
     "compile_run_length",
@@ -34,6 +36,8 @@ pub const KINDS: [&str; 14] = [
     "encode_stream",
     "decode_stream",
     "with_tail",
+    "weave",
+    "unweave",
 ];
 
 /// Room enough for every record.
@@ -61,11 +65,13 @@ pub fn call(kind: u8, room: usize, first: &[u8], second: &[u8]) -> Answer {
             calls::decode_stream(first, count, stream, room)
         }
         WITH_TAIL => calls::with_tail(first, split_count(second).0, room),
+        WEAVE => calls::weave(split_count(first).0, second, room),
+        UNWEAVE => calls::unweave(split_count(first).0, second, room),
         _ => panic!("no such kind"),
     }
 }
 
-/// A count, or a datum, in 8 bytes, most significant first, and the bytes behind it.
+/// A count, a datum or D in 8 bytes, most significant first, and the bytes behind it.
 fn split_count(bytes: &[u8]) -> (u64, &[u8]) {
     let (count, rest) = bytes.split_first_chunk().expect("a count of eight bytes");
     (u64::from_be_bytes(*count), rest)

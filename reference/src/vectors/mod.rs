@@ -17,6 +17,7 @@ pub mod stream_borders;
 pub mod streams;
 pub mod tailed;
 pub mod tails;
+pub mod weaving;
 pub mod with_tail;
 
 use file::File;
@@ -40,6 +41,7 @@ pub fn generate(scale: usize) -> Vec<u8> {
     tails::add(&mut file);
     tailed::add(&mut file, &mut Random::seeded(8), &pool, scale);
     with_tail::add(&mut file, &mut Random::seeded(9), &pool, scale);
+    weaving::add(&mut file, &mut Random::seeded(10), &pool, scale);
     file.ended()
 }
 
