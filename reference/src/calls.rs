@@ -176,7 +176,7 @@ pub fn reach(record: &[u8], first: u64, last: u64) -> Result<(BlockNumber, Block
 }
 
 /// Weaves D recordings of the same number of words, handed over one after the other (request (f)). D is any number of
-/// 64 bits. No q comes with the call, so that no word is compared with anything (the readings). Order: 16, 13.
+/// 64 bits. No q comes with the call, so that no word is compared with anything. Order: 16, 13.
 pub fn weave(depth: u64, words: &[u8], room: usize) -> Answer {
     match Recordings::of(depth, words.len()) {
         Ok(recordings) => Answer::fitted(recordings.weave(words), room),

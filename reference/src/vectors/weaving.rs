@@ -28,7 +28,7 @@ const TELLING: [(u8, u64, &str, usize); 9] = [
     (WEAVE, 17, "", 0),           // D is 17, without words
 ];
 
-/// Numbers that are no D, many of which would be one cut to 4, 6, 8, 16, 32 or 63 bits. What is left then divides 16.
+/// Numbers that are no D, many of which would be one that divides 16 if they were cut to 4, 6, 8, 16, 32 or 63 bits.
 pub const LARGE: [u64; 13] = [
     18,
     64 + 4,
@@ -48,13 +48,14 @@ pub const LARGE: [u64; 13] = [
 pub fn add(file: &mut File, random: &mut Random, pool: &Pool, scale: usize) {
     telling().iter().for_each(|call| add_told(file, call));
     (2..=16).for_each(|d| every_depth(file, d));
+    [2, 9, 16].iter().for_each(|d| few_words(file, *d));
     out_of_range(file);
     every_byte(file);
     for _ in 0..6 * scale {
         let good = random.pick(&pool.small);
         recordings(file, random, good);
     }
-    for _ in 0..36 * scale {
+    for _ in 0..30 * scale {
         any(file, random);
     }
 }
@@ -101,6 +102,13 @@ fn every_depth(file: &mut File, d: u64) {
     }
 }
 
+/// Fewer words than recordings.
+fn few_words(file: &mut File, d: u64) {
+    for (kind, length) in [(WEAVE, 1), (UNWEAVE, d as usize - 1)] {
+        file.add(kind, length, &depth(d), &unlike(length));
+    }
+}
+
 /// D 0, 1 and 17 and large numbers, with room and with none: 16 before 13.
 fn out_of_range(file: &mut File) {
     for (d, kind) in [0, 1, 17].into_iter().flat_map(|d| WAYS.map(|kind| (d, kind))) {
@@ -115,10 +123,10 @@ fn out_of_range(file: &mut File) {
     WAYS.iter().for_each(|kind| drop(file.add(*kind, 9, &depth(u64::MAX), &[])));
 }
 
-/// The bytes 0 to 255 in order, or as many of them as D divides: every byte is moved as it is.
+/// The bytes 0 to 255 in order, or as many as D divides: every byte is moved as it is. Some have a place above 255.
 fn every_byte(file: &mut File) {
-    for (d, last) in [(2, 255), (8, 255), (15, 254), (16, 239)] {
-        let bytes: Vec<u8> = (0..=last).collect();
+    for (d, count) in [(2, 256), (8, 256), (15, 270), (16, 240)] {
+        let bytes: Vec<u8> = (0..count).map(|byte| byte as u8).collect();
         WAYS.iter().for_each(|kind| drop(file.add(*kind, bytes.len(), &depth(d), &bytes)));
     }
 }
