@@ -1,5 +1,5 @@
 -- Which action a word names.
--- In order: askedAction, streamAction, recordAction, actionOf.
+-- In order: askedAction, recordingsAction, streamAction, recordAction, actionOf.
 -- Assumes nothing.
 use mathlib.Core.List.{List}
 use Prim.Native.Nat.{ℕ}
@@ -9,11 +9,12 @@ use Rattle.text.specs.Words.{same}
 use Rattle.arguments.specs.declared.Action.{Action}
 use Rattle.arguments.specs.declared.Action.the-variants.{Compile, CompileJob, CompileJoined, Trace}
 use Rattle.arguments.specs.declared.Action.the-variants.{Collection, Help, Version, Viewing, Coding, Stream}
-use Rattle.arguments.specs.declared.Action.the-variants.{WithTail, Unknown}
+use Rattle.arguments.specs.declared.Action.the-variants.{WithTail, Recordings, Unknown}
 use Rattle.arguments.specs.declared.View.the-variants.{Check, Show, Draw}
 use Rattle.arguments.specs.declared.Way.the-variants.{Encode, Decode}
 use Rattle.arguments.specs.declared.OnStream.the-variants.{Pack, Unpack, Reach}
 use Rattle.arguments.specs.declared.OnStream.the-variants.{Encode as EncodeStream, Decode as DecodeStream}
+use Rattle.arguments.specs.declared.OnRecordings.the-variants.{Weave, Unweave}
 
 -- the action that asks about the command itself
 unfoldable pub askedAction : List ℕ → Action
@@ -23,6 +24,12 @@ askedAction w =
     if same w (bytes "-h") then Help else
     if same w (bytes "--version") then Version else Unknown
 
+-- the action on several recordings at once
+unfoldable pub recordingsAction : List ℕ → Action
+recordingsAction w =
+    if same w (bytes "weave") then Recordings Weave else
+    if same w (bytes "unweave") then Recordings Unweave else askedAction w
+
 -- the action on bit streams
 unfoldable pub streamAction : List ℕ → Action
 streamAction w =
@@ -30,7 +37,7 @@ streamAction w =
     if same w (bytes "unpack") then Stream Unpack else
     if same w (bytes "encode-stream") then Stream EncodeStream else
     if same w (bytes "decode-stream") then Stream DecodeStream else
-    if same w (bytes "reach") then Stream Reach else askedAction w
+    if same w (bytes "reach") then Stream Reach else recordingsAction w
 
 -- the action on one record, or on one and what is recorded under it
 unfoldable pub recordAction : List ℕ → Action

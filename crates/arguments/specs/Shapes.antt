@@ -8,7 +8,7 @@ use Rattle.arguments.specs.declared.Shape.{Shape}
 use Rattle.arguments.specs.declared.Action.{Action}
 use Rattle.arguments.specs.declared.Action.the-variants.{Compile, CompileJob, CompileJoined, Trace}
 use Rattle.arguments.specs.declared.Action.the-variants.{Collection, Help, Version, Viewing, Coding, Stream}
-use Rattle.arguments.specs.declared.Action.the-variants.{WithTail, Unknown}
+use Rattle.arguments.specs.declared.Action.the-variants.{WithTail, Recordings, Unknown}
 use Rattle.arguments.specs.declared.OnStream.{OnStream}
 use Rattle.arguments.specs.declared.OnStream.the-variants.{Pack, Unpack, Encode, Decode, Reach}
 use Rattle.arguments.specs.declared.Status.{Status}
@@ -40,6 +40,7 @@ shapeOf (Viewing v) = shaped 3 3 2 0 0
 shapeOf WithTail = shaped 5 5 2 0 4
 shapeOf (Coding w) = shaped 5 5 2 3 4
 shapeOf (Stream s) = streamShape s
+shapeOf (Recordings r) = shaped 5 5 0 3 4
 shapeOf Unknown = shaped 0 0 0 0 0
 
 -- a count of arguments is from the fewest to the most

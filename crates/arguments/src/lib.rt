@@ -28,6 +28,12 @@ pub enum OnStream {
     Reach,
 }
 
+// What is done with several recordings at once.
+pub enum OnRecordings {
+    Weave,
+    Unweave,
+}
+
 // What the command does.
 pub enum Action {
     Compile,
@@ -42,6 +48,7 @@ pub enum Action {
     WithTail,
     Coding(Way),
     Stream(OnStream),
+    Recordings(OnRecordings),
     // No action has this name.
     Unknown,
 }
@@ -115,6 +122,7 @@ pub fn shape_of(a: Action) -> Shape
         Action::WithTail => with_places(5, 5, 2, 0, 4),
         Action::Coding(_) => with_places(5, 5, 2, 3, 4),
         Action::Stream(s) => stream_shape(s),
+        Action::Recordings(_) => with_places(5, 5, 0, 3, 4),
         Action::Unknown => with_places(0, 0, 0, 0, 0),
     }
 }

@@ -1,7 +1,8 @@
 // Actions as words name them.
 ghost use mathlib.Core.Path.{_≡_};
-ghost use Rattle.arguments.specs.Naming.{askedAction, streamAction, recordAction, actionOf};
+ghost use Rattle.arguments.specs.Naming.{askedAction, recordingsAction, streamAction, recordAction, actionOf};
 use crate::Action;
+use crate::OnRecordings;
 use crate::OnStream;
 use crate::View;
 use crate::Way;
@@ -26,6 +27,19 @@ fn asked_action(word: &[u8]) -> Action
     Action::Unknown
 }
 
+// The action on several recordings at once.
+fn recordings_action(word: &[u8]) -> Action
+    ensures answer { λ r. ⌜ r ≡ recordingsAction (now (word .entry)) ⌝ }
+{
+    if is_same(word, b"weave") {
+        return Action::Recordings(OnRecordings::Weave);
+    }
+    if is_same(word, b"unweave") {
+        return Action::Recordings(OnRecordings::Unweave);
+    }
+    asked_action(word)
+}
+
 // The action on bit streams.
 fn stream_action(word: &[u8]) -> Action
     ensures answer { λ r. ⌜ r ≡ streamAction (now (word .entry)) ⌝ }
@@ -45,7 +59,7 @@ fn stream_action(word: &[u8]) -> Action
     if is_same(word, b"reach") {
         return Action::Stream(OnStream::Reach);
     }
-    asked_action(word)
+    recordings_action(word)
 }
 
 // The action on one record, or on one and what is recorded under it.

@@ -65,7 +65,7 @@ returns-6 c =
     let c3 = c4 .before .before .before in
     let c2 = c3 .before .before .before in
     let c1 = c2 .before .before .before in
-    c .asked-action .ensures ∙ sym (simp (
+    c .recordings-action .ensures ∙ sym (simp (
       sym (c1 .before .is-same .ensures) ∙ c1 .if1 .left,
       sym (c2 .before .is-same2 .ensures) ∙ c2 .if2 .left,
       sym (c3 .before .is-same3 .ensures) ∙ c3 .if3 .left,
