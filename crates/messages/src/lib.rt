@@ -4,6 +4,7 @@ ghost use Rattle.text.specs.Texts.{Added};
 ghost use Rattle.messages.specs.Sayings.{saying, setSaying};
 ghost use Rattle.arguments.specs.declared.Status.the-variants.{Failed};
 
+mod recorded;
 pub mod system;
 pub mod usage;
 

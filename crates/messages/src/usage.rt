@@ -3,14 +3,15 @@ ghost use mathlib.Core.Path.{_≡_};
 ghost use Prim.Native.Nat.{_≤_};
 ghost use Rattle.arguments.specs.Shapes.{statusOf};
 ghost use Rattle.arguments.specs.declared.Status.the-variants.{Misused};
+use crate::recorded::tell_coding;
+use crate::recorded::tell_recordings;
+use crate::recorded::tell_stream;
 use crate::say;
 use crate::system::complain;
 use crate::system::print;
 use arguments::Action;
-use arguments::OnStream;
 use arguments::Status;
 use arguments::View;
-use arguments::Way;
 use libc::STDERR_FILENO;
 use libc::STDOUT_FILENO;
 
@@ -34,6 +35,8 @@ fn tell_all(file: i32) -> bool {
   encode-stream RECORD DATA OUT          record data blocks as a bit stream
   decode-stream RECORD COUNT STREAM OUT  read a bit stream as data blocks
   reach RECORD FIRST LAST                print the blocks that overwritten channel bits can spoil
+  weave D IN OUT                         weave D recordings that stand one after the other
+  unweave D IN OUT                       take woven recordings apart again
   set FILE                               list the records of a set
   help [ACTION]                          print this, or more about an action; --help and -h too
   --version                              print the version
@@ -101,80 +104,6 @@ if there are more than 24 states.
     }
 }
 
-// The actions that encode and decode.
-fn tell_coding(file: i32, w: Way) -> bool {
-    match w {
-        Way::Encode => io::write_all(
-            file,
-            b"usage: sbc encode RECORD DATA OUT
-Encodes the blocks in DATA, one byte each and below 2^p, under the record in RECORD, and writes the words to OUT, one
-byte each. N blocks give N + a words: the recording closes with a blocks of the record's tail datum. At most 1,000,000
-blocks. Only one of RECORD and DATA can be -.
-",
-        ),
-        Way::Decode => io::write_all(
-            file,
-            b"usage: sbc decode RECORD WORDS OUT
-Decodes the words in WORDS, one byte each and below 2^q, under the record in RECORD, and writes the blocks to OUT, one
-byte each. W words give W - a blocks. A block that cannot be read is a mark: 254 where the words up to it are no path
-through the code, 255 where they are one, but not with the words ahead. How many there are of each is said on standard
-error. At most 1,000,015 words. Only one of RECORD and WORDS can be -.
-",
-        ),
-    }
-}
-
-// The actions that encode to a bit stream and decode from one.
-fn tell_stream_coding(file: i32, w: Way) -> bool {
-    match w {
-        Way::Encode => io::write_all(
-            file,
-            b"usage: sbc encode-stream RECORD DATA OUT
-Encodes the blocks in DATA, one byte each and below 2^p, under the record in RECORD, and writes the words to OUT as a
-bit stream, as pack does. N blocks give N + a words. At most 1,000,000 words. Only one of RECORD and DATA can be -.
-",
-        ),
-        Way::Decode => io::write_all(
-            file,
-            b"usage: sbc decode-stream RECORD COUNT STREAM OUT
-Decodes the COUNT words of the bit stream in STREAM under the record in RECORD, and writes the blocks to OUT, one byte
-each. COUNT counts the closing words too: N blocks were recorded as N + a words. STREAM is as for unpack. A block that
-cannot be read is a mark, 254 or 255, as for decode; how many there are of each is said on standard error. At most
-1,000,000 words. Only one of RECORD and STREAM can be -.
-",
-        ),
-    }
-}
-
-// The actions on bit streams.
-fn tell_stream(file: i32, s: OnStream) -> bool {
-    match s {
-        OnStream::Pack => io::write_all(
-            file,
-            b"usage: sbc pack q WORDS OUT
-Packs the words in WORDS, one byte each and below 2^q, into a bit stream: q bits a word, eight bits a byte, first bit
-highest, the last byte filled with 0. q: 1 to 8. At most 1,000,000 words.
-",
-        ),
-        OnStream::Unpack => io::write_all(
-            file,
-            b"usage: sbc unpack q COUNT STREAM OUT
-Unpacks the bit stream in STREAM into COUNT words of q bits, and writes them to OUT, one byte each. The length of STREAM
-must be COUNT x q / 8 bytes, rounded up, with 0 in the bits behind the last word. q: 1 to 8. At most 1,000,000 words.
-",
-        ),
-        OnStream::Encode => tell_stream_coding(file, Way::Encode),
-        OnStream::Decode => tell_stream_coding(file, Way::Decode),
-        OnStream::Reach => io::write_all(
-            file,
-            b"usage: sbc reach RECORD FIRST LAST
-Prints the blocks that can differ from the data written when channel bits FIRST to LAST of a stream are overwritten:
-FIRST / q - a to LAST / q + m. Bits and blocks are counted from 0. Lost or added bits are outside this.
-",
-        ),
-    }
-}
-
 // An action; the answer is whether all was written.
 fn tell(file: i32, a: Action) -> bool {
     match a {
@@ -192,6 +121,7 @@ changes. Recordings under OUT close with DATUM; a record that compile writes clo
         ),
         Action::Coding(w) => tell_coding(file, w),
         Action::Stream(s) => tell_stream(file, s),
+        Action::Recordings(r) => tell_recordings(file, r),
         Action::Collection => io::write_all(
             file,
             b"usage: sbc set FILE
@@ -235,5 +165,5 @@ pub fn print_use(a: Action) -> Status
 pub fn print_version() -> Status
     ensures past { λ s. ⌜ statusOf s ≤ 1 ⌝ }
 {
-    print(b"sbc 2.0\n")
+    print(b"sbc 2.1\n")
 }
