@@ -7,6 +7,7 @@ mod compiling;
 mod records;
 
 use arguments::Action;
+use arguments::OnRecordings;
 use arguments::OnStream;
 use arguments::Status;
 use arguments::Way;
@@ -100,6 +101,22 @@ pub extern "C" fn sbc_action_decode_stream() -> u32
     status_number(streamfiles::decode_file())
 }
 
+// weave. It is exported so that it has a stack frame of its own.
+#[no_mangle]
+pub extern "C" fn sbc_action_weave() -> u32
+    ensures past { λ r. ⌜ r ≤ 2 ⌝ }
+{
+    status_number(weavefiles::rearrange_file(OnRecordings::Weave))
+}
+
+// unweave. It is exported so that it has a stack frame of its own.
+#[no_mangle]
+pub extern "C" fn sbc_action_unweave() -> u32
+    ensures past { λ r. ⌜ r ≤ 2 ⌝ }
+{
+    status_number(weavefiles::rearrange_file(OnRecordings::Unweave))
+}
+
 // Does an action on bit streams; the answer is the exit status.
 fn act_on_stream(s: OnStream) -> u32
     ensures past { λ r. ⌜ r ≤ 2 ⌝ }
@@ -110,6 +127,16 @@ fn act_on_stream(s: OnStream) -> u32
         OnStream::Encode => sbc_action_encode_stream(),
         OnStream::Decode => sbc_action_decode_stream(),
         OnStream::Reach => status_number(streamfiles::reaching::reach_bits()),
+    }
+}
+
+// Does an action on several recordings at once; the answer is the exit status.
+fn act_on_recordings(how: OnRecordings) -> u32
+    ensures past { λ r. ⌜ r ≤ 2 ⌝ }
+{
+    match how {
+        OnRecordings::Weave => sbc_action_weave(),
+        OnRecordings::Unweave => sbc_action_unweave(),
     }
 }
 
@@ -129,6 +156,7 @@ fn act(a: Action) -> u32
         Action::WithTail => status_number(records::close_file()),
         Action::Coding(w) => sbc_action_code(is_decoding(w)),
         Action::Stream(s) => act_on_stream(s),
+        Action::Recordings(how) => act_on_recordings(how),
         Action::Unknown => status_number(misused(Action::Unknown)),
     }
 }
