@@ -2,6 +2,10 @@
 #include <stddef.h>
 #include <stdint.h>
 
+// The inner loop is 20 bytes of code. Across two lines of 64 bytes it takes twice as long, and where it lies would be
+// the linker's choice: loops start at multiples of 32 here.
+#pragma GCC optimize("align-loops=32")
+
 // a lists of b words each, one after the other: word j of list r goes to place j * a + r.
 void loop_weave(size_t a, size_t b, const uint8_t *words, uint8_t *out) {
     for (size_t j = 0; j < b; j++)
