@@ -26,6 +26,9 @@ module _ (xs : List ℕ) (bytes : Below 256 xs) (c : Code) (read : parse xs ≡ 
       let a = c .window .lookahead in
       let (out, e, f) = words-reach xs bytes c read ds L b w y y room s h in
       let clear : (j : ℕ) → (j < y - a) ⊎ (y - a + (m + a + 1) ≤ j) → (j < y - a) ⊎ (y + m < j) =
-      λ j o. elim o [ inl l ↦ inl l | inr g ↦ inr (omega arith) ] in
-      (out, e, filter-interval (differ out ds) (y - a) (m + a + 1) 0 (length ds)
-      (λ j l o. same-block out ds j (f j (omega arith) (clear j o))))
+      λ j o. elim o [ inl l ↦ inl l | inr g ↦ inr (omega arith) ] in (
+        out,
+        e,
+        filter-interval (differ out ds) (y - a) (m + a + 1) 0 (length ds)
+            (λ j l o. same-block out ds j (f j (omega arith) (clear j o))),
+      )

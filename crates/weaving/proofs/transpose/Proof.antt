@@ -17,9 +17,11 @@ abbrev μ-loop : tie.MeasureT-loop
 loop-holds : tie.Need-loop-holds Inv-loop μ-loop
 loop-holds c =
     let a = c .before .before .args in
-    let z : 0 ≡ 0 * a .a = omega arith in
-    (omega arith, refl,
-    ap (λ k. map (transposedAt (a .a) (a .b) (now (a .words))) (range k) ++ drop k (now (a .out))) z)
+    let z : 0 ≡ 0 * a .a = omega arith in (
+      omega arith,
+      refl,
+      ap (λ k. map (transposedAt (a .a) (a .b) (now (a .words))) (range k) ++ drop k (now (a .out))) z,
+    )
 
 put-column-requires : tie.Need-put-column-requires Inv-loop μ-loop
 put-column-requires c κs =
