@@ -1,3 +1,4 @@
 pub mod Transposed
+pub mod Spread
 pub mod Weaving
 pub mod Checks

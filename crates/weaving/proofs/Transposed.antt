@@ -1,5 +1,5 @@
 -- Arrays read by columns: where each element goes, and that reading across twice gives the array back.
--- In order: in-array, rows-in; cell, length-transposed, transposed-at; transposed-back.
+-- In order: in-array, rows-in; cell, length-transposed, transposed-at; columns; transposed-back.
 -- Assumes nothing.
 use Rattle.laws.proofs.All.{_≡_, sym, ap, ap₂, subst, _∙_, List, ℕ, zero, suc, _+_, _*_, _/_, _%_, _≤_, _<_, arith}
 use Rattle.laws.proofs.All.{mul-comm, mul-le-mul-right, div-add-mod', div-lt-iff-lt-mul, mod-lt, length, getD, ext-getD}
@@ -29,7 +29,7 @@ module _ (a b : ℕ) (ws : List ℕ) where
       map-range-at (transposedAt a b ws) (a * b) (j * a + r) 0 (in-array a b r j h g) ∙ cell r j h
 
 -- an array with a place has a column
-columns : (a b i : ℕ) → i < a * b → 0 < b
+pub columns : (a b i : ℕ) → i < a * b → 0 < b
 columns a zero i h = absurd (omega arith)
 columns a (suc b) i h = omega arith
 

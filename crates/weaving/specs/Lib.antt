@@ -1,1 +1,2 @@
 pub mod Weaving
+pub mod Spread

@@ -7,11 +7,40 @@ ghost use Rattle.laws.specs.Lists.{from};
 ghost use Rattle.answer.specs.Outcomes.{verdictOn, answerOf, outputOf};
 ghost use Rattle.weaving.specs.Weaving.{transposedAt, transposed, goodDepth, checked};
 ghost use Rattle.weaving.specs.Weaving.{weaveInto, unweaveInto};
+ghost use Rattle.weaving.specs.Spread.{Spread};
 use answer::Answer;
 use answer::Refusal;
 use answer::Verdict;
 
-// Elements j of a lists of b elements each, written behind the j times a that stand before them.
+// Element i of list r, of a lists of b elements each, at place i times a plus r; all other places stay.
+fn put_list(words: &[u8], a: usize, b: usize, r: usize, out: &mut [u8])
+    requires { ⌜ (r < a) × (length (now words) ≡ a * b) × (a * b ≤ length (now out)) ⌝ }
+    ensures written { λ u. ⌜ Spread a b r b (now (words .entry)) (now (out .entry)) (now (out .exit)) ⌝ }
+{
+    let first = r * b;
+    let mut at = r;
+    let mut i = 0;
+    while i < b {
+        out[at] = words[first + i];
+        at += a;
+        i += 1;
+    }
+}
+
+// The words as a lists of b elements each, read across, list by list. It is for few long lists.
+fn put_lists(words: &[u8], a: usize, b: usize, out: &mut [u8])
+    requires { ⌜ (length (now words) ≡ a * b) × (a * b ≤ length (now out)) ⌝ }
+    ensures written { λ r. ⌜
+        now (out .exit) ≡ transposed a b (now (words .entry)) ++ drop (a * b) (now (out .entry)) ⌝ }
+{
+    let mut r = 0;
+    while r < a {
+        put_list(words, a, b, r, out);
+        r += 1;
+    }
+}
+
+// Elements j of a lists of b elements each, behind the j times a places before them.
 fn put_column(words: &[u8], a: usize, b: usize, j: usize, out: &mut [u8])
     requires { ⌜ (j < b) × (length (now words) ≡ a * b) × (a * b ≤ length (now out)) ⌝ }
     ensures written { λ r. ⌜
@@ -20,15 +49,17 @@ fn put_column(words: &[u8], a: usize, b: usize, j: usize, out: &mut [u8])
         ++ drop (j * a + a) (now (out .entry)) ⌝ }
 {
     let at = j * a;
+    let mut source = j;
     let mut r = 0;
     while r < a {
-        out[at + r] = words[r * b + j];
+        out[at + r] = words[source];
+        source += b;
         r += 1;
     }
 }
 
-// The words as a lists of b elements each, one after the other, read across.
-fn transpose(words: &[u8], a: usize, b: usize, out: &mut [u8])
+// The words as a lists of b elements each, read across, column by column. It is for many short lists.
+fn put_columns(words: &[u8], a: usize, b: usize, out: &mut [u8])
     requires { ⌜ (length (now words) ≡ a * b) × (a * b ≤ length (now out)) ⌝ }
     ensures written { λ r. ⌜
         now (out .exit) ≡ transposed a b (now (words .entry)) ++ drop (a * b) (now (out .entry)) ⌝ }
@@ -79,7 +110,7 @@ pub fn weave(d: usize, words: &[u8], out: &mut [u8]) -> Answer
     match v {
         Verdict::Bad(r) => Answer::Refused(r),
         Verdict::Good => {
-            transpose(words, d, words.len() / d, out);
+            put_lists(words, d, words.len() / d, out);
             Answer::Done(words.len())
         }
     }
@@ -96,7 +127,7 @@ pub fn unweave(d: usize, words: &[u8], out: &mut [u8]) -> Answer
     match v {
         Verdict::Bad(r) => Answer::Refused(r),
         Verdict::Good => {
-            transpose(words, words.len() / d, d, out);
+            put_columns(words, words.len() / d, d, out);
             Answer::Done(words.len())
         }
     }

@@ -18,11 +18,11 @@ passes c =
     passed (a .d) (length (now (a .words))) (length (now (a .out))) (k .check .result) (k .check .ensures)
     (c .enum-told .given .1)
 
-div-transpose : tie.Need-div-transpose
-div-transpose c = omega (arith, passes c .deep)
+div-put-columns : tie.Need-div-put-columns
+div-put-columns c = omega (arith, passes c .deep)
 
-transpose-requires : tie.Need-transpose-requires
-transpose-requires c κs =
+put-columns-requires : tie.Need-put-columns-requires
+put-columns-requires c κs =
     let p = passes (c .before) in
     (omega (arith, p .rows, p .columns), omega (arith, p .rows, p .columns, p .fits))
 
@@ -47,11 +47,11 @@ returns-2 c =
     let r = unwoven (a .d) ws in
     finished (unweaveInto (a .d) (length (now (a .out))) ws) r (now (a .out)) _ (length ws)
     (ap (λ o. onward o (λ n. done r)) (p .done)) (sym (length-unwoven (a .d) ws (p .good)))
-    (t .transpose .ensures ∙ ap (λ n. r ++ drop n (now (a .out))) (sym (p .columns)))
+    (t .put-columns .ensures ∙ ap (λ n. r ++ drop n (now (a .out))) (sym (p .columns)))
 
 pub unweave-spec : {M : Type 1} → statement M
 unweave-spec =
     tie.close
     (tie.spec
-    (λ c κs. search needs) (λ c. search needs) (λ c. search needs) div-transpose transpose-requires returns
+    (λ c κs. search needs) (λ c. search needs) (λ c. search needs) div-put-columns put-columns-requires returns
     (λ c. search needs) returns-2)

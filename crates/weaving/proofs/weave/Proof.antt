@@ -18,11 +18,11 @@ passes c =
     passed (a .d) (length (now (a .words))) (length (now (a .out))) (k .check .result) (k .check .ensures)
     (c .enum-told .given .1)
 
-div-transpose : tie.Need-div-transpose
-div-transpose c = omega (arith, passes c .deep)
+div-put-lists : tie.Need-div-put-lists
+div-put-lists c = omega (arith, passes c .deep)
 
-transpose-requires : tie.Need-transpose-requires
-transpose-requires c κs =
+put-lists-requires : tie.Need-put-lists-requires
+put-lists-requires c κs =
     let p = passes (c .before) in
     (omega (arith, p .rows, p .columns), omega (arith, p .rows, p .columns, p .fits))
 
@@ -47,11 +47,11 @@ returns-2 c =
     let r = woven (a .d) ws in
     finished (weaveInto (a .d) (length (now (a .out))) ws) r (now (a .out)) _ (length ws)
     (ap (λ o. onward o (λ n. done r)) (p .done)) (sym (length-woven (a .d) ws (p .good)))
-    (t .transpose .ensures ∙ ap (λ n. r ++ drop n (now (a .out))) (sym (p .rows)))
+    (t .put-lists .ensures ∙ ap (λ n. r ++ drop n (now (a .out))) (sym (p .rows)))
 
 pub weave-spec : {M : Type 1} → statement M
 weave-spec =
     tie.close
     (tie.spec
-    (λ c κs. search needs) (λ c. search needs) (λ c. search needs) div-transpose transpose-requires returns
+    (λ c κs. search needs) (λ c. search needs) (λ c. search needs) div-put-lists put-lists-requires returns
     (λ c. search needs) returns-2)

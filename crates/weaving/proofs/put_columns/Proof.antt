@@ -1,10 +1,10 @@
--- `transpose` meets its contract: each turn puts one column behind those before it.
+-- `put_columns` meets its contract: each turn puts one column behind those before it.
 -- Assumes nothing.
 use Rattle.laws.proofs.All.{_≡_, refl, sym, ap, _∙_, _++_, map, _+_, _-_, _*_, _≤_, mul-comm, arith, now, length, take}
 use Rattle.laws.proofs.All.{drop, from, range, piece-more, needs}
 use Rattle.weaving.specs.Weaving.{transposedAt, transposed}
-use Rattle.weaving.proofs.transpose.Statement.{statement}
-use Rattle.weaving.proofs.transpose.Tie as tie
+use Rattle.weaving.proofs.put_columns.Statement.{statement}
+use Rattle.weaving.proofs.put_columns.Tie as tie
 
 abbrev Inv-loop : tie.InvT-loop
 Inv-loop words a b out₀ j₀ out j =
@@ -58,8 +58,8 @@ returns c =
     ∙ ap (λ k. map (transposedAt (a .a) (a .b) (now (a .words))) (range k) ++ drop k (now (a .out)))
     (ap (λ j. j * a .a) e ∙ mul-comm (a .b) (a .a))
 
-pub transpose-spec : {M : Type 1} → statement M
-transpose-spec =
+pub put-columns-spec : {M : Type 1} → statement M
+put-columns-spec =
     tie.close
     (tie.spec
     Inv-loop μ-loop loop-holds put-column-requires (λ c. search needs) (λ c. search needs) loop-again same-length
