@@ -16,9 +16,9 @@ pub use lib.Pow.{field, high, low, mod-mod-pow, mod-pow-add, pow-add, pow-mono, 
 pub use lib.Pow.{split}
 pub use lib.Seq.{append-snoc, drop-append-add, drop-append-le, drop-at, drop-cons, drop-drop, drop-length, drop-nil}
 pub use lib.Seq.{drop-paste, drop-set-lt, ext-getD, getD-append-add, getD-append-seam, getD-at, getD-drop}
-pub use lib.Seq.{getD-set-other, getD-set-same, getD-take, length-paste, length-take-le, paste, paste-suc, paste-zero, set-split}
-pub use lib.Seq.{slice, slice-cons, slice-empty, split-at, take-all, take-append-add, take-append-le, take-append-seam}
-pub use lib.Seq.{take-at, take-nil, take-paste, take-set-lt, take-suc, take-suc-set, take-take}
+pub use lib.Seq.{getD-set-other, getD-set-same, getD-take, length-paste, length-take-le, paste, paste-suc, paste-zero}
+pub use lib.Seq.{set-split, slice, slice-cons, slice-empty, split-at, take-all, take-append-add, take-append-le}
+pub use lib.Seq.{take-append-seam, take-at, take-nil, take-paste, take-set-lt, take-suc, take-suc-set, take-take}
 pub use mathlib.Core.Bool.{Bool, Bool·beq, _&&_, _||_, and-assoc, and-false, and-true, false, not, or-assoc}
 pub use mathlib.Core.Bool.{or-comm, or-false, true}
 pub use mathlib.Core.List.{List, [], _++_, _∷_, append-assoc, append-nil, map}
