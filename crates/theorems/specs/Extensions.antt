@@ -206,7 +206,7 @@ pub one-word-each : (D : ℕ) (ws W : List ℕ) → T (goodDepth D (length ws)) 
     (y : ℕ) × SameOutside y y (part k r (unwoven D W)) (part k r ws)
 one-word-each = Rattle.damage.proofs.Scratch.one-word-each
 
--- Fewer places overwritten are a special case: what is said of damage from x to z holds of damage from x to y below z.
+-- Fewer places overwritten are a special case: damage from x to y is damage from x to z, where y is at most z.
 pub fewer-places : (x y z : ℕ) (L R : List ℕ) → y ≤ z → SameOutside x y L R → SameOutside x z L R
 fewer-places = Rattle.codec.proofs.Reach.outside-wider
 

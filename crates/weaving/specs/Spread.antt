@@ -6,7 +6,7 @@ use mathlib.Core.List.{List}
 use Prim.Native.Nat.{ℕ, _+_, _*_, _<_}
 use lib.ListN.{length, getD}
 
--- the first n elements of list r, of lists of b elements each in ws, stand at places i × a + r of S, and every other
+-- the first n elements of list r, of lists of `b` elements each in ws, stand at places i × a + r of S, and every other
 -- place of S holds what it held in R
 pub record Spread (a b r n : ℕ) (ws R S : List ℕ) : Type 0 where
   pub long : length S ≡ length R

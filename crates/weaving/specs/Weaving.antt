@@ -13,12 +13,12 @@ use Rattle.laws.specs.Lists.{range}
 use Rattle.answer.specs.declared.Refusal.the-variants.{Depth, ShortOutput}
 use Rattle.answer.specs.Outcomes.{Outcome, done, unless, onward}
 
--- place i of a lists of b elements each, one after the other, read across: element i / a of list i % a
+-- place i of `a` lists of `b` elements each, one after the other, read across: element i / a of list i % a
 abbrev pub transposedAt : ℕ → ℕ → List ℕ → ℕ → ℕ
 transposedAt a b ws i = getD ws (i % a * b + i / a) 0
 
--- a lists of b elements each, one after the other, read across: the first elements of all, then the second, and so on
--- (in the field: an array of a rows, read by columns)
+-- `a` lists of `b` elements each, one after the other, read across: the first elements of all, then the second, and so
+-- on (in the field: an array of `a` rows, read by columns)
 unfoldable pub transposed : ℕ → ℕ → List ℕ → List ℕ
 transposed a b ws = map (transposedAt a b ws) (range (a * b))
 

@@ -12,7 +12,7 @@ use answer::Answer;
 use answer::Refusal;
 use answer::Verdict;
 
-// Element i of list r, of a lists of b elements each, at place i times a plus r; all other places stay.
+// Element i of list r, of `a` lists of `b` elements each, at place i times a plus r; all other places stay.
 fn put_list(words: &[u8], a: usize, b: usize, r: usize, out: &mut [u8])
     requires { ⌜ (r < a) × (length (now words) ≡ a * b) × (a * b ≤ length (now out)) ⌝ }
     ensures written { λ u. ⌜ Spread a b r b (now (words .entry)) (now (out .entry)) (now (out .exit)) ⌝ }
@@ -27,7 +27,7 @@ fn put_list(words: &[u8], a: usize, b: usize, r: usize, out: &mut [u8])
     }
 }
 
-// The words as a lists of b elements each, read across, list by list. It is for few long lists.
+// The words as `a` lists of `b` elements each, read across, list by list. It is for few long lists.
 fn put_lists(words: &[u8], a: usize, b: usize, out: &mut [u8])
     requires { ⌜ (length (now words) ≡ a * b) × (a * b ≤ length (now out)) ⌝ }
     ensures written { λ r. ⌜
@@ -40,7 +40,7 @@ fn put_lists(words: &[u8], a: usize, b: usize, out: &mut [u8])
     }
 }
 
-// Elements j of a lists of b elements each, behind the j times a places before them.
+// Elements j of `a` lists of `b` elements each, behind the j times a places before them.
 fn put_column(words: &[u8], a: usize, b: usize, j: usize, out: &mut [u8])
     requires { ⌜ (j < b) × (length (now words) ≡ a * b) × (a * b ≤ length (now out)) ⌝ }
     ensures written { λ r. ⌜
@@ -58,7 +58,7 @@ fn put_column(words: &[u8], a: usize, b: usize, j: usize, out: &mut [u8])
     }
 }
 
-// The words as a lists of b elements each, read across, column by column. It is for many short lists.
+// The words as `a` lists of `b` elements each, read across, column by column. It is for many short lists.
 fn put_columns(words: &[u8], a: usize, b: usize, out: &mut [u8])
     requires { ⌜ (length (now words) ≡ a * b) × (a * b ≤ length (now out)) ⌝ }
     ensures written { λ r. ⌜
