@@ -2,8 +2,8 @@
 #include <stddef.h>
 #include <stdint.h>
 
-// The inner loop is 20 bytes of code. Across two lines of 64 bytes it takes twice as long, and where it lies would be
-// the linker's choice: loops start at multiples of 32 here.
+// Loops start at multiples of 32, so that their place is not the linker's choice: without this the times of these loops
+// differed by a factor of two from one link to another. (They still differ from run to run; see RESULTS.md.)
 #pragma GCC optimize("align-loops=32")
 
 // a lists of b words each, one after the other: word j of list r goes to place j * a + r. Place by place.
