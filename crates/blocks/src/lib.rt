@@ -5,37 +5,40 @@ ghost use Prim.Native.Nat.{_+_, _≤_};
 ghost use lib.ListN.{length, drop};
 ghost use Rattle.laws.specs.Lists.{from};
 ghost use Rattle.table.specs.Edges.{borrowed, rowsOf};
-ghost use Rattle.runs.specs.EdgeRuns.{Laid};
+ghost use Rattle.groups.specs.Groups.{Grouped};
 ghost use Rattle.stepping.specs.Reading.{block};
 ghost use Rattle.stepping.specs.BlockParts.{under};
 use reading::blocks::read_block;
 
-// As many blocks of the words as `count` says, from block `first` on, in front of the output.
+// As many blocks of the words as `count` says, from block `begin` on, in front of the output.
 pub fn read_blocks(
     states: usize,
     n: usize,
     word: &[u8; 2048],
     next: &[u8; 2048],
     start: &[u16; 257],
-    order: &[u16; 2048],
+    first: &[u16; 2048],
+    low: &[u64; 2048],
+    high: &[u64; 2048],
     words: &[u8],
-    first: usize,
+    begin: usize,
     m: usize,
     a: usize,
     count: usize,
     out: &mut [u8],
 )
     requires { ⌜
-        Laid (borrowed states n word next) (now start) (now order) × (first + count + a ≤ length (now words))
+        Grouped (borrowed states n word next) (now start) (now first) (now low) (now high)
+        × (begin + count + a ≤ length (now words))
         × (count ≤ length (now out)) ⌝ }
     ensures written { λ r. ⌜
         now (out .exit)
         ≡ map (block (under (rowsOf (borrowed states n (word .entry) (next .entry))) m a)
-        (now (words .entry))) (from first count) ++ drop count (now (out .entry)) ⌝ }
+        (now (words .entry))) (from begin count) ++ drop count (now (out .entry)) ⌝ }
 {
     let mut i = 0;
     while i < count {
-        out[i] = read_block(states, n, word, next, start, order, words, first + i, m, a);
+        out[i] = read_block(states, n, word, next, start, first, low, high, words, begin + i, m, a);
         i += 1;
     }
 }

@@ -7,7 +7,7 @@ use answer::Answer;
 use answer::Refusal;
 use answer::bytes::first_bad;
 use blocks::read_blocks;
-use runs::laying::lay;
+use groups::laying::lay;
 use table::Table;
 use table::chains::ways;
 use table::ready::is_ready;
@@ -39,16 +39,20 @@ pub fn decode_with(t: Table, words: &[u8], out: &mut [u8]) -> Answer
     let n = ways(t.p);
     let word = t.word;
     let next = t.next;
-    let r = lay(t.states, n, &word, &next);
-    let start = r.start;
-    let order = r.order;
+    let mut start = [0u16; 257];
+    let mut first = [0u16; 2048];
+    let mut low = [0u64; 2048];
+    let mut high = [0u64; 2048];
+    lay(t.states, n, &word, &next, &mut start, &mut first, &mut low, &mut high);
     read_blocks(
         t.states,
         n,
         &word,
         &next,
         &start,
-        &order,
+        &first,
+        &low,
+        &high,
         words,
         0,
         t.memory,

@@ -8,6 +8,7 @@ ghost use Rattle.table.specs.Edges.{borrowed, rowsOf, Linked};
 ghost use Rattle.pairs.specs.PairSets.{pairsIn, Long};
 ghost use Rattle.windows.specs.Steps.{size, withWord, Leading, Room};
 ghost use Rattle.finding.specs.Finding.{foundSize};
+use pairs::sets::fill;
 use table::Table;
 use table::chains::chain;
 use table::chains::ways;
@@ -57,11 +58,11 @@ fn try_memory(
     next: &[u8; 2048],
     head: &[u16; 256],
     link: &[u16; 2048],
-    past: &[bool; 16384],
+    past: &[u64; 256],
     best: Best,
     m: usize,
-    set: &mut [bool; 16384],
-    spare: &mut [bool; 16384],
+    set: &mut [u64; 256],
+    spare: &mut [u64; 256],
 ) -> Best
     requires { ⌜
         Linked (borrowed states n word next) (now head) (now link) × (m ≤ 15)
@@ -110,8 +111,8 @@ fn stop_at(
     link: &[u16; 2048],
     m: usize,
     last: usize,
-    past: &mut [bool; 16384],
-    spare: &mut [bool; 16384],
+    past: &mut [u64; 256],
+    spare: &mut [u64; 256],
 ) -> usize
     requires { ⌜
         Linked (borrowed states n word next) (now head) (now link) × Long (now past) × Long (now spare) ⌝ }
@@ -146,9 +147,10 @@ fn least(
     ensures answer { λ r. ⌜
         window (rowsOf (borrowed states n (word .entry) (next .entry))) ≡ size (r .memory) (r .lookahead) ⌝ }
 {
-    let mut past = [true; 16384];
-    let mut set = [false; 16384];
-    let mut spare = [false; 16384];
+    let mut past = [0u64; 256];
+    let mut set = [0u64; 256];
+    let mut spare = [0u64; 256];
+    fill(states, &mut past);
     let mut best = no_window();
     let mut stop: usize = 16;
     let mut m = 0;

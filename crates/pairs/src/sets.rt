@@ -1,83 +1,93 @@
-// Sets of pairs of states, the pair of x and y at x * 128 + y, in arrays that are lent: cleared, copied and compared.
-// Only the places of the first `states` rows count.
+// Sets of pairs of states in arrays that are lent, for each first state a set in two words: cleared, copied and
+// compared. Only the rows of the first `states` states count.
 ghost use mathlib.Core.Path.{_≡_};
-ghost use mathlib.Core.Bool.{true, false, not};
+ghost use mathlib.Core.Bool.{true, false, not, _&&_, _||_};
 ghost use Prim.Native.Nat.{ℕ, _*_, _≤_, _<_};
-ghost use Rattle.laws.specs.Lists.{if_then_else_};
-ghost use Rattle.laws.specs.Sets.{member};
+ghost use lib.Dec.{eqb, ltb};
 ghost use Rattle.table.specs.Marks.{some};
-ghost use Rattle.pairs.specs.PairSets.{pairsIn, Long, holdsAt, differsAt};
+ghost use Rattle.bitsets.specs.BitSets.{holds, setAt};
+ghost use Rattle.pairs.specs.PairSets.{pairsIn, Long, rowHas, differsAt};
+use bitsets::every;
+use bitsets::meets;
+use bitsets::rows::put_at;
+use bitsets::rows::set_at;
+use bitsets::with;
 
 // Takes every pair out of the set.
-pub fn clear(states: usize, out: &mut [bool; 16384])
+pub fn clear(states: usize, out: &mut [u64; 256])
     requires { ⌜ (states ≤ 128) × Long (now out) ⌝ }
     ensures written { λ r. ⌜
-        Long (now (out .exit)) × ((z : ℕ) → z < states * 128 → member (now (out .exit)) z ≡ false) ⌝ }
+        Long (now (out .exit)) × ((x y : ℕ) → x < states → holds (setAt (now (out .exit)) x) y ≡ false) ⌝ }
 {
     let mut z = 0;
-    while z < states * 128 {
-        out[z] = false;
+    while z < 2 * states {
+        out[z] = 0;
         z += 1;
     }
 }
 
+// Makes the set hold every pair of states.
+pub fn fill(states: usize, out: &mut [u64; 256])
+    requires { ⌜ (states ≤ 128) × Long (now out) ⌝ }
+    ensures written { λ r. ⌜
+        Long (now (out .exit)) × ((x y : ℕ) → x < states → holds (setAt (now (out .exit)) x) y ≡ ltb y states) ⌝ }
+{
+    let all = every(states);
+    let mut x = 0;
+    while x < states {
+        put_at(out, x, all);
+        x += 1;
+    }
+}
+
+// Puts the pair of the start with itself into the set.
+pub fn add_start(out: &mut [u64; 256])
+    requires { ⌜ Long (now out) ⌝ }
+    ensures written { λ r. ⌜
+        Long (now (out .exit)) × ((x y : ℕ) → holds (setAt (now (out .exit)) x) y
+        ≡ (holds (setAt (now (out .entry)) x) y || (eqb x 0 && eqb y 0))) ⌝ }
+{
+    let row = with(set_at(out, 0), 0);
+    put_at(out, 0, row);
+}
+
 // Makes the set `out` hold the pairs of `set`.
-fn copy(states: usize, set: &[bool; 16384], out: &mut [bool; 16384])
+fn copy(states: usize, set: &[u64; 256], out: &mut [u64; 256])
     requires { ⌜ (states ≤ 128) × Long (now out) ⌝ }
     ensures written { λ r. ⌜
         Long (now (out .exit)) × (pairsIn states (now (out .exit)) ≡ pairsIn states (now (set .entry))) ⌝ }
 {
     let mut z = 0;
-    while z < states * 128 {
+    while z < 2 * states {
         out[z] = set[z];
         z += 1;
     }
 }
 
-// The place z holds a pair of states.
-fn holds(states: usize, pairs: &[bool; 16384], z: usize) -> bool
-    requires { ⌜ z < 16384 ⌝ }
-    ensures answer { λ r. ⌜ r ≡ holdsAt states (now (pairs .entry)) z ⌝ }
-{
-    if z % 128 < states {
-        return pairs[z];
-    }
-    false
-}
-
 // No pair is in the set.
-pub fn is_empty(states: usize, pairs: &[bool; 16384]) -> bool
+pub fn is_empty(states: usize, pairs: &[u64; 256]) -> bool
     requires { ⌜ states ≤ 128 ⌝ }
-    ensures answer { λ r. ⌜ r ≡ not (some (holdsAt states (now (pairs .entry))) (states * 128)) ⌝ }
+    ensures answer { λ r. ⌜ r ≡ not (some (rowHas states (now (pairs .entry))) states) ⌝ }
 {
-    let mut z = 0;
-    while z < states * 128 {
-        if holds(states, pairs, z) {
+    let all = every(states);
+    let mut x = 0;
+    while x < states {
+        if meets(set_at(pairs, x), all) {
             return false;
         }
-        z += 1;
+        x += 1;
     }
     true
 }
 
-// One of two answers is yes, and the other no.
-fn differ(a: bool, b: bool) -> bool
-    ensures answer { λ r. ⌜ r ≡ (if a then not b else b) ⌝ }
-{
-    if a {
-        return !b;
-    }
-    b
-}
-
-// The sets hold the same places of states.
-fn same_pairs(states: usize, a: &[bool; 16384], b: &[bool; 16384]) -> bool
+// The arrays are the same in all that counts.
+fn same_pairs(states: usize, a: &[u64; 256], b: &[u64; 256]) -> bool
     requires { ⌜ states ≤ 128 ⌝ }
-    ensures answer { λ r. ⌜ r ≡ not (some (differsAt (now (a .entry)) (now (b .entry))) (states * 128)) ⌝ }
+    ensures answer { λ r. ⌜ r ≡ not (some (differsAt (now (a .entry)) (now (b .entry))) (2 * states)) ⌝ }
 {
     let mut z = 0;
-    while z < states * 128 {
-        if differ(a[z], b[z]) {
+    while z < 2 * states {
+        if a[z] != b[z] {
             return false;
         }
         z += 1;
@@ -86,7 +96,7 @@ fn same_pairs(states: usize, a: &[bool; 16384], b: &[bool; 16384]) -> bool
 }
 
 // Makes the set `out` hold the pairs of `set`; whether it held the same before.
-pub fn replace(states: usize, set: &[bool; 16384], out: &mut [bool; 16384]) -> bool
+pub fn replace(states: usize, set: &[u64; 256], out: &mut [u64; 256]) -> bool
     requires { ⌜ (states ≤ 128) × Long (now out) ⌝ }
     ensures answer { λ r. ⌜ (r ≡ true → pairsIn states (now (out .exit)) ≡ pairsIn states (now (out .entry))) ⌝ }
     ensures written { λ r. ⌜

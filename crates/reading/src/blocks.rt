@@ -1,77 +1,125 @@
-// One block by the reading rule: the past set, the states that can read the words ahead, and the datum of an edge
-// between them, or the mark that says where there is none.
+// One block by the reading rule: the past set, the states that can read the words ahead, and the datum of the first
+// edge between them, or the mark that says where there is none.
 ghost use mathlib.Core.Path.{_≡_};
-ghost use Prim.Native.Nat.{_+_, _-_, _≤_, _<_};
+ghost use Prim.Native.Nat.{ℕ, _+_, _-_, _*_, _/_, _≤_, _<_};
+ghost use mathlib.Core.List.{List};
+ghost use lib.Dec.{eqb, ltb};
 ghost use lib.ListN.{length, getD};
-ghost use Rattle.table.specs.Edges.{borrowed, rowsOf};
-ghost use Rattle.stepping.specs.Reading.{readings, markFor, past, block};
-ghost use Rattle.runs.specs.EdgeRuns.{Laid};
-ghost use Rattle.stepping.specs.StateSets.{statesIn};
-ghost use Rattle.stepping.specs.BlockParts.{joinsAt, noDatum, under};
-use stepping::backs::readers;
-use stepping::steps::EVERY;
-use stepping::steps::step_all;
+ghost use Rattle.table.specs.Edges.{Arrays, borrowed, rowsOf};
+ghost use Rattle.bitsets.specs.BitSets.{holds, yesNo};
+ghost use Rattle.groups.specs.Groups.{sourceAt, Grouped, between};
+ghost use Rattle.stepping.specs.Reading.{markFor, past, block};
+ghost use Rattle.stepping.specs.BlockParts.{joinsAt, firstGroup, entersAt, firstInto, holdsFrom, under};
+use bitsets::BitSet;
+use bitsets::every;
+use bitsets::has;
+use bitsets::meets;
+use bitsets::none;
+use bitsets::with;
+use groups::targets_at;
+use stepping::readers;
+use stepping::step_all;
+use table::chains::wide;
 
-// The edge at place e leads from the one set into the other.
-fn joins(next: &[u8; 2048], past: &[bool; 128], ahead: &[bool; 128], e: usize) -> bool
-    requires { ⌜ (e < 2048) × (getD (now next) e 0 < 128) ⌝ }
-    ensures answer { λ r. ⌜ r ≡ joinsAt (now (next .entry)) (now (past .entry)) (now (ahead .entry)) e ⌝ }
+// Group k leads from a state of the one set into the other.
+fn joins(
+    first: &[u16; 2048],
+    low: &[u64; 2048],
+    high: &[u64; 2048],
+    past: BitSet,
+    ahead: BitSet,
+    k: usize,
+) -> bool
+    requires { ⌜ (k < 2048) × (sourceAt (now first) k < 128) ⌝ }
+    ensures answer { λ r. ⌜
+        r ≡ joinsAt (now (first .entry)) (now (low .entry)) (now (high .entry)) past ahead k ⌝ }
 {
-    if past[e / 16] {
-        return ahead[next[e] as usize];
+    if has(past, first[k] as usize / 16) {
+        return meets(targets_at(low, high, k), ahead);
     }
     false
 }
 
-// The datum of the first edge with the word w from the one set into the other, or 255 where there is none. Runs go from
-// the last edge to the first, so the last one found is the first.
-fn datum_by(
-    states: usize,
-    n: usize,
-    word: &[u8; 2048],
-    next: &[u8; 2048],
+// The first group of the word w from the one set into the other, or 2048 where there is none.
+fn first_group(
     start: &[u16; 257],
-    order: &[u16; 2048],
-    past: &[bool; 128],
-    ahead: &[bool; 128],
+    first: &[u16; 2048],
+    low: &[u64; 2048],
+    high: &[u64; 2048],
+    past: BitSet,
     w: u8,
-) -> u8
-    requires { ⌜ Laid (borrowed states n word next) (now start) (now order) ⌝ }
+    ahead: BitSet,
+) -> usize
+    requires { ⌜ ((t : Arrays) × Grouped t (now start) (now first) (now low) (now high)) ⌝ }
     ensures answer { λ r. ⌜
-        r ≡ getD (readings (rowsOf (borrowed states n (word .entry) (next .entry)))
-        (statesIn states (now (past .entry))) w (statesIn states (now (ahead .entry)))) 0 noDatum ⌝ }
+        r ≡ firstGroup (now (start .entry)) (now (first .entry)) (now (low .entry)) (now (high .entry)) past w ahead ⌝ }
 {
-    let mut datum: u8 = 255;
-    let mut k = start[w as usize] as usize;
     let end = start[w as usize + 1] as usize;
+    let mut k = start[w as usize] as usize;
     while k < end {
-        let e = order[k] as usize;
-        if joins(next, past, ahead, e) {
-            datum = (e % 16) as u8;
+        if joins(first, low, high, past, ahead, k) {
+            return k;
         }
         k += 1;
     }
-    datum
+    2048
 }
 
-// The mark of a block that no edge reads: 255 where an edge with the word w leads from the past set to any state, and
-// 254 where there is none.
-fn mark_for(
-    states: usize,
-    n: usize,
-    word: &[u8; 2048],
-    next: &[u8; 2048],
-    start: &[u16; 257],
-    order: &[u16; 2048],
-    past: &[bool; 128],
-    w: u8,
-) -> u8
-    requires { ⌜ Laid (borrowed states n word next) (now start) (now order) ⌝ }
-    ensures answer { λ r. ⌜
-        r ≡ markFor (rowsOf (borrowed states n (word .entry) (next .entry))) (statesIn states (now (past .entry))) w ⌝ }
+// The entry at place e has the word w and leads into the set.
+fn enters(word: &[u8; 2048], next: &[u8; 2048], w: u8, ahead: BitSet, e: usize) -> bool
+    requires { ⌜ (e < 2048) × (getD (now next) e 0 < 128) ⌝ }
+    ensures answer { λ r. ⌜ r ≡ entersAt (now (word .entry)) (now (next .entry)) w ahead e ⌝ }
 {
-    let datum = datum_by(states, n, word, next, start, order, past, &EVERY, w);
-    if datum < 16 {
+    if word[e] == w {
+        return has(ahead, wide(next[e]));
+    }
+    false
+}
+
+// The first entry with the word w into the set, of those from place e on and below `end`, or 2048.
+fn first_into(word: &[u8; 2048], next: &[u8; 2048], w: u8, ahead: BitSet, e: usize, end: usize) -> usize
+    requires { ⌜ (end ≤ 2048) × ((j : ℕ) → e ≤ j → j < end → getD (now next) j 0 < 128) ⌝ }
+    ensures answer { λ r. ⌜ r ≡ firstInto (now (word .entry)) (now (next .entry)) w ahead e end ⌝ }
+{
+    let mut j = e;
+    while j < end {
+        if enters(word, next, w, ahead, j) {
+            return j;
+        }
+        j += 1;
+    }
+    2048
+}
+
+// A group of the word w is that of a state of the set.
+fn has_word(start: &[u16; 257], first: &[u16; 2048], set: BitSet, w: u8) -> bool
+    requires { ⌜
+        ((w : ℕ) → w < 256 → getD (now start) (w + 1) 0 ≤ 2048)
+        × ((k : ℕ) → getD (now start) w 0 ≤ k → k < getD (now start) (w + 1) 0 → getD (now first) k 0 < 2048) ⌝ }
+    ensures answer { λ r. ⌜
+        r ≡ between (holdsFrom (now (first .entry)) set) (getD (now (start .entry)) w 0)
+        (getD (now (start .entry)) (w + 1) 0) ⌝ }
+{
+    let end = start[w as usize + 1] as usize;
+    let mut k = start[w as usize] as usize;
+    while k < end {
+        if has(set, first[k] as usize / 16) {
+            return true;
+        }
+        k += 1;
+    }
+    false
+}
+
+// The mark of a block that no edge reads: 255 where an edge with the word w leaves the past set, and 254 where none
+// does.
+fn mark_for(start: &[u16; 257], first: &[u16; 2048], past: BitSet, w: u8) -> u8
+    requires { ⌜ ((t : Arrays) × (low : List ℕ) × (high : List ℕ) × Grouped t (now start) (now first) low high) ⌝ }
+    ensures answer { λ r. ⌜
+        ((t : Arrays) (low high : List ℕ) → Grouped t (now (start .entry)) (now (first .entry)) low high
+        → r ≡ markFor (rowsOf t) (yesNo (t .states) past) w) ⌝ }
+{
+    if has_word(start, first, past, w) {
         return 255;
     }
     254
@@ -87,58 +135,34 @@ pub fn less(i: usize, m: usize) -> usize
     i - m
 }
 
+// The states from which a window of memory m starts at block i: all, or state 0 where fewer words were before.
+fn past_start(i: usize, m: usize) -> BitSet
+    ensures answer { λ r. ⌜
+        (i < m → (s : ℕ) → holds r s ≡ eqb 0 s) × (m ≤ i → (s : ℕ) → holds r s ≡ ltb s 128) ⌝ }
+{
+    if i < m {
+        return with(none(), 0);
+    }
+    every(128)
+}
+
 // The states in which block i may start: reachable by the m words before it, or by all of them from state 0.
 fn past_set(
-    states: usize,
-    n: usize,
-    word: &[u8; 2048],
-    next: &[u8; 2048],
     start: &[u16; 257],
-    order: &[u16; 2048],
+    first: &[u16; 2048],
+    low: &[u64; 2048],
+    high: &[u64; 2048],
     words: &[u8],
     i: usize,
     m: usize,
-    out: &mut [bool; 128],
-)
+) -> BitSet
     requires { ⌜
-        Laid (borrowed states n word next) (now start) (now order) × (i ≤ length (now words)) ⌝ }
-    ensures written { λ r. ⌜
-        statesIn states (now (out .exit))
-        ≡ past (under (rowsOf (borrowed states n (word .entry) (next .entry))) m 0)
-        (now (words .entry)) i ⌝ }
+        ((t : Arrays) × Grouped t (now start) (now first) (now low) (now high)) × (i ≤ length (now words)) ⌝ }
+    ensures answer { λ r. ⌜
+        ((t : Arrays) → Grouped t (now (start .entry)) (now (first .entry)) (now (low .entry)) (now (high .entry))
+        → yesNo (t .states) r ≡ past (under (rowsOf t) m 0) (now (words .entry)) i) ⌝ }
 {
-    let from = less(i, m);
-    if i < m {
-        let mut one = [false; 128];
-        one[0] = true;
-        step_all(
-            states,
-            n,
-            word,
-            next,
-            start,
-            order,
-            &one,
-            words,
-            from,
-            i,
-            out,
-        );
-        return;
-    }
-    step_all(
-        states,
-        n,
-        word,
-        next,
-        start,
-        order,
-        &EVERY,
-        words,
-        from,
-        i,
-        out,
-    );
+    step_all(start, first, low, high, past_start(i, m), words, less(i, m), i)
 }
 
 // Block i of the words, in a window of memory m and lookahead a.
@@ -148,36 +172,27 @@ pub fn read_block(
     word: &[u8; 2048],
     next: &[u8; 2048],
     start: &[u16; 257],
-    order: &[u16; 2048],
+    first: &[u16; 2048],
+    low: &[u64; 2048],
+    high: &[u64; 2048],
     words: &[u8],
     i: usize,
     m: usize,
     a: usize,
 ) -> u8
     requires { ⌜
-        Laid (borrowed states n word next) (now start) (now order) × (i + a < length (now words)) ⌝ }
+        Grouped (borrowed states n word next) (now start) (now first) (now low) (now high)
+        × (i + a < length (now words)) ⌝ }
     ensures answer { λ r. ⌜
         r ≡ block (under (rowsOf (borrowed states n (word .entry) (next .entry))) m a)
         (now (words .entry)) i ⌝ }
 {
-    let mut past = [false; 128];
-    past_set(states, n, word, next, start, order, words, i, m, &mut past);
-    let mut ahead = [false; 128];
-    readers(
-        states,
-        n,
-        word,
-        next,
-        start,
-        order,
-        words,
-        i + 1,
-        i + 1 + a,
-        &mut ahead,
-    );
-    let datum = datum_by(states, n, word, next, start, order, &past, &ahead, words[i]);
-    if datum < 16 {
-        return datum;
+    let past = past_set(start, first, low, high, words, i, m);
+    let ahead = readers(start, first, low, high, words, i + 1, i + 1 + a);
+    let k = first_group(start, first, low, high, past, words[i], ahead);
+    if k < 2048 {
+        let e = first[k] as usize;
+        return (first_into(word, next, words[i], ahead, e, e / 16 * 16 + n) % 16) as u8;
     }
-    mark_for(states, n, word, next, start, order, &past, words[i])
+    mark_for(start, first, past, words[i])
 }

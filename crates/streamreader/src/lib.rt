@@ -7,7 +7,7 @@ ghost use lib.ListN.{length, take, drop};
 ghost use Rattle.laws.specs.Lists.{range, from};
 ghost use Rattle.answer.specs.Outcomes.{answerOf, outputOf};
 ghost use Rattle.table.specs.Edges.{borrowed, rowsOf};
-ghost use Rattle.runs.specs.EdgeRuns.{Laid};
+ghost use Rattle.groups.specs.Groups.{Grouped};
 ghost use Rattle.stepping.specs.Reading.{block};
 ghost use Rattle.stepping.specs.BlockParts.{under};
 ghost use Rattle.packing.specs.Streams.{limit, unpacked};
@@ -18,7 +18,7 @@ use blocks::read_blocks;
 use packing::is_stream;
 use packing::reading::get_words;
 use reading::blocks::less;
-use runs::laying::lay;
+use groups::laying::lay;
 use table::Table;
 use table::chains::ways;
 use table::ready::is_ready;
@@ -40,7 +40,9 @@ fn read_part(
     word: &[u8; 2048],
     next: &[u8; 2048],
     start: &[u16; 257],
-    order: &[u16; 2048],
+    first: &[u16; 2048],
+    low: &[u64; 2048],
+    high: &[u64; 2048],
     stream: &[u8],
     q: usize,
     count: usize,
@@ -51,7 +53,7 @@ fn read_part(
     out: &mut [u8],
 )
     requires { ⌜
-        Laid (borrowed states n word next) (now start) (now order) × (q ≤ 8) × (count ≤ limit)
+        Grouped (borrowed states n word next) (now start) (now first) (now low) (now high) × (q ≤ 8) × (count ≤ limit)
         × (count * q ≤ 8 * length (now stream)) × (m ≤ 15) × (a ≤ 15) × (i % 8 ≡ 0) × (i ≤ end)
         × (end ≤ i + 1024) × (end + a ≤ count) × (end ≤ length (now out)) ⌝ }
     ensures written { λ r. ⌜
@@ -72,7 +74,9 @@ fn read_part(
         word,
         next,
         start,
-        order,
+        first,
+        low,
+        high,
         &words,
         i - base,
         m,
@@ -89,7 +93,9 @@ fn read_parts(
     word: &[u8; 2048],
     next: &[u8; 2048],
     start: &[u16; 257],
-    order: &[u16; 2048],
+    first: &[u16; 2048],
+    low: &[u64; 2048],
+    high: &[u64; 2048],
     stream: &[u8],
     q: usize,
     count: usize,
@@ -98,7 +104,7 @@ fn read_parts(
     out: &mut [u8],
 )
     requires { ⌜
-        Laid (borrowed states n word next) (now start) (now order) × (q ≤ 8) × (count ≤ limit)
+        Grouped (borrowed states n word next) (now start) (now first) (now low) (now high) × (q ≤ 8) × (count ≤ limit)
         × (count * q ≤ 8 * length (now stream)) × (m ≤ 15) × (a ≤ 15) × (a ≤ count)
         × (count - a ≤ length (now out)) ⌝ }
     ensures written { λ r. ⌜
@@ -116,7 +122,9 @@ fn read_parts(
             word,
             next,
             start,
-            order,
+            first,
+        low,
+        high,
             stream,
             q,
             count,
@@ -156,16 +164,20 @@ pub fn decode_stream_with(t: Table, count: usize, stream: &[u8], out: &mut [u8])
     let n = ways(t.p);
     let word = t.word;
     let next = t.next;
-    let r = lay(t.states, n, &word, &next);
-    let start = r.start;
-    let order = r.order;
+    let mut start = [0u16; 257];
+    let mut first = [0u16; 2048];
+    let mut low = [0u64; 2048];
+    let mut high = [0u64; 2048];
+    lay(t.states, n, &word, &next, &mut start, &mut first, &mut low, &mut high);
     read_parts(
         t.states,
         n,
         &word,
         &next,
         &start,
-        &order,
+        &first,
+        &low,
+        &high,
         stream,
         t.q,
         count,

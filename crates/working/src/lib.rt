@@ -1,4 +1,4 @@
-// The window test, by sets of pairs of states in two arrays; no path is ever listed.
+// The window test, by sets of pairs of states in two arrays of 2 KiB; no path is ever listed.
 ghost use mathlib.Core.Path.{_≡_};
 ghost use Prim.Native.Nat.{_≤_};
 ghost use Rattle.table.specs.Value.{Ready, rowsIn};
@@ -10,6 +10,7 @@ ghost use Rattle.pairs.specs.PairSets.{pairsIn, Long};
 use crate::steps::clashes;
 use crate::steps::extend_memory;
 use crate::steps::lookahead_needed;
+use pairs::sets::fill;
 use table::Table;
 use table::chains::chain;
 use table::chains::ways;
@@ -25,8 +26,8 @@ fn pairs_after(
     head: &[u16; 256],
     link: &[u16; 2048],
     m: usize,
-    past: &mut [bool; 16384],
-    spare: &mut [bool; 16384],
+    past: &mut [u64; 256],
+    spare: &mut [u64; 256],
 )
     requires { ⌜
         Linked (borrowed states n word next) (now head) (now link) × Long (now past) × Long (now spare)
@@ -60,8 +61,9 @@ fn works_by(
     ensures answer { λ r. ⌜
         r ≡ works (rowsOf (borrowed states n (word .entry) (next .entry))) (size memory lookahead) ⌝ }
 {
-    let mut past = [true; 16384];
-    let mut hits = [false; 16384];
+    let mut past = [0u64; 256];
+    let mut hits = [0u64; 256];
+    fill(states, &mut past);
     pairs_after(
         states,
         n,

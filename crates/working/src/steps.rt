@@ -8,6 +8,8 @@ ghost use Rattle.windows.specs.Works.{into, reversed};
 ghost use Rattle.windows.specs.Search.{hits};
 ghost use Rattle.windows.specs.Steps.{withWord, Emptied};
 ghost use Rattle.pairs.specs.PairSets.{pairsIn, Long};
+use pairs::clash_pairs;
+use pairs::sets::add_start;
 use pairs::sets::is_empty;
 use pairs::sets::replace;
 use pairs::step_pairs;
@@ -20,8 +22,8 @@ pub fn forward(
     next: &[u8; 2048],
     head: &[u16; 256],
     link: &[u16; 2048],
-    pairs: &[bool; 16384],
-    out: &mut [bool; 16384],
+    pairs: &[u64; 256],
+    out: &mut [u64; 256],
 )
     requires { ⌜ Linked (borrowed states n word next) (now head) (now link) × Long (now out) ⌝ }
     ensures written { λ r. ⌜
@@ -30,7 +32,7 @@ pub fn forward(
         ≡ into (reversed (rowsOf (borrowed states n (word .entry) (next .entry))))
         (pairsIn states (now (pairs .entry)))) ⌝ }
 {
-    step_pairs(states, n, word, next, head, link, pairs, false, out);
+    step_pairs(states, n, word, next, head, link, pairs, out);
 }
 
 // Puts into `out` the pairs that a clash leads to from the pairs.
@@ -41,8 +43,8 @@ pub fn clashes(
     next: &[u8; 2048],
     head: &[u16; 256],
     link: &[u16; 2048],
-    pairs: &[bool; 16384],
-    out: &mut [bool; 16384],
+    pairs: &[u64; 256],
+    out: &mut [u64; 256],
 )
     requires { ⌜ Linked (borrowed states n word next) (now head) (now link) × Long (now out) ⌝ }
     ensures written { λ r. ⌜
@@ -51,7 +53,7 @@ pub fn clashes(
         ≡ hits (rowsOf (borrowed states n (word .entry) (next .entry)))
         (pairsIn states (now (pairs .entry)))) ⌝ }
 {
-    step_pairs(states, n, word, next, head, link, pairs, true, out);
+    clash_pairs(states, n, word, next, head, link, pairs, out);
 }
 
 // Steps the pairs whose next edges must agree by one word of memory more; whether they stay the same.
@@ -62,8 +64,8 @@ pub fn extend_memory(
     next: &[u8; 2048],
     head: &[u16; 256],
     link: &[u16; 2048],
-    past: &mut [bool; 16384],
-    spare: &mut [bool; 16384],
+    past: &mut [u64; 256],
+    spare: &mut [u64; 256],
 ) -> bool
     requires { ⌜
         Linked (borrowed states n word next) (now head) (now link) × Long (now past) × Long (now spare) ⌝ }
@@ -75,7 +77,7 @@ pub fn extend_memory(
     ensures kept { λ r. ⌜ Long (now (past .exit)) × Long (now (spare .exit)) ⌝ }
 {
     forward(states, n, word, next, head, link, past, spare);
-    spare[0] = true;
+    add_start(spare);
     replace(states, spare, past)
 }
 
@@ -89,8 +91,8 @@ pub fn lookahead_needed(
     head: &[u16; 256],
     link: &[u16; 2048],
     most: usize,
-    set: &mut [bool; 16384],
-    spare: &mut [bool; 16384],
+    set: &mut [u64; 256],
+    spare: &mut [u64; 256],
 ) -> usize
     requires { ⌜
         Linked (borrowed states n word next) (now head) (now link) × (most ≤ 15) × Long (now set)

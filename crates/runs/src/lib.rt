@@ -1,2 +1,0 @@
-// The edges of a table by word, in a row.
-pub mod laying;
