@@ -38,7 +38,20 @@ pub fn read_blocks(
 {
     let mut i = 0;
     while i < count {
-        out[i] = read_block(states, n, word, next, start, first, low, high, words, begin + i, m, a);
+        out[i] = read_block(
+            states,
+            n,
+            word,
+            next,
+            start,
+            first,
+            low,
+            high,
+            words,
+            begin + i,
+            m,
+            a,
+        );
         i += 1;
     }
 }

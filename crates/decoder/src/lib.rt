@@ -43,7 +43,16 @@ pub fn decode_with(t: Table, words: &[u8], out: &mut [u8]) -> Answer
     let mut first = [0u16; 2048];
     let mut low = [0u64; 2048];
     let mut high = [0u64; 2048];
-    lay(t.states, n, &word, &next, &mut start, &mut first, &mut low, &mut high);
+    lay(
+        t.states,
+        n,
+        &word,
+        &next,
+        &mut start,
+        &mut first,
+        &mut low,
+        &mut high,
+    );
     read_blocks(
         t.states,
         n,

@@ -30,7 +30,13 @@ fn known(have: BitSet, targets: &[u64; 256], s: usize) -> BitSet
 }
 
 // The sets with the edge e, unless it carries the datum k; the states that have the word.
-fn with_edge(next: &[u8; 2048], k: usize, e: usize, have: BitSet, targets: &mut [u64; 256]) -> BitSet
+fn with_edge(
+    next: &[u8; 2048],
+    k: usize,
+    e: usize,
+    have: BitSet,
+    targets: &mut [u64; 256],
+) -> BitSet
     requires { ⌜ (e < 2048) × (getD (now next) e 0 < 128) × (length (now targets) ≡ 256) ⌝ }
     ensures answer { λ r. ⌜ ((s : ℕ) → holds r s ≡ (holds have s || leaves k s e)) ⌝ }
     ensures written { λ r. ⌜

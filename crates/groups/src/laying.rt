@@ -6,12 +6,12 @@ ghost use Rattle.table.specs.Edges.{borrowed, Fits, Linked};
 ghost use lib.Dec.{T};
 ghost use Rattle.bitsets.specs.BitSets.{holds, membersOf};
 ghost use Rattle.groups.specs.Groups.{firstEdge, Grouped, PutAll};
+use crate::put_group;
 use bitsets::BitSet;
 use bitsets::count;
 use bitsets::lowest;
 use bitsets::rest;
 use bitsets::rows::set_at;
-use crate::put_group;
 use gathering::gather;
 use table::chains::chain;
 use table::chains::wide;
@@ -57,7 +57,14 @@ fn put_groups(
     let mut k = at;
     let mut s = lowest(left);
     while s < 128 {
-        put_group(k, first_edge(n, word, w, s), set_at(targets, s), first, low, high);
+        put_group(
+            k,
+            first_edge(n, word, w, s),
+            set_at(targets, s),
+            first,
+            low,
+            high,
+        );
         let others = rest(left);
         left = others;
         s = lowest(others);

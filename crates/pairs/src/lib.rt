@@ -119,7 +119,20 @@ fn mark_word(
     ensures kept { λ r. ⌜ Long (now (targets .exit)) ⌝ }
 {
     let have = gather(states, n, word, next, head, link, w, k, targets);
-    mark_edges(states, n, word, next, head, link, pairs, w, k, have, targets, out);
+    mark_edges(
+        states,
+        n,
+        word,
+        next,
+        head,
+        link,
+        pairs,
+        w,
+        k,
+        have,
+        targets,
+        out,
+    );
 }
 
 // Puts into `out` where two edges with one word lead from the pairs.
@@ -142,7 +155,19 @@ pub fn step_pairs(
     let mut targets = [0u64; 256];
     let mut w = 0;
     while w < 256 {
-        mark_word(states, n, word, next, head, link, pairs, w, 16, &mut targets, out);
+        mark_word(
+            states,
+            n,
+            word,
+            next,
+            head,
+            link,
+            pairs,
+            w,
+            16,
+            &mut targets,
+            out,
+        );
         w += 1;
     }
 }
@@ -195,7 +220,18 @@ pub fn clash_pairs(
     let mut targets = [0u64; 256];
     let mut w = 0;
     while w < 256 {
-        mark_clashes(states, n, word, next, head, link, pairs, w, &mut targets, out);
+        mark_clashes(
+            states,
+            n,
+            word,
+            next,
+            head,
+            link,
+            pairs,
+            w,
+            &mut targets,
+            out,
+        );
         w += 1;
     }
 }

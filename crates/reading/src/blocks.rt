@@ -77,7 +77,14 @@ fn enters(word: &[u8; 2048], next: &[u8; 2048], w: u8, ahead: BitSet, e: usize) 
 }
 
 // The first entry with the word w into the set, of those from place e on and below `end`, or 2048.
-fn first_into(word: &[u8; 2048], next: &[u8; 2048], w: u8, ahead: BitSet, e: usize, end: usize) -> usize
+fn first_into(
+    word: &[u8; 2048],
+    next: &[u8; 2048],
+    w: u8,
+    ahead: BitSet,
+    e: usize,
+    end: usize,
+) -> usize
     requires { ⌜ (end ≤ 2048) × ((j : ℕ) → e ≤ j → j < end → getD (now next) j 0 < 128) ⌝ }
     ensures answer { λ r. ⌜ r ≡ firstInto (now (word .entry)) (now (next .entry)) w ahead e end ⌝ }
 {
@@ -162,7 +169,16 @@ fn past_set(
         ((t : Arrays) → Grouped t (now (start .entry)) (now (first .entry)) (now (low .entry)) (now (high .entry))
         → yesNo (t .states) r ≡ past (under (rowsOf t) m 0) (now (words .entry)) i) ⌝ }
 {
-    step_all(start, first, low, high, past_start(i, m), words, less(i, m), i)
+    step_all(
+        start,
+        first,
+        low,
+        high,
+        past_start(i, m),
+        words,
+        less(i, m),
+        i,
+    )
 }
 
 // Block i of the words, in a window of memory m and lookahead a.

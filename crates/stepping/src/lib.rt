@@ -77,7 +77,11 @@ fn back_group(
         ((s : ℕ) → holds r s
         ≡ (holds out s || leadsInto (now (first .entry)) (now (low .entry)) (now (high .entry)) set s k)) ⌝ }
 {
-    with_if(out, first[k] as usize / 16, meets(targets_at(low, high, k), set))
+    with_if(
+        out,
+        first[k] as usize / 16,
+        meets(targets_at(low, high, k), set),
+    )
 }
 
 // The states from which the word w leads into the set.

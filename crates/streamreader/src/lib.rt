@@ -15,10 +15,10 @@ ghost use Rattle.streams.specs.Recorded.{unstreamedWith};
 use answer::Answer;
 use answer::Refusal;
 use blocks::read_blocks;
+use groups::laying::lay;
 use packing::is_stream;
 use packing::reading::get_words;
 use reading::blocks::less;
-use groups::laying::lay;
 use table::Table;
 use table::chains::ways;
 use table::ready::is_ready;
@@ -123,8 +123,8 @@ fn read_parts(
             next,
             start,
             first,
-        low,
-        high,
+            low,
+            high,
             stream,
             q,
             count,
@@ -168,7 +168,16 @@ pub fn decode_stream_with(t: Table, count: usize, stream: &[u8], out: &mut [u8])
     let mut first = [0u16; 2048];
     let mut low = [0u64; 2048];
     let mut high = [0u64; 2048];
-    lay(t.states, n, &word, &next, &mut start, &mut first, &mut low, &mut high);
+    lay(
+        t.states,
+        n,
+        &word,
+        &next,
+        &mut start,
+        &mut first,
+        &mut low,
+        &mut high,
+    );
     read_parts(
         t.states,
         n,
