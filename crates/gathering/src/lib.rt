@@ -9,6 +9,7 @@ ghost use Rattle.table.specs.Edges.{borrowed, Linked};
 ghost use Rattle.bitsets.specs.BitSets.{holds, membersOf};
 ghost use Rattle.gathering.specs.Gathered.{leaves, led, Gathered, holdsIn};
 use bitsets::BitSet;
+use bitsets::count;
 use bitsets::has;
 use bitsets::join;
 use bitsets::lowest;
@@ -81,20 +82,21 @@ pub fn gather(
     have
 }
 
-// The states of all those sets of the array whose numbers are in the set.
+// The states of all those sets of the array whose numbers are in the set: as many turns as it has members, each with the
+// lowest that is left.
 pub fn union_of(sets: &[u64; 256], set: BitSet) -> BitSet
     ensures answer { λ r. ⌜
         ((u : ℕ) → holds r u ≡ any (holdsIn (now (sets .entry)) u) (membersOf set)) ⌝ }
 {
+    let mut more = count(set);
     let mut left = set;
     let mut out = none();
-    let mut s = lowest(left);
-    while s < 128 {
-        let joined = join(out, set_at(sets, s));
+    while 0 < more {
+        let joined = join(out, set_at(sets, lowest(left)));
         let others = rest(left);
         out = joined;
         left = others;
-        s = lowest(others);
+        more -= 1;
     }
     out
 }

@@ -1,7 +1,7 @@
 -- The edges of a table by word as sets: for each word its groups, one for each state that has it, in rising order.
--- In order: goesTo; hasAt, firstEdge; targetsAt, sourceAt, a group; Within, a group of a word; Grouped, a table with all
--- its groups; Put, PutAll, one group written and those of one word; between; stepsTo, leadsInto, one group in a step
--- forward and back.
+-- In order: goesTo; hasAt, firstEdge; targetsAt, sourceAt, a group; Within, a group of a word; Grouped, a table with
+-- all its groups; Put, PutAll, one group written and those of one word; between; stepsTo, leadsInto, one group in a
+-- step forward and back.
 -- Assumes nothing.
 use mathlib.Core.Path.{_≡_}
 use mathlib.Core.Bool.{Bool, true, false, _&&_}
@@ -63,14 +63,14 @@ pub record Put (first low high : List ℕ) (k e : ℕ) (s : BitSet) (f l h : Lis
   pub edges : (j : ℕ) → (j ≡ k → ⊥) → getD f j 0 ≡ getD first j 0
   pub others : (j : ℕ) → (j ≡ k → ⊥) → targetsAt l h j ≡ targetsAt low high j
 
--- three arrays with, from group `at` on, a group for each state of the list, its first edge by `edge` and its targets
+-- three arrays with, from group `at` on, a group for each state of the list, its first edge by `edgeOf` and its targets
 -- by `sets`; the groups below `at` as they were
-pub record PutAll (first low high : List ℕ) (at : ℕ) (states : List ℕ) (edge : ℕ → ℕ) (sets : List ℕ)
+pub record PutAll (first low high : List ℕ) (at : ℕ) (states : List ℕ) (edgeOf : ℕ → ℕ) (sets : List ℕ)
     (f l h : List ℕ) : Type 0 where
   pub firstLong : length f ≡ 2048
   pub lowLong : length l ≡ 2048
   pub highLong : length h ≡ 2048
-  pub edge : (j : ℕ) → j < length states → getD f (at + j) 0 ≡ edge (getD states j 0)
+  pub edge : (j : ℕ) → j < length states → getD f (at + j) 0 ≡ edgeOf (getD states j 0)
   pub targets : (j : ℕ) → j < length states → targetsAt l h (at + j) ≡ setAt sets (getD states j 0)
   pub edges : (j : ℕ) → j < at → getD f j 0 ≡ getD first j 0
   pub others : (j : ℕ) → j < at → targetsAt l h j ≡ targetsAt low high j

@@ -1,9 +1,9 @@
 // The groups of all words laid out in a row, word by word.
 ghost use mathlib.Core.Path.{_≡_};
-ghost use Prim.Native.Nat.{ℕ, _+_, _*_, _≤_, _<_};
-ghost use lib.ListN.{length};
-ghost use Rattle.table.specs.Edges.{borrowed, Fits, Linked};
+ghost use Prim.Native.Nat.{ℕ, _+_, _≤_, _<_};
 ghost use lib.Dec.{T};
+ghost use lib.ListN.{length};
+ghost use Rattle.table.specs.Edges.{borrowed, Fits};
 ghost use Rattle.bitsets.specs.BitSets.{holds, membersOf};
 ghost use Rattle.groups.specs.Groups.{firstEdge, Grouped, PutAll};
 use crate::put_group;

@@ -1,0 +1,112 @@
+-- Each turn writes the groups of one word behind those of the words before it.
+use Rattle.laws.proofs.All.{_≡_, ℕ, _+_, _-_, _≤_, _<_, arith, now, length, length-replicate, needs}
+use Rattle.table.specs.Edges.{Arrays, arrays, Linked}
+use Rattle.bitsets.specs.BitSets.{membersOf}
+use Rattle.groups.specs.Counts.{count}
+use Rattle.groups.proofs.WordGroups.{member-group, states-few, word-laid}
+use Rattle.groups.proofs.AllGroups.{Laying, laying-start, laying-room, laying-more, laid}
+use Rattle.groups.proofs.laying.lay.Statement.{statement}
+use Rattle.groups.proofs.laying.lay.Tie as tie
+
+abbrev Inv-loop : tie.InvT-loop
+Inv-loop states n word next start₀ first₀ low₀ high₀ head link targets₀ k₀ w₀ start first low high targets k w =
+    (w ≤ 256) × (length targets ≡ 256) × Linked (arrays states n word next) head link
+    × Laying (arrays states n word next) w k start first low high
+
+abbrev μ-loop : tie.MeasureT-loop
+μ-loop states n word next start₀ first₀ low₀ high₀ head link targets₀ k₀ w₀ start first low high targets k w = 256 - w
+
+abbrev begin : tie.At-loop Inv-loop μ-loop → tie.Start Inv-loop μ-loop
+begin l = l .before .before .before .before
+
+abbrev table : tie.Start Inv-loop μ-loop → Arrays
+table s = arrays (s .args .states) (s .args .n) (now (s .args .word)) (now (s .args .next))
+
+loop-holds : tie.Need-loop-holds Inv-loop μ-loop
+loop-holds c =
+    let s = c .before .before .before in
+    let a = s .args in (
+      omega arith,
+      length-replicate {A = ℕ} 256 0,
+      record { fits = s .pre .0; chained = c .before .before .chain .ensures },
+      laying-start (table s) (now (a .start)) (now (a .first)) (now (a .low)) (now (a .high)) (s .pre .1) (s .pre .2)
+          (s .pre .3) (s .pre .4),
+    )
+
+-- the turn in hand
+abbrev turn : tie.After-gather Inv-loop μ-loop → tie.In-loop Inv-loop μ-loop
+turn c = c .before .before .before .before
+
+-- no more groups than edges with the word
+few : (c : tie.After-gather Inv-loop μ-loop)
+    → length (membersOf (c .gather .result)) ≤ count (table (begin (turn c .before))) (turn c .before .loop .w) 2048
+few c =
+    let s = begin (turn c .before) in
+    states-few (table s) (s .pre .0) (turn c .before .loop .w) (c .gather .result) _ (c .gather .ensures)
+
+room : (c : tie.After-gather Inv-loop μ-loop)
+    → turn c .before .loop .k + length (membersOf (c .gather .result)) ≤ 2048
+room c =
+    let l = turn c .before .loop in
+    laying-room _ _ _ _ _ _ _ (l .inv .3) (length (membersOf (c .gather .result))) (few c)
+
+put-groups-requires : tie.Need-put-groups-requires Inv-loop μ-loop
+put-groups-requires c κs =
+    let g = c .before .before .before .before in
+    let l = turn g .before .loop in
+    let s = begin (turn g .before) in (
+      s .pre .0 .narrow,
+      room g,
+      λ x h q.
+          omega (
+            arith,
+            s .pre .0 .few,
+            member-group (table s) (s .pre .0) (l .w) (g .gather .result) _ (g .gather .ensures) x h q .below,
+          ),
+      l .inv .3 .firstLong,
+      l .inv .3 .lowLong,
+      l .inv .3 .highLong,
+    )
+
+-- where the set of the states that have the word is found
+abbrev gathered : tie.After-count Inv-loop μ-loop → tie.After-gather Inv-loop μ-loop
+gathered c = c .before .before .before .before .before .before
+
+fits : (c : tie.After-count Inv-loop μ-loop) → turn (gathered c) .before .loop .k + c .count .result ≤ 2048
+fits c = omega (arith, room (gathered c), c .count .ensures)
+
+below : (c : tie.After-count Inv-loop μ-loop) → turn (gathered c) .before .loop .w < 256
+below c = omega (arith, turn (gathered c) .loop-test .taken)
+
+loop-again : tie.Need-loop-again Inv-loop μ-loop
+loop-again c =
+    let g = gathered c in
+    let i = turn g in
+    let l = i .before .loop in
+    let s = begin (i .before) in
+    let G = g .gather .ensures in
+    let P = c .before .put-groups .ensures in (
+      omega (arith, below c),
+      G .long,
+      l .inv .2,
+      laying-more _ _ _ _ _ _ _ (l .inv .3) (below c) (c .count .result)
+          (omega (arith, few g, c .count .ensures)) _ _ _ (P .firstLong) (P .lowLong) (P .highLong)
+          (word-laid (table s) (s .pre .0) (l .w) (g .gather .result) _ G _ _ _ (l .k) _ _ _ P (c .count .result)
+          (c .count .ensures)) (P .edges) (P .others),
+    )
+
+returns : tie.Need-returns Inv-loop μ-loop
+returns c =
+    let l = c .before .loop in
+    let s = begin (c .before) in
+    let z : l .w ≡ 256 = omega (arith, l .inv .0, c .loop-test .left) in
+    laid (table s) (l .k) (l .start) (l .first) (l .low) (l .high) (s .pre .0) (rw z at (l .inv .3))
+
+pub lay-spec : {M : Type 1} → statement M
+lay-spec =
+    tie.close
+    (tie.spec
+    Inv-loop μ-loop (λ c κs. search needs) (λ c. search needs) loop-holds (λ c κs. search needs) put-groups-requires
+    (λ c κs. search needs) (λ c. omega (arith, fits c)) (λ c. omega (arith, fits c)) (λ c. omega (arith, below c))
+    (λ c. omega (arith, fits c)) (λ c. search needs) (λ c. omega (arith, below c)) (λ c. omega (arith, below c))
+    loop-again returns)
