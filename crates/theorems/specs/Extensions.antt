@@ -2,15 +2,17 @@
 -- In order: (a) joint, joined-pairs, numbered, too-many-pairs, joined-job, both-obeyed; (b) streams, good-streams,
 -- stream-words, stream-returns, bits-reach; (c) labels, labels-rule, labels-hold; (d) decoded-blocks, marks,
 -- no-mark-ahead, clear-unmarked; (e) closes, tail-free, tail-place, closes-record; (f) weave-places, weaving,
--- one-word-each, fewer-places, scratch.
+-- one-word-each, fewer-places, scratch; (g) state-sets, step-bits, back-bits.
 -- Assumes nothing.
 use mathlib.Core.Path.{_≡_}
 use mathlib.Core.Logic.{_⊎_, _↔_}
-use mathlib.Core.List.{List, _++_}
+use mathlib.Core.Bool.{not, _&&_, _||_}
+use mathlib.Core.List.{List, _++_, map}
 use Prim.Native.Nat.{ℕ, _+_, _*_, _-_, _/_, _%_, _^_, _≤_, _<_}
-use lib.Dec.{T}
+use lib.Count.{ones, trailingZeros}
+use lib.Dec.{T, eqb}
 use lib.ListN.{length, getD, take, replicate}
-use Rattle.laws.specs.Lists.{sum, elem}
+use Rattle.laws.specs.Lists.{if_then_else_, range, any, first, sum, elem}
 use Rattle.laws.specs.Sums.{Each, Once, Below}
 use Rattle.answer.specs.declared.Refusal.the-variants.{TooManyPairs}
 use Rattle.answer.specs.Outcomes.{done, refused}
@@ -21,9 +23,15 @@ use Rattle.joining.specs.Joined.{pairOf, pairs, joined, Reachable, FirstMet}
 use Rattle.table.specs.Rows.{Rows, edges, Code, withTail}
 use Rattle.table.specs.Paths.{spells, Blocks, recording, Full}
 use Rattle.table.specs.Formed.{formed}
+use Rattle.table.specs.Edges.{Arrays, rowsOf}
+use Rattle.bitsets.specs.declared.BitSet.{BitSet}
+use Rattle.bitsets.specs.BitSets.{holds, membersOf, yesNo}
+use Rattle.bitsets.specs.StateSets.{Words, joined}
+use Rattle.groups.specs.Groups.{Grouped, between, stepsTo, leadsInto}
 use Rattle.record.specs.Layout.{pack}
 use Rattle.checker.specs.Accepted.{Accepted}
 use Rattle.checker.specs.Parse.{parse}
+use Rattle.stepping.specs.StateSets.{along, back}
 use Rattle.stepping.specs.Reading.{markAhead, block}
 use Rattle.codec.specs.Answers.{encodeUnder, decodeUnder}
 use Rattle.codec.specs.Follows.{Follows}
@@ -218,3 +226,29 @@ pub scratch : (rec : List ℕ) → Below 256 rec → (c : Code) → parse rec �
     → (out : List ℕ) × (decodeUnder rec room (part (length ws / D) r (unwoven D W)) ≡ done out)
     × (differences out ds ≤ c .window .memory + c .window .lookahead + 1)
 scratch = Rattle.damage.proofs.Scratch.scratch
+
+-- ---- (g) State sets in machine words: `holds s i` is bit i of the two words of s, and `yesNo n s` the list of yes and
+-- no, one a state, for the first n states. What Main says of windows and decoding is said of such lists, and stays.
+
+-- Counting by ones, the lowest by trailing zeros, emptiness by the words and joining by "or" are those of the list.
+pub state-sets : ((s : BitSet) → Words s → (ones (s .low) + ones (s .high) ≡ length (membersOf s))
+    × ((if eqb (s .low) 0 then 64 + trailingZeros 64 (s .high) else trailingZeros 64 (s .low))
+    ≡ first (holds s) 128 (range 128))
+    × ((eqb (s .low) 0 && eqb (s .high) 0) ≡ not (any (holds s) (range 128))))
+    × ((r s : BitSet) → Words r → Words s
+    → yesNo 128 (joined r s) ≡ map (λ i. holds r i || holds s i) (range 128))
+state-sets =
+    let p = Rattle.bitsets.proofs.StateSets.stateSets in
+    (λ s w. (p .number s w, p .lowest s w, p .empty s w), p .joining)
+
+-- Stepping by a word: the set to which the groups of a word lead from the states of S is the list stepped.
+pub step-bits : (t : Arrays) (start edge low high : List ℕ) → Grouped t start edge low high → (S R : BitSet) (w : ℕ)
+    → w < 256 → ((u : ℕ) → holds R u ≡ between (stepsTo edge low high S u) (getD start w 0) (getD start (w + 1) 0))
+    → yesNo (t .states) R ≡ along (rowsOf t) (yesNo (t .states) S) w
+step-bits = Rattle.stepping.proofs.SetSteps.step-bits
+
+-- Stepping back: the set of those states whose group of the word leads into S is the list stepped back.
+pub back-bits : (t : Arrays) (start edge low high : List ℕ) → Grouped t start edge low high → (S R : BitSet) (w : ℕ)
+    → w < 256 → ((s : ℕ) → holds R s ≡ between (leadsInto edge low high S s) (getD start w 0) (getD start (w + 1) 0))
+    → yesNo (t .states) R ≡ back (rowsOf t) (yesNo (t .states) S) w
+back-bits = Rattle.stepping.proofs.SetSteps.back-bits
