@@ -1,42 +1,84 @@
--- Two edges with one word, at a place: the turns of the loops that mark where they lead.
--- In order: edge-target; count-same, count-other, the two answers of the test of a pair; join-in, join-out, join-only;
--- turn-taken, turn-left.
+-- Two edges with one word, the second by the sets that are gathered.
+-- In order: none-joined; beyond-joined, the states to which the second edges lead; joins-left, joins-only,
+-- joins-marked, one turn of the loop over the first edges.
 -- Assumes nothing.
-use Rattle.laws.proofs.All.{_≡_, sym, ap, ap₂, _∙_, Bool, true, false, not, _&&_, and-false, List, ℕ, _+_, _*_, _/_}
-use Rattle.laws.proofs.All.{_%_, _≤_, _<_, arith, eqb, eq-eqb, ne-eqb, lt-ltb, le-ltb, member}
+use Rattle.laws.proofs.All.{_≡_, refl, sym, ap, ap₂, subst, _∙_, Bool, true, false, not, _&&_, and-false, List, ℕ, _*_}
+use Rattle.laws.proofs.All.{_/_, _%_, _≤_, _<_, arith, T, eqb, eqb→eq, eqb-refl, any, bool-eq, and→, →and}
 use Rattle.table.specs.Marks.{some}
-use Rattle.table.specs.Edges.{Arrays, Fits, places, isEdge, wordOf, nextOf, bears}
-use Rattle.pairs.specs.PairSets.{counts, joins, leftOut, joinsAny}
+use Rattle.table.specs.Edges.{Arrays, places, nextOf, bears}
+use Rattle.table.proofs.Marks.{found, some-at}
+use Rattle.bitsets.specs.declared.BitSet.{BitSet}
+use Rattle.bitsets.specs.BitSets.{holds, membersOf, setAt}
+use Rattle.bitsets.proofs.Sets.{any-members→, →any-members}
+use Rattle.gathering.specs.Gathered.{leaves, besideTo, led, Gathered, holdsIn}
+use Rattle.pairs.specs.PairSets.{takes, beyond, joins}
 
-pub edge-target : (t : Arrays) → Fits t → (e : ℕ) → e < places t → isEdge t e ≡ true → nextOf t e < 128
-edge-target t g e h q = omega (arith, g .few, g .inside e h q)
+-- the set of no state has no member
+pub none-joined : (p : ℕ → Bool) (s : BitSet) → ((i : ℕ) → holds s i ≡ false) → any p (membersOf s) ≡ false
+none-joined p s z =
+    bool-eq (any p (membersOf s)) false
+    (λ t. let (i, l, a, b) = any-members→ p s t in subst T (z i) a) (λ t. absurd t)
 
-module _ (P : List Bool) (x k j : ℕ) where
-  pub count-same : j % 16 ≡ k → counts P x k j ≡ false
-  count-same e = ap (λ b. not b && member P (x * 128 + j / 16)) (eq-eqb (j % 16) k e)
+-- ---- M are the states beside x in P that have the word w on an edge that counts
+module _ (t : Arrays) (few : t .states ≤ 128) (w k : ℕ) (have : BitSet) (A : List ℕ) (g : Gathered t w k have A)
+    (P : List ℕ) (x : ℕ) (M : BitSet) (m : (y : ℕ) → holds M y ≡ (holds (setAt P x) y && holds have y)) where
+  joined→ : (v : ℕ) → T (any (holdsIn A v) (membersOf M)) → T (some (beyond t P w k x v) (places t))
+  joined→ v a =
+      let (y, hy, my, ay) = any-members→ (holdsIn A v) M a in
+      let (py, hv) = and→ (holds (setAt P x) y) (holds have y) (subst T (m y) my) in
+      let (e, he, te) = found (besideTo t w k y v) (places t)
+      (subst T (g .leads y v hy) (→and (holds have y) (holds (setAt A y) v) hv ay)) in
+      let (be, r) = and→ (bears t w e) _ te in
+      let (ls, nv) = and→ (leaves k y e) (eqb (nextOf t e) v) r in
+      let (nk, es) = and→ (not (eqb (e % 16) k)) (eqb (e / 16) y) ls in
+      let q = eqb→eq (e / 16) y es in
+      some-at (beyond t P w k x v) (places t) e he
+      (→and (bears t w e) _ be (→and (not (eqb (e % 16) k)) _ nk
+      (→and (holds (setAt P x) (e / 16)) _ (subst (λ z. T (holds (setAt P x) z)) (sym q) py) nv)))
 
-  pub count-other : (j % 16 ≡ k → ⊥) → counts P x k j ≡ member P (x * 128 + j / 16)
-  count-other e = ap (λ b. not b && member P (x * 128 + j / 16)) (ne-eqb (j % 16) k e)
+  →joined : (v : ℕ) → T (some (beyond t P w k x v) (places t)) → T (any (holdsIn A v) (membersOf M))
+  →joined v a =
+      let (e, he, te) = found (beyond t P w k x v) (places t) a in
+      let (be, r) = and→ (bears t w e) _ te in
+      let (nk, r′) = and→ (not (eqb (e % 16) k)) _ r in
+      let (py, nv) = and→ (holds (setAt P x) (e / 16)) (eqb (nextOf t e) v) r′ in
+      let y = e / 16 in
+      let hy : y < 128 = omega arith in
+      let l = subst T (sym (g .leads y v hy)) (some-at (besideTo t w k y v) (places t) e he
+      (→and (bears t w e) _ be (→and (leaves k y e) _
+      (→and (not (eqb (e % 16) k)) (eqb y y) nk (eqb-refl y)) nv))) in
+      let (hv, ay) = and→ (holds have y) (holds (setAt A y) v) l in
+      →any-members (holdsIn A v) M y hy
+      (subst T (sym (m y)) (→and (holds (setAt P x) y) (holds have y) py hv)) ay
 
-module _ (t : Arrays) (P : List Bool) (k i z j : ℕ) where
-  pub join-in : bears t (wordOf t i) j ≡ true → counts P (i / 16) k j ≡ true
-      → joins t P k i z j ≡ eqb (nextOf t i * 128 + nextOf t j) z
-  join-in p q = ap₂ (λ a b. a && (b && eqb (nextOf t i * 128 + nextOf t j) z)) p q
+  pub beyond-joined : (v : ℕ) → any (holdsIn A v) (membersOf M) ≡ some (beyond t P w k x v) (places t)
+  beyond-joined v =
+      bool-eq (any (holdsIn A v) (membersOf M)) (some (beyond t P w k x v) (places t)) (joined→ v) (→joined v)
 
-  pub join-out : counts P (i / 16) k j ≡ false → joins t P k i z j ≡ false
-  join-out q =
-      ap (λ b. bears t (wordOf t i) j && (b && eqb (nextOf t i * 128 + nextOf t j) z)) q
-      ∙ and-false (bears t (wordOf t i) j)
+-- ---- one turn: the edge i
+module _ (t : Arrays) (P : List ℕ) (w k u v i : ℕ) where
+  -- what stands behind the tests of i
+  abbrev then : Bool
+  then = eqb (nextOf t i) u && some (beyond t P w k (i / 16) v) (places t)
 
-  pub join-only : bears t (wordOf t i) j ≡ false → joins t P k i z j ≡ false
-  join-only p = ap (λ a. a && (counts P (i / 16) k j && eqb (nextOf t i * 128 + nextOf t j) z)) p
+  -- i has the word, and is taken
+  joins-taken : bears t w i ≡ true → takes k i ≡ true → joins t P w k u v i ≡ then
+  joins-taken b c = ap₂ (λ a d. a && (d && then)) b c
 
-module _ (t : Arrays) (P : List Bool) (apart : Bool) (z i : ℕ) where
-  pub turn-taken : (k : ℕ) → i % 16 < t .ways → k ≡ leftOut apart i
-      → joinsAny t P apart z i ≡ some (joins t P k i z) (places t)
-  turn-taken k h e =
-      ap (λ b. b && some (joins t P (leftOut apart i) i z) (places t)) (lt-ltb (i % 16) (t .ways) h)
-      ∙ ap (λ k. some (joins t P k i z) (places t)) (sym e)
+  -- i is not taken
+  pub joins-left : takes k i ≡ false → joins t P w k u v i ≡ false
+  joins-left c = ap (λ d. bears t w i && (d && then)) c ∙ and-false (bears t w i)
 
-  pub turn-left : t .ways ≤ i % 16 → joinsAny t P apart z i ≡ false
-  turn-left h = ap (λ b. b && some (joins t P (leftOut apart i) i z) (places t)) (le-ltb (i % 16) (t .ways) h)
+  -- i does not have the word
+  pub joins-only : bears t w i ≡ false → joins t P w k u v i ≡ false
+  joins-only b = ap (λ a. a && (takes k i && then)) b
+
+-- the edge i leads to u, and with it the edges that are gathered to the states of `more`
+pub joins-marked : (t : Arrays) → t .states ≤ 128 → (w k : ℕ) (have : BitSet) (A : List ℕ) → Gathered t w k have A
+    → (P : List ℕ) (u v i : ℕ) (M more : BitSet) → bears t w i ≡ true → takes k i ≡ true
+    → ((y : ℕ) → holds M y ≡ (holds (setAt P (i / 16)) y && holds have y))
+    → ((y : ℕ) → holds more y ≡ any (holdsIn A y) (membersOf M))
+    → joins t P w k u v i ≡ (eqb (nextOf t i) u && holds more v)
+joins-marked t few w k have A g P u v i M more b c m h =
+    joins-taken t P w k u v i b c
+    ∙ ap (λ d. eqb (nextOf t i) u && d) (sym (h v ∙ beyond-joined t few w k have A g P (i / 16) M m v))

@@ -1,3 +1,4 @@
 pub mod Joins
 pub mod PairSets
+pub mod RowMarks
 pub mod SetLaws

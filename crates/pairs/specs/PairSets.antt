@@ -1,7 +1,7 @@
 -- Sets of pairs of states in an array, for each first state its set of second states, and the tests by which the code
 -- marks them.
--- In order: pairsIn; Long; rowHas, differsAt; takes, beyond, joins, joinsBy, clashesBy, two edges with one word; Marked, what a
--- loop has marked.
+-- In order: pairsIn; Long; rowHas, differsAt; takes, beyond, joins, joinsBy, clashesBy, two edges with one word;
+-- Marked, what a loop has marked.
 -- Assumes nothing.
 use mathlib.Core.Path.{_≡_}
 use mathlib.Core.Bool.{Bool, not, _&&_, _||_}

@@ -11,7 +11,7 @@ returns c =
       (λ k. refl),
       (
         s .pre .1,
-        sym (same-pairs (a .states) (now (a .set)) (now (a .out)) (s .pre .0)
+        sym (same-pairs (a .states) (now (a .set)) (now (a .out))
             (sym (c .before .same-pairs .ensures) ∙ c .if1 .taken)),
       ),
     )
