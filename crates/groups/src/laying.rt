@@ -90,9 +90,9 @@ pub fn lay(
         Grouped (borrowed states n (word .entry) (next .entry)) (now (start .exit)) (now (first .exit))
         (now (low .exit)) (now (high .exit)) ⌝ }
 {
-    let c = chain(states, n, word, next);
-    let head = c.head;
-    let link = c.link;
+    let mut head = [0u16; 256];
+    let mut link = [0u16; 2048];
+    chain(states, n, word, next, &mut head, &mut link);
     let mut targets = [0u64; 256];
     start[0] = 0;
     let mut k = 0;

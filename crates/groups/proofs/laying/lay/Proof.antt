@@ -28,7 +28,7 @@ loop-holds c =
     let a = s .args in (
       omega arith,
       length-replicate {A = ℕ} 256 0,
-      record { fits = s .pre .0; chained = c .before .before .chain .ensures },
+      record { fits = s .pre .0; chained = c .chain .ensures },
       laying-start (table s) (now (a .start)) (now (a .first)) (now (a .low)) (now (a .high)) (s .pre .1) (s .pre .2)
           (s .pre .3) (s .pre .4),
     )
