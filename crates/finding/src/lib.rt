@@ -4,8 +4,8 @@ ghost use mathlib.Core.Logic.{_⊎_};
 ghost use Prim.Native.Nat.{_+_, _≤_, _<_};
 ghost use Rattle.table.specs.Value.{Ready, rowsIn};
 ghost use Rattle.windows.specs.Search.{noSize, window, pasts};
-ghost use Rattle.table.specs.Edges.{borrowed, rowsOf, Linked};
-ghost use Rattle.pairs.specs.PairSets.{pairsIn, Long};
+ghost use Rattle.table.specs.Edges.{borrowed, rowsOf};
+ghost use Rattle.pairs.specs.PairSets.{pairsIn, Long, Worded};
 ghost use Rattle.windows.specs.Steps.{size, withWord, Leading, Room};
 ghost use Rattle.finding.specs.Finding.{foundSize};
 use pairs::sets::fill;
@@ -65,7 +65,7 @@ fn try_memory(
     spare: &mut [u64; 256],
 ) -> Best
     requires { ⌜
-        Linked (borrowed states n word next) (now head) (now link) × (m ≤ 15)
+        Worded (borrowed states n word next) (now head) (now link) × (m ≤ 15)
         × (m ≤ best .memory + best .lookahead)
         × (pairsIn states (now past) ≡ pasts (rowsOf (borrowed states n word next)) m)
         × Leading (rowsOf (borrowed states n word next)) m (size (best .memory) (best .lookahead))
@@ -115,7 +115,7 @@ fn stop_at(
     spare: &mut [u64; 256],
 ) -> usize
     requires { ⌜
-        Linked (borrowed states n word next) (now head) (now link) × Long (now past) × Long (now spare) ⌝ }
+        Worded (borrowed states n word next) (now head) (now link) × Long (now past) × Long (now spare) ⌝ }
     ensures answer { λ r. ⌜
         ((r ≡ last) ⊎ ((r ≡ 0) × (m < last)
         × (pairsIn states (now (past .exit)) ≡ pairsIn states (now (past .entry))))) ⌝ }
@@ -143,7 +143,7 @@ fn least(
     head: &[u16; 256],
     link: &[u16; 2048],
 ) -> Best
-    requires { ⌜ Linked (borrowed states n word next) (now head) (now link) ⌝ }
+    requires { ⌜ Worded (borrowed states n word next) (now head) (now link) ⌝ }
     ensures answer { λ r. ⌜
         window (rowsOf (borrowed states n (word .entry) (next .entry))) ≡ size (r .memory) (r .lookahead) ⌝ }
 {
@@ -194,9 +194,9 @@ pub fn least_window(t: Table) -> Found
     let n = ways(t.p);
     let word = t.word;
     let next = t.next;
-    let c = chain(t.states, n, &word, &next);
-    let head = c.head;
-    let link = c.link;
+    let mut head = [0u16; 256];
+    let mut link = [0u16; 2048];
+    chain(t.states, n, &word, &next, &mut head, &mut link);
     let b = least(t.states, n, &word, &next, &head, &link);
     if b.memory == 16 {
         return Found::None;

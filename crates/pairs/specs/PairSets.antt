@@ -1,17 +1,17 @@
 -- Sets of pairs of states in an array, for each first state its set of second states, and the tests by which the code
 -- marks them.
 -- In order: pairsIn; Long; rowHas, differsAt; takes, beyond, joins, joinsBy, clashesBy, two edges with one word;
--- Marked, what a loop has marked.
+-- Marked, what a loop has marked; Worded, chains of a table whose words are bytes.
 -- Assumes nothing.
 use mathlib.Core.Path.{_≡_}
-use mathlib.Core.Bool.{Bool, not, _&&_, _||_}
+use mathlib.Core.Bool.{Bool, true, not, _&&_, _||_}
 use mathlib.Core.List.{List}
 use Prim.Native.Nat.{ℕ, _/_, _%_, _<_}
 use lib.Dec.{eqb}
 use lib.ListN.{length, getD}
 use Rattle.laws.specs.Sets.{Pairs, grid}
 use Rattle.table.specs.Marks.{some}
-use Rattle.table.specs.Edges.{Arrays, places, nextOf, bears}
+use Rattle.table.specs.Edges.{Arrays, places, isEdge, wordOf, nextOf, bears, Linked}
 use Rattle.bitsets.specs.BitSets.{holds, setAt}
 
 -- the pairs of n states that the array A holds
@@ -56,3 +56,8 @@ clashesBy t P u v w = some (λ d. joinsBy t P d u v w) (t .ways)
 pub record Marked (A : List ℕ) (hit : ℕ → ℕ → ℕ → Bool) (i : ℕ) (R : List ℕ) : Type 0 where
   pub long : length R ≡ length A
   pub rows : (u v : ℕ) → u < 128 → holds (setAt R u) v ≡ (holds (setAt A u) v || some (hit u v) i)
+
+-- a table with its chains, whose words are bytes
+pub record Worded (t : Arrays) (head link : List ℕ) : Type 0 where
+  pub linked : Linked t head link
+  pub bytes : (e : ℕ) → e < places t → isEdge t e ≡ true → wordOf t e < 256

@@ -1,3 +1,5 @@
 pub mod TwoEdges
+pub mod ReadyWords
+pub mod StepPairs
 pub mod SetsOf
 pub mod Stepped

@@ -1,7 +1,7 @@
 -- Steps until a set of pairs is empty.
 -- In order: iterate-add, step-more; Stepped, stepped-start to stepped-rest.
 -- Assumes nothing.
-use Rattle.laws.proofs.All.{_≡_, sym, ap, _∙_, Bool, true, false, List, ℕ, zero, suc, _+_, _-_, _≤_, _<_, add-one}
+use Rattle.laws.proofs.All.{_≡_, sym, ap, _∙_, true, false, List, ℕ, zero, suc, _+_, _-_, _≤_, _<_, add-one}
 use Rattle.laws.proofs.All.{zero-add, suc-add, arith, decLt, below-more, iterate, Pairs, iterate-suc, iterate-fixed}
 use Rattle.table.specs.Rows.{Rows}
 use Rattle.windows.specs.Works.{into, reversed}
@@ -21,16 +21,16 @@ module _ (t : Rows) where
       ap (λ k. iterate (into (reversed t)) k H) (add-one i) ∙ iterate-suc (into (reversed t)) i H
 
 -- ---- steps until a set is empty: the set after k of them, none of those before it empty
-pub record Stepped (t : Rows) (n : ℕ) (H : Pairs) (most : ℕ) (cur : List Bool) (k : ℕ) : Type 0 where
+pub record Stepped (t : Rows) (n : ℕ) (H : Pairs) (most : ℕ) (cur : List ℕ) (k : ℕ) : Type 0 where
   pub within : k ≤ most
   pub set : pairsIn n cur ≡ iterate (into (reversed t)) k H
   pub sooner : (j : ℕ) → j < k → empty t (iterate (into (reversed t)) j H) ≡ false
 
-module _ (t : Rows) (n : ℕ) (H : Pairs) (most : ℕ) (cur : List Bool) where
+module _ (t : Rows) (n : ℕ) (H : Pairs) (most : ℕ) (cur : List ℕ) where
   pub stepped-start : pairsIn n cur ≡ H → Stepped t n H most cur 0
   stepped-start e = record { within = omega arith; set = e; sooner = λ j h. absurd (omega arith) }
 
-  pub stepped-more : (k : ℕ) (r : List Bool) → Stepped t n H most cur k → (k ≡ most → ⊥)
+  pub stepped-more : (k : ℕ) (r : List ℕ) → Stepped t n H most cur k → (k ≡ most → ⊥)
       → empty t (pairsIn n cur) ≡ false → pairsIn n r ≡ into (reversed t) (pairsIn n cur)
       → Stepped t n H most r (k + 1)
   stepped-more k r h l e s = record {
@@ -57,7 +57,7 @@ module _ (t : Rows) (n : ℕ) (H : Pairs) (most : ℕ) (cur : List Bool) where
   }
 
   -- a set that one word leads to itself stays
-  pub stepped-rest : (k : ℕ) (r : List Bool) → Stepped t n H most cur k → empty t (pairsIn n cur) ≡ false
+  pub stepped-rest : (k : ℕ) (r : List ℕ) → Stepped t n H most cur k → empty t (pairsIn n cur) ≡ false
       → pairsIn n r ≡ into (reversed t) (pairsIn n cur) → pairsIn n r ≡ pairsIn n cur → Emptied t H most (most + 1)
   stepped-rest k r h e s q = record {
     within = omega arith;

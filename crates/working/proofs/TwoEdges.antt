@@ -1,27 +1,22 @@
--- Two edges with one word: by places, as the code marks them, and by states, as the definitions say it.
--- In order: Two, two edges; two→, →two, by places; step-pairs, a step forward; hits-pairs, a step by a clash.
+-- Two edges with one word: by states, and by places, as the code marks them.
+-- In order: Bytes; Two, two edges; turned; by→, →by, by places; join→, →join, clash→, →clash, the code's tests.
 -- Assumes nothing.
 use Rattle.laws.proofs.All.{_≡_, sym, ap, subst, subst₂, _∙_, Bool, true, false, not, _&&_, List, ℕ, _+_, _*_, _/_}
-use Rattle.laws.proofs.All.{_%_, _<_, arith, T, T-not, not-T, eqb, eqb→eq, eqb-refl, ltb→lt, length, member, Pairs}
-use Rattle.laws.proofs.All.{has, grid, and→, →and, bool-eq, T→true}
-use Rattle.table.specs.Rows.{edges, at}
-use Rattle.windows.specs.Works.{into, reversed}
-use Rattle.windows.specs.Search.{hits}
+use Rattle.laws.proofs.All.{_%_, _<_, arith, T, T-not, not-T, eqb, eqb→eq, eqb-refl, ltb→lt, and→, →and, or→, →orR}
+use Rattle.laws.proofs.All.{⊎-elim}
 use Rattle.table.specs.Marks.{some}
-use Rattle.table.specs.Edges.{Arrays, Fits, rowsOf, places, isEdge, wordOf, nextOf, bears}
-use Rattle.windows.proofs.Same.{onward}
-use Rattle.windows.proofs.Complete.{back-one}
-use Rattle.windows.proofs.Clashes.{Hit, hits→, →hits}
+use Rattle.table.specs.Edges.{Arrays, Fits, places, isEdge, wordOf, nextOf, bears}
 use Rattle.table.proofs.Marks.{found, some-at}
-use Rattle.table.proofs.RowsOf.{length-rows, row-long, edge-at, closed-rows, place, place-state, place-datum}
-use Rattle.table.proofs.RowsOf.{place-lt, place-edge}
-use Rattle.table.proofs.EqualGrids.{grid-has}
-use Rattle.pairs.specs.PairSets.{pairsIn, counts, joins, leftOut, joinsAny}
-use Rattle.pairs.proofs.PairSets.{has-pairs, pairs-grid}
-use Rattle.windows.proofs.PastSets.{into-grid}
+use Rattle.table.proofs.RowsOf.{place, place-state, place-datum, place-lt, place-edge}
+use Rattle.bitsets.specs.BitSets.{holds, setAt}
+use Rattle.pairs.specs.PairSets.{takes, beyond, joins, joinsBy, clashesBy}
+
+-- the words of all edges are bytes
+abbrev pub Bytes : Arrays → Type 0
+Bytes t = (e : ℕ) → e < places t → isEdge t e ≡ true → wordOf t e < 256
 
 -- edges of s and u that carry d and e lead from a pair of P to x and y, with different data where they must differ
-pub record Two (t : Arrays) (P : List Bool) (apart : Bool) (x y : ℕ) : Type 0 where
+pub record Two (t : Arrays) (P : List ℕ) (apart : Bool) (x y : ℕ) : Type 0 where
   pub s : ℕ
   pub u : ℕ
   pub d : ℕ
@@ -30,44 +25,34 @@ pub record Two (t : Arrays) (P : List Bool) (apart : Bool) (x y : ℕ) : Type 0 
   pub hu : u < t .states
   pub hd : d < t .ways
   pub he : e < t .ways
-  pub inside : T (member P (s * 128 + u))
+  pub inside : T (holds (setAt P s) u)
   pub differ : T apart → T (not (eqb d e))
   pub word : wordOf t (s * 16 + d) ≡ wordOf t (u * 16 + e)
   pub next : nextOf t (s * 16 + d) ≡ x
   pub next′ : nextOf t (u * 16 + e) ≡ y
 
--- the edge j does not carry what is left out beside i
-out→ : (apart : Bool) (i j : ℕ) → T (not (eqb (j % 16) (leftOut apart i))) → T apart → T (not (eqb (i % 16) (j % 16)))
-out→ true i j h a = not-T (eqb (i % 16) (j % 16))
-    (λ e. T-not (eqb (j % 16) (i % 16)) h
-    (subst (λ k. T (eqb (j % 16) k)) (sym (eqb→eq (i % 16) (j % 16) e)) (eqb-refl (j % 16))))
-out→ false i j h a = absurd a
+-- a test for two that differ, turned round
+turned : (a b : ℕ) → T (not (eqb a b)) → T (not (eqb b a))
+turned a b h = not-T (eqb b a) (λ e. T-not (eqb a b) h (subst (λ k. T (eqb a k)) (sym (eqb→eq b a e)) (eqb-refl a)))
 
-→out : (apart : Bool) (i j : ℕ) → (T apart → T (not (eqb (i % 16) (j % 16))))
-    → T (not (eqb (j % 16) (leftOut apart i)))
-→out true i j h = not-T (eqb (j % 16) (i % 16))
-    (λ e. T-not (eqb (i % 16) (j % 16)) (h tt)
-    (subst (λ k. T (eqb (i % 16) k)) (sym (eqb→eq (j % 16) (i % 16) e)) (eqb-refl (i % 16))))
-→out false i j h = not-T (eqb (j % 16) 16) (λ e. let q : j % 16 ≡ 16 = eqb→eq (j % 16) 16 e in omega arith)
-
-places-one : (a b x y : ℕ) → b < 128 → y < 128 → a * 128 + b ≡ x * 128 + y → (a ≡ x) × (b ≡ y)
-places-one a b x y hb hy e = (omega arith, omega arith)
-
-module _ (t : Arrays) (g : Fits t) (P : List Bool) (apart : Bool) (x y : ℕ) (hy : y < t .states) where
-  two→ : T (some (joinsAny t P apart (x * 128 + y)) (places t)) → Two t P apart x y
-  two→ h =
-      let (i, li, f) = found (joinsAny t P apart (x * 128 + y)) (places t) h in
-      let (ei, f₂) = and→ (isEdge t i) (some (joins t P (leftOut apart i) i (x * 128 + y)) (places t)) f in
-      let (j, lj, f₃) = found (joins t P (leftOut apart i) i (x * 128 + y)) (places t) f₂ in
-      let (b, f₄) = and→ (bears t (wordOf t i) j)
-      (counts P (i / 16) (leftOut apart i) j && eqb (nextOf t i * 128 + nextOf t j) (x * 128 + y)) f₃ in
-      let (k, z) = and→ (counts P (i / 16) (leftOut apart i) j)
-      (eqb (nextOf t i * 128 + nextOf t j) (x * 128 + y)) f₄ in
-      let (ej, w) = and→ (isEdge t j) (eqb (wordOf t j) (wordOf t i)) b in
-      let (o, m) = and→ (not (eqb (j % 16) (leftOut apart i))) (member P (i / 16 * 128 + j / 16)) k in
-      let nj = g .inside j lj (T→true (isEdge t j) ej) in
-      let (p, q) = places-one (nextOf t i) (nextOf t j) x y (omega (arith, g .few)) (omega (arith, g .few))
-      (eqb→eq (nextOf t i * 128 + nextOf t j) (x * 128 + y) z) in
+-- ---- two edges by places
+module _ (t : Arrays) (g : Fits t) (P : List ℕ) (apart : Bool) (x y k : ℕ) where
+  -- two edges with the word w, of which one carries k and the other does not
+  by→ : (w : ℕ) → ((i j : ℕ) → T (takes k i) → T (not (eqb (j % 16) k)) → T apart → T (not (eqb (i % 16) (j % 16))))
+      → T (joinsBy t P k x y w) → Two t P apart x y
+  by→ w o h =
+      let (i, li, f) = found (joins t P w k x y) (places t) h in
+      let beside = some (beyond t P w k (i / 16) y) (places t) in
+      let (bi, f₂) = and→ (bears t w i) (takes k i && (eqb (nextOf t i) x && beside)) f in
+      let (ki, f₃) = and→ (takes k i) (eqb (nextOf t i) x && beside) f₂ in
+      let (ni, f₄) = and→ (eqb (nextOf t i) x) beside f₃ in
+      let (j, lj, f₅) = found (beyond t P w k (i / 16) y) (places t) f₄ in
+      let inside = holds (setAt P (i / 16)) (j / 16) in
+      let (bj, f₆) = and→ (bears t w j) (not (eqb (j % 16) k) && (inside && eqb (nextOf t j) y)) f₅ in
+      let (kj, f₇) = and→ (not (eqb (j % 16) k)) (inside && eqb (nextOf t j) y) f₆ in
+      let (m, nj) = and→ inside (eqb (nextOf t j) y) f₇ in
+      let (ei, wi) = and→ (isEdge t i) (eqb (wordOf t i) w) bi in
+      let (ej, wj) = and→ (isEdge t j) (eqb (wordOf t j) w) bj in
       record {
         s = i / 16;
         u = j / 16;
@@ -78,141 +63,70 @@ module _ (t : Arrays) (g : Fits t) (P : List Bool) (apart : Bool) (x y : ℕ) (h
         hd = ltb→lt (i % 16) (t .ways) ei;
         he = ltb→lt (j % 16) (t .ways) ej;
         inside = m;
-        differ = out→ apart i j o;
-        word = ap (wordOf t) (place i) ∙ sym (eqb→eq (wordOf t j) (wordOf t i) w) ∙ ap (wordOf t) (sym (place j));
-        next = ap (nextOf t) (place i) ∙ p;
-        next′ = ap (nextOf t) (place j) ∙ q;
+        differ = o i j ki kj;
+        word = ap (wordOf t) (place i) ∙ eqb→eq (wordOf t i) w wi ∙ sym (eqb→eq (wordOf t j) w wj)
+            ∙ ap (wordOf t) (sym (place j));
+        next = ap (nextOf t) (place i) ∙ eqb→eq (nextOf t i) x ni;
+        next′ = ap (nextOf t) (place j) ∙ eqb→eq (nextOf t j) y nj;
       }
 
-  →two : Two t P apart x y → T (some (joinsAny t P apart (x * 128 + y)) (places t))
-  →two r =
+  →by : (r : Two t P apart x y) → T (takes k (r .s * 16 + r .d)) → T (not (eqb (r .e) k))
+      → T (joinsBy t P k x y (wordOf t (r .s * 16 + r .d)))
+  →by r ki kj =
       let i = r .s * 16 + r .d in
       let j = r .u * 16 + r .e in
-      let qi = place-state t (r .s) (r .d) g (r .hs) (r .hd) in
-      let qj = place-state t (r .u) (r .e) g (r .hu) (r .he) in
-      let ri = place-datum t (r .s) (r .d) g (r .hs) (r .hd) in
-      let rj = place-datum t (r .u) (r .e) g (r .hu) (r .he) in
-      some-at (joinsAny t P apart (x * 128 + y)) (places t) i (place-lt t (r .s) (r .d) g (r .hs) (r .hd))
-      (→and (isEdge t i) (some (joins t P (leftOut apart i) i (x * 128 + y)) (places t))
-      (rw (place-edge t (r .s) (r .d) g (r .hs) (r .hd)) tt)
-      (some-at (joins t P (leftOut apart i) i (x * 128 + y)) (places t) j (place-lt t (r .u) (r .e) g (r .hu) (r .he))
-      (→and (bears t (wordOf t i) j)
-      (counts P (i / 16) (leftOut apart i) j && eqb (nextOf t i * 128 + nextOf t j) (x * 128 + y))
-      (→and (isEdge t j) (eqb (wordOf t j) (wordOf t i)) (rw (place-edge t (r .u) (r .e) g (r .hu) (r .he)) tt)
+      let w = wordOf t i in
+      let beside = some (beyond t P w k (i / 16) y) (places t) in
+      let inside = holds (setAt P (i / 16)) (j / 16) in
+      some-at (joins t P w k x y) (places t) i (place-lt t (r .s) (r .d) g (r .hs) (r .hd))
+      (→and (bears t w i) (takes k i && (eqb (nextOf t i) x && beside))
+      (→and (isEdge t i) (eqb (wordOf t i) w) (rw (place-edge t (r .s) (r .d) g (r .hs) (r .hd)) tt) (eqb-refl w))
+      (→and (takes k i) (eqb (nextOf t i) x && beside) ki
+      (→and (eqb (nextOf t i) x) beside (rw (r .next) (eqb-refl x))
+      (some-at (beyond t P w k (i / 16) y) (places t) j (place-lt t (r .u) (r .e) g (r .hu) (r .he))
+      (→and (bears t w j) (not (eqb (j % 16) k) && (inside && eqb (nextOf t j) y))
+      (→and (isEdge t j) (eqb (wordOf t j) w) (rw (place-edge t (r .u) (r .e) g (r .hu) (r .he)) tt)
       (rw (r .word) (eqb-refl (wordOf t j))))
-      (→and (counts P (i / 16) (leftOut apart i) j) (eqb (nextOf t i * 128 + nextOf t j) (x * 128 + y))
-      (→and (not (eqb (j % 16) (leftOut apart i))) (member P (i / 16 * 128 + j / 16))
-      (→out apart i j (λ a. rw (ri, rj) (r .differ a)))
-      (rw (qi, qj) (r .inside)))
-      (rw (r .next, r .next′) (eqb-refl (x * 128 + y)))))))
+      (→and (not (eqb (j % 16) k)) (inside && eqb (nextOf t j) y)
+      (rw (place-datum t (r .u) (r .e) g (r .hu) (r .he)) kj)
+      (→and inside (eqb (nextOf t j) y)
+      (subst₂ (λ a b. T (holds (setAt P a) b)) (sym (place-state t (r .s) (r .d) g (r .hs) (r .hd)))
+      (sym (place-state t (r .u) (r .e) g (r .hu) (r .he))) (r .inside))
+      (rw (r .next′) (eqb-refl y)))))))))
 
--- ---- the definitions' two edges
-module _ (t : Arrays) (g : Fits t) (P : List Bool) (x y : ℕ) (hx : x < t .states) (hy : y < t .states) where
-  -- the edges are there
-  there : (s d : ℕ) → s < t .states → d < t .ways → d < length (edges (rowsOf t) s)
-  there s d hs hd = rw (row-long t s hs) hd
+-- ---- the code's tests
+module _ (t : Arrays) (g : Fits t) (l : Bytes t) (P : List ℕ) (x y : ℕ) where
+  -- the word of the first of two edges is a byte
+  byte : (apart : Bool) (r : Two t P apart x y) → wordOf t (r .s * 16 + r .d) < 256
+  byte apart r = l (r .s * 16 + r .d) (place-lt t (r .s) (r .d) g (r .hs) (r .hd))
+      (place-edge t (r .s) (r .d) g (r .hs) (r .hd))
 
-  state : (s : ℕ) → s < t .states → s < length (rowsOf t)
-  state s hs = rw (length-rows t) hs
+  pub join→ : T (some (joinsBy t P 16 x y) 256) → Two t P false x y
+  join→ h =
+      let (w, lw, f) = found (joinsBy t P 16 x y) 256 h in
+      by→ t g P false x y 16 w (λ i j p q a. absurd a) f
 
-  held : (s u : ℕ) → s < t .states → u < t .states → has (pairsIn (t .states) P) s u ≡ member P (s * 128 + u)
-  held s u hs hu = has-pairs (t .states) P s u hs hu
+  pub →join : Two t P false x y → T (some (joinsBy t P 16 x y) 256)
+  →join r = some-at (joinsBy t P 16 x y) 256 (wordOf t (r .s * 16 + r .d)) (byte false r)
+      (→by t g P false x y 16 r tt (not-T (eqb (r .e) 16)
+      (λ e. let q : r .e ≡ 16 = eqb→eq (r .e) 16 e in omega (arith, r .he, g .narrow))))
 
-  step→ : Two t P false x y → T (has (into (reversed (rowsOf t)) (pairsIn (t .states) P)) x y)
-  step→ r =
-      let a = edge-at t (r .s) (r .d) (r .hs) (r .hd) in
-      let b = edge-at t (r .u) (r .e) (r .hu) (r .he) in
-      subst₂ (λ k l. T (has (into (reversed (rowsOf t)) (pairsIn (t .states) P)) k l))
-      (ap (λ k. k .next) a ∙ r .next) (ap (λ k. k .next) b ∙ r .next′)
-      (onward (rowsOf t) (pairsIn (t .states) P) (r .s) (r .u) (r .d) (r .e) (closed-rows t g) (state (r .s) (r .hs))
-      (state (r .u) (r .hu)) (there (r .s) (r .d) (r .hs) (r .hd)) (there (r .u) (r .e) (r .hu) (r .he))
-      (ap (λ k. k .word) a ∙ r .word ∙ sym (ap (λ k. k .word) b))
-      (rw (held (r .s) (r .u) (r .hs) (r .hu)) (r .inside)))
+  pub clash→ : T (some (clashesBy t P x y) 256) → Two t P true x y
+  clash→ h =
+      let (w, lw, f) = found (clashesBy t P x y) 256 h in
+      let (d, ld, f₂) = found (λ d. joinsBy t P d x y w) (t .ways) f in
+      by→ t g P true x y d w
+      (λ i j p q a. turned (j % 16) (i % 16) (subst (λ k. T (not (eqb (j % 16) k))) (sym (datum d i ld p)) q)) f₂
+    where
+      datum : (d i : ℕ) → d < t .ways → T (takes d i) → i % 16 ≡ d
+      datum d i ld p = ⊎-elim
+          (λ q. let e : d ≡ 16 = eqb→eq d 16 q in absurd (omega (arith, g .narrow)))
+          (λ q. eqb→eq (i % 16) d q) (or→ (eqb d 16) (eqb (i % 16) d) p)
 
-  →step : T (has (into (reversed (rowsOf t)) (pairsIn (t .states) P)) x y) → Two t P false x y
-  →step h =
-      let (s, u, d, e, ks, ku, i, kd, ke, w, p, q) =
-      back-one (rowsOf t) (pairsIn (t .states) P) x y (state x hx) (state y hy) h in
-      let hs : s < t .states = rw (length-rows t) at ks in
-      let hu : u < t .states = rw (length-rows t) at ku in
-      let hd : d < t .ways = rw (row-long t s hs) at kd in
-      let he : e < t .ways = rw (row-long t u hu) at ke in
-      let a = edge-at t s d hs hd in
-      let b = edge-at t u e hu he in
-      record {
-        s = s;
-        u = u;
-        d = d;
-        e = e;
-        hs = hs;
-        hu = hu;
-        hd = hd;
-        he = he;
-        inside = rw (held s u hs hu) at i;
-        differ = λ k. absurd k;
-        word = sym (ap (λ k. k .word) a) ∙ w ∙ ap (λ k. k .word) b;
-        next = sym (ap (λ k. k .next) a) ∙ p;
-        next′ = sym (ap (λ k. k .next) b) ∙ q;
-      }
-
-  hit→ : Two t P true x y → T (has (hits (rowsOf t) (pairsIn (t .states) P)) x y)
-  hit→ r =
-      let a = edge-at t (r .s) (r .d) (r .hs) (r .hd) in
-      let b = edge-at t (r .u) (r .e) (r .hu) (r .he) in
-      subst₂ (λ k l. T (has (hits (rowsOf t) (pairsIn (t .states) P)) k l))
-      (ap (λ k. k .next) a ∙ r .next) (ap (λ k. k .next) b ∙ r .next′)
-      (→hits (rowsOf t) (closed-rows t g) (pairsIn (t .states) P) (r .s) (r .u) (r .d) (r .e) (state (r .s) (r .hs))
-      (state (r .u) (r .hu)) (there (r .s) (r .d) (r .hs) (r .hd)) (there (r .u) (r .e) (r .hu) (r .he))
-      (rw (held (r .s) (r .u) (r .hs) (r .hu)) (r .inside)) (r .differ tt)
-      (ap (λ k. k .word) a ∙ r .word ∙ sym (ap (λ k. k .word) b)))
-
-  →hit : T (has (hits (rowsOf t) (pairsIn (t .states) P)) x y) → Two t P true x y
-  →hit h =
-      let k : Hit (rowsOf t) (pairsIn (t .states) P) x y = hits→ (rowsOf t) (pairsIn (t .states) P) x y h in
-      let hs : k .s < t .states = rw (length-rows t) at (k .hs) in
-      let hu : k .t < t .states = rw (length-rows t) at (k .ht) in
-      let hd : k .x < t .ways = rw (row-long t (k .s) hs) at (k .hx) in
-      let he : k .y < t .ways = rw (row-long t (k .t) hu) at (k .hy) in
-      let a = edge-at t (k .s) (k .x) hs hd in
-      let b = edge-at t (k .t) (k .y) hu he in
-      record {
-        s = k .s;
-        u = k .t;
-        d = k .x;
-        e = k .y;
-        hs = hs;
-        hu = hu;
-        hd = hd;
-        he = he;
-        inside = rw (held (k .s) (k .t) hs hu) at (k .inside);
-        differ = λ l. k .apart;
-        word = sym (ap (λ k. k .word) a) ∙ k .word ∙ ap (λ k. k .word) b;
-        next = sym (ap (λ k. k .next) a) ∙ k .next;
-        next′ = sym (ap (λ k. k .next) b) ∙ k .next′;
-      }
-
--- ---- what the code's array holds
-module _ (t : Arrays) (g : Fits t) (P R : List Bool) (apart : Bool)
-    (h : (z : ℕ) → z < t .states * 128 → member R z ≡ some (joinsAny t P apart z) (places t)) where
-  by-two : (Q : Pairs) → ((x y : ℕ) → x < t .states → y < t .states → Two t P apart x y → T (has Q x y))
-      → ((x y : ℕ) → x < t .states → y < t .states → T (has Q x y) → Two t P apart x y)
-      → pairsIn (t .states) R ≡ grid (t .states) (t .states) (has Q)
-  by-two Q f k = pairs-grid (t .states) R (has Q) (λ x y hx hy. h (x * 128 + y) (omega (arith, g .few))
-      ∙ bool-eq (some (joinsAny t P apart (x * 128 + y)) (places t)) (has Q x y)
-      (λ v. f x y hx hy (two→ t g P apart x y hy v)) (λ v. →two t g P apart x y hy (k x y hx hy v)))
-
-pub step-pairs : (t : Arrays) → Fits t → (P R : List Bool)
-    → ((z : ℕ) → z < t .states * 128 → member R z ≡ some (joinsAny t P false z) (places t))
-    → pairsIn (t .states) R ≡ into (reversed (rowsOf t)) (pairsIn (t .states) P)
-step-pairs t g P R h =
-    let Q = into (reversed (rowsOf t)) (pairsIn (t .states) P) in
-    by-two t g P R false h Q (step→ t g P) (→step t g P)
-    ∙ sym (into-grid (rowsOf t) (pairsIn (t .states) P) ∙ ap (λ n. grid n n (has Q)) (length-rows t))
-
-pub hits-pairs : (t : Arrays) → Fits t → (P R : List Bool)
-    → ((z : ℕ) → z < t .states * 128 → member R z ≡ some (joinsAny t P true z) (places t))
-    → pairsIn (t .states) R ≡ hits (rowsOf t) (pairsIn (t .states) P)
-hits-pairs t g P R h =
-    let Q = hits (rowsOf t) (pairsIn (t .states) P) in
-    by-two t g P R true h Q (hit→ t g P) (→hit t g P)
-    ∙ sym (grid-has (length (rowsOf t)) (length (rowsOf t)) _ ∙ ap (λ n. grid n n (has Q)) (length-rows t))
+  pub →clash : Two t P true x y → T (some (clashesBy t P x y) 256)
+  →clash r = some-at (clashesBy t P x y) 256 (wordOf t (r .s * 16 + r .d)) (byte true r)
+      (some-at (λ d. joinsBy t P d x y (wordOf t (r .s * 16 + r .d))) (t .ways) (r .d) (r .hd)
+      (→by t g P true x y (r .d) r
+      (→orR (eqb (r .d) 16) (eqb ((r .s * 16 + r .d) % 16) (r .d))
+      (rw (place-datum t (r .s) (r .d) g (r .hs) (r .hd)) (eqb-refl (r .d))))
+      (turned (r .d) (r .e) (r .differ tt))))

@@ -2,11 +2,11 @@
 ghost use mathlib.Core.Path.{_≡_};
 ghost use Prim.Native.Nat.{_≤_};
 ghost use Rattle.table.specs.Value.{Ready, rowsIn};
-ghost use Rattle.table.specs.Edges.{borrowed, rowsOf, Linked};
+ghost use Rattle.table.specs.Edges.{borrowed, rowsOf};
 ghost use Rattle.windows.specs.Works.{works, allPairs};
 ghost use Rattle.windows.specs.Search.{pasts};
 ghost use Rattle.windows.specs.Steps.{size};
-ghost use Rattle.pairs.specs.PairSets.{pairsIn, Long};
+ghost use Rattle.pairs.specs.PairSets.{pairsIn, Long, Worded};
 use crate::steps::clashes;
 use crate::steps::extend_memory;
 use crate::steps::lookahead_needed;
@@ -30,7 +30,7 @@ fn pairs_after(
     spare: &mut [u64; 256],
 )
     requires { ⌜
-        Linked (borrowed states n word next) (now head) (now link) × Long (now past) × Long (now spare)
+        Worded (borrowed states n word next) (now head) (now link) × Long (now past) × Long (now spare)
         × (pairsIn states (now past) ≡ allPairs (rowsOf (borrowed states n word next))) ⌝ }
     ensures written { λ r. ⌜
         pairsIn states (now (past .exit))
@@ -57,7 +57,7 @@ fn works_by(
     memory: usize,
     lookahead: usize,
 ) -> bool
-    requires { ⌜ Linked (borrowed states n word next) (now head) (now link) × (lookahead ≤ 15) ⌝ }
+    requires { ⌜ Worded (borrowed states n word next) (now head) (now link) × (lookahead ≤ 15) ⌝ }
     ensures answer { λ r. ⌜
         r ≡ works (rowsOf (borrowed states n (word .entry) (next .entry))) (size memory lookahead) ⌝ }
 {
@@ -98,8 +98,8 @@ pub fn works(t: Table, memory: usize, lookahead: usize) -> bool
     let n = ways(t.p);
     let word = t.word;
     let next = t.next;
-    let c = chain(t.states, n, &word, &next);
-    let head = c.head;
-    let link = c.link;
+    let mut head = [0u16; 256];
+    let mut link = [0u16; 2048];
+    chain(t.states, n, &word, &next, &mut head, &mut link);
     works_by(t.states, n, &word, &next, &head, &link, memory, lookahead)
 }

@@ -3,11 +3,11 @@
 ghost use mathlib.Core.Path.{_≡_};
 ghost use mathlib.Core.Bool.{true};
 ghost use Prim.Native.Nat.{_≤_};
-ghost use Rattle.table.specs.Edges.{borrowed, rowsOf, Linked};
+ghost use Rattle.table.specs.Edges.{borrowed, rowsOf};
 ghost use Rattle.windows.specs.Works.{into, reversed};
 ghost use Rattle.windows.specs.Search.{hits};
 ghost use Rattle.windows.specs.Steps.{withWord, Emptied};
-ghost use Rattle.pairs.specs.PairSets.{pairsIn, Long};
+ghost use Rattle.pairs.specs.PairSets.{pairsIn, Long, Worded};
 use pairs::clash_pairs;
 use pairs::sets::add_start;
 use pairs::sets::is_empty;
@@ -25,7 +25,7 @@ pub fn forward(
     pairs: &[u64; 256],
     out: &mut [u64; 256],
 )
-    requires { ⌜ Linked (borrowed states n word next) (now head) (now link) × Long (now out) ⌝ }
+    requires { ⌜ Worded (borrowed states n word next) (now head) (now link) × Long (now out) ⌝ }
     ensures written { λ r. ⌜
         Long (now (out .exit))
         × (pairsIn states (now (out .exit))
@@ -46,7 +46,7 @@ pub fn clashes(
     pairs: &[u64; 256],
     out: &mut [u64; 256],
 )
-    requires { ⌜ Linked (borrowed states n word next) (now head) (now link) × Long (now out) ⌝ }
+    requires { ⌜ Worded (borrowed states n word next) (now head) (now link) × Long (now out) ⌝ }
     ensures written { λ r. ⌜
         Long (now (out .exit))
         × (pairsIn states (now (out .exit))
@@ -68,7 +68,7 @@ pub fn extend_memory(
     spare: &mut [u64; 256],
 ) -> bool
     requires { ⌜
-        Linked (borrowed states n word next) (now head) (now link) × Long (now past) × Long (now spare) ⌝ }
+        Worded (borrowed states n word next) (now head) (now link) × Long (now past) × Long (now spare) ⌝ }
     ensures answer { λ r. ⌜ (r ≡ true → pairsIn states (now (past .exit)) ≡ pairsIn states (now (past .entry))) ⌝ }
     ensures written { λ r. ⌜
         pairsIn states (now (past .exit))
@@ -95,7 +95,7 @@ pub fn lookahead_needed(
     spare: &mut [u64; 256],
 ) -> usize
     requires { ⌜
-        Linked (borrowed states n word next) (now head) (now link) × (most ≤ 15) × Long (now set)
+        Worded (borrowed states n word next) (now head) (now link) × (most ≤ 15) × Long (now set)
         × Long (now spare) ⌝ }
     ensures answer { λ r. ⌜
         Emptied (rowsOf (borrowed states n (word .entry) (next .entry))) (pairsIn states (now (set .entry)))

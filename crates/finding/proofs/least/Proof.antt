@@ -1,7 +1,6 @@
 -- While the search goes on, the best window with memory below m and the pairs of memory m are known; at its end, the
 -- best is the least.
-use Rattle.laws.proofs.All.{_≡_, sym, subst, _∙_, true, false, _+_, _-_, _≤_, _<_, arith, now, length-replicate}
-use Rattle.laws.proofs.All.{needs}
+use Rattle.laws.proofs.All.{_≡_, sym, subst, _∙_, ℕ, _+_, _-_, _≤_, _<_, arith, now, length-replicate, needs}
 use Rattle.windows.specs.Search.{window, pasts}
 use Rattle.table.specs.Edges.{Arrays, arrays, rowsOf}
 use Rattle.table.proofs.RowsOf.{length-rows, closed-rows}
@@ -29,22 +28,25 @@ abbrev μ-loop : tie.MeasureT-loop
 abbrev table : tie.Start Inv-loop μ-loop → Arrays
 table s = arrays (s .args .states) (s .args .n) (now (s .args .word)) (now (s .args .next))
 
+fill-requires : tie.Need-fill-requires Inv-loop μ-loop
+fill-requires c κs = (c .before .pre .linked .fits .few, length-replicate {A = ℕ} 256 0)
+
 loop-holds : tie.Need-loop-holds Inv-loop μ-loop
 loop-holds c =
-    let s = c .before in
-    let t = table s in
-    let few = s .pre .fits .few in (
+    let f = c .before in
+    let s = f .before .before in
+    let t = table s in (
       omega arith,
       omega arith,
       (λ l. (
         omega arith,
-        all-of (rowsOf t) (s .args .states) 16384 (length-rows t) few (omega arith) ∙ sym (pasts-none (rowsOf t)),
+        all-of (rowsOf t) (s .args .states) (length-rows t) _ (f .fill .ensures .1) ∙ sym (pasts-none (rowsOf t)),
         subst (Leading (rowsOf t) 0) (sym (c .no-window .ensures)) (lead-start (rowsOf t)),
       )),
       (λ l. absurd (omega arith)),
-      length-replicate 16384 true,
-      length-replicate 16384 false,
-      length-replicate 16384 false,
+      f .fill .ensures .0,
+      length-replicate {A = ℕ} 256 0,
+      length-replicate {A = ℕ} 256 0,
     )
 
 try-memory-requires : tie.Need-try-memory-requires Inv-loop μ-loop
@@ -52,12 +54,13 @@ try-memory-requires c κs =
     let i = c .before .before .before in
     let v = i .before .loop .inv in
     let k = v .2 (i .loop-test .taken) in
-    (i .before .before .before .pre, omega arith, k .0, k .1, k .2, v .5, v .6)
+    (i .before .before .before .before .before .pre, omega arith, k .0, k .1, k .2, v .5, v .6)
 
 stop-of-requires : tie.Need-stop-of-requires Inv-loop μ-loop
 stop-of-requires c κs =
     let a = c .before .before .before .before .before in
-    lead-small (rowsOf (table (a .before .before))) (a .loop .m + 1) _ (omega arith) (c .try-memory .ensures .0)
+    lead-small (rowsOf (table (a .before .before .before .before))) (a .loop .m + 1) _ (omega arith)
+    (c .try-memory .ensures .0)
 
 loop-again : tie.Need-loop-again Inv-loop μ-loop
 loop-again c =
@@ -65,12 +68,12 @@ loop-again c =
     let b = o .before in
     let i = b .before .before .before .before in
     let l = i .before .loop in
-    let s = i .before .before .before in
+    let s = i .before .before .before .before .before in
     let t = table s in
     let k = l .inv .2 (i .loop-test .taken) in
     let e = o .stop-of .ensures in
     let z = size (b .try-memory .result .memory) (b .try-memory .result .lookahead) in
-    let go = turn (rowsOf t) (closed-rows t (s .pre .fits)) (l .m) z (o .stop-of .result) (c .stop-at .result)
+    let go = turn (rowsOf t) (closed-rows t (s .pre .linked .fits)) (l .m) z (o .stop-of .result) (c .stop-at .result)
     (pairsIn (s .args .states) (l .past)) _ (omega arith) (b .try-memory .ensures .0) (k .1) (e .0) (e .1) (e .2)
     (c .stop-at .ensures .1 .0) (c .stop-at .ensures .0) in (
       omega arith,
@@ -86,5 +89,6 @@ pub least-spec : {M : Type 1} → statement M
 least-spec =
     tie.close
     (tie.spec
-    Inv-loop μ-loop (λ c κs. search needs) loop-holds try-memory-requires (λ c. search needs) stop-of-requires
-    (λ c κs. search needs) (λ c. search needs) loop-again (λ c. c .before .loop .inv .3 (c .loop-test .left)))
+    Inv-loop μ-loop fill-requires (λ c κs. search needs) loop-holds try-memory-requires (λ c. search needs)
+    stop-of-requires (λ c κs. search needs) (λ c. search needs) loop-again
+    (λ c. c .before .loop .inv .3 (c .loop-test .left)))

@@ -1,11 +1,12 @@
 -- The chains of the table's edges serve the search; memory 16 is its mark for none.
-use Rattle.laws.proofs.All.{_≡_, sym, ap, _∙_, needs}
+use Rattle.laws.proofs.All.{_≡_, sym, ap, _∙_, ℕ, length-replicate, needs}
 use Rattle.windows.specs.Search.{window}
 use Rattle.table.specs.Value.{rowsIn}
 use Rattle.table.specs.Edges.{arrays, rowsOf}
 use Rattle.table.proofs.RowsOf.{fits-lent}
 use Rattle.windows.specs.Steps.{size}
 use Rattle.windows.proofs.Leading.{none-found}
+use Rattle.working.proofs.ReadyWords.{worded-lent}
 use Rattle.finding.proofs.least_window.Statement.{statement}
 use Rattle.finding.proofs.least_window.Tie as tie
 
@@ -21,17 +22,17 @@ found c =
 
 chain-requires : tie.Need-chain-requires
 chain-requires c κs =
-    let w = c .before .before .before .before in
-    fits-lent (w .before .args .t) (w .ways .result) (w .before .pre) (w .ways .ensures .0)
+    let w = c .before .before .before .before .before .before in (
+      fits-lent (w .before .args .t) (w .ways .result) (w .before .pre) (w .ways .ensures .0),
+      length-replicate {A = ℕ} 256 0,
+      length-replicate {A = ℕ} 2048 0,
+    )
 
 least-requires : tie.Need-least-requires
 least-requires c κs =
-    let h = c .before .before .before .before .before .before in
-    let w = h .before .before .before .before .before in
-    record {
-      fits = fits-lent (w .before .args .t) (w .ways .result) (w .before .pre) (w .ways .ensures .0);
-      chained = h .chain .ensures;
-    }
+    let h = c .before .before .before .before in
+    let w = h .before .before .before .before .before .before .before in
+    worded-lent (w .before .args .t) (w .ways .result) _ _ (w .before .pre) (w .ways .ensures .0) (h .chain .ensures)
 
 returns : tie.Need-returns
 returns c = none-found _ _ _ (found (c .before .before)) (c .if1 .taken)

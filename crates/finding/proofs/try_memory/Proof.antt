@@ -18,10 +18,10 @@ abbrev best : tie.Start → Size
 best s = size (s .args .best .memory) (s .args .best .lookahead)
 
 closed : (s : tie.Start) → Closed (rowsOf (table s))
-closed s = closed-rows (table s) (s .pre .0 .fits)
+closed s = closed-rows (table s) (s .pre .0 .linked .fits)
 
 some : (s : tie.Start) → 0 < length (rowsOf (table s))
-some s = rw (length-rows (table s)) (s .pre .0 .fits .some)
+some s = rw (length-rows (table s)) (s .pre .0 .linked .fits .some)
 
 abbrev start : tie.After-lookahead-needed → tie.Start
 start c = c .before .before .before .before .before .before

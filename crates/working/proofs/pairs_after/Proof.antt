@@ -21,7 +21,7 @@ abbrev table : tie.Start Inv-loop μ-loop → Arrays
 table s = arrays (s .args .states) (s .args .n) (now (s .args .word)) (now (s .args .next))
 
 closed : (s : tie.Start Inv-loop μ-loop) → Closed (rowsOf (table s))
-closed s = closed-rows (table s) (s .pre .0 .fits)
+closed s = closed-rows (table s) (s .pre .0 .linked .fits)
 
 loop-holds : tie.Need-loop-holds Inv-loop μ-loop
 loop-holds c = (omega arith, c .pre .3 ∙ sym (pasts-none (rowsOf (table c))), c .pre .1, c .pre .2)

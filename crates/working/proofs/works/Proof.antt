@@ -1,25 +1,27 @@
 -- The chains of the table's edges serve the test.
-use Rattle.laws.proofs.All.{ap, _∙_, needs}
+use Rattle.laws.proofs.All.{ap, _∙_, ℕ, length-replicate, needs}
 use Rattle.windows.specs.Works.{works}
 use Rattle.table.specs.Edges.{arrays, rowsOf}
 use Rattle.table.proofs.RowsOf.{fits-lent}
 use Rattle.windows.specs.Steps.{size}
+use Rattle.working.proofs.ReadyWords.{worded-lent}
 use Rattle.working.proofs.works.Statement.{statement}
 use Rattle.working.proofs.works.Tie as tie
 
 chain-requires : tie.Need-chain-requires
 chain-requires c κs =
-    let w = c .before .before .before .before in
-    fits-lent (w .before .args .t) (w .ways .result) (w .before .pre .0) (w .ways .ensures .0)
+    let w = c .before .before .before .before .before .before in (
+      fits-lent (w .before .args .t) (w .ways .result) (w .before .pre .0) (w .ways .ensures .0),
+      length-replicate {A = ℕ} 256 0,
+      length-replicate {A = ℕ} 2048 0,
+    )
 
 works-by-requires : tie.Need-works-by-requires
 works-by-requires c κs =
-    let h = c .before .before .before .before .before .before in
-    let w = h .before .before .before .before .before in (
-      record {
-        fits = fits-lent (w .before .args .t) (w .ways .result) (w .before .pre .0) (w .ways .ensures .0);
-        chained = h .chain .ensures;
-      },
+    let h = c .before .before .before .before in
+    let w = h .before .before .before .before .before .before .before in (
+      worded-lent (w .before .args .t) (w .ways .result) _ _ (w .before .pre .0) (w .ways .ensures .0)
+          (h .chain .ensures),
       w .before .pre .1,
     )
 

@@ -11,13 +11,14 @@ table s = arrays (s .args .states) (s .args .n) (now (s .args .word)) (now (s .a
 
 returns : tie.Need-returns
 returns c =
-    let f = c .before .before .before in
+    let a = c .before .before .before in
+    let f = a .before .before in
     let s = f .before .before .before in
     let e = c .replace .ensures in
-    let put = start-put (rowsOf (table s)) (s .args .states) (now (s .args .past)) _ (length-rows (table s))
-    (s .pre .0 .fits .few) (f .forward .ensures .0) (f .forward .ensures .1) in
-    (e .0, (e .1 .1 ∙ put .0, (e .1 .0, put .1)))
+    let put = start-put (rowsOf (table s)) (s .args .states) (length-rows (table s)) (now (s .args .past)) _ _
+    (a .add-start .ensures .1) (f .forward .ensures .1) in
+    (e .0, (e .1 .1 ∙ put, (e .1 .0, a .add-start .ensures .0)))
 
 pub extend-memory-spec : {M : Type 1} → statement M
 extend-memory-spec =
-    tie.close (tie.spec (λ c κs. search needs) (λ c. search needs) (λ c κs. search needs) returns)
+    tie.close (tie.spec (λ c κs. search needs) (λ c κs. search needs) (λ c κs. search needs) returns)

@@ -1,7 +1,7 @@
 -- What two edges with one word lead to is one step forward.
 use Rattle.laws.proofs.All.{now, needs}
 use Rattle.table.specs.Edges.{arrays}
-use Rattle.working.proofs.TwoEdges.{step-pairs}
+use Rattle.working.proofs.StepPairs.{step-pairs}
 use Rattle.working.proofs.steps.forward.Statement.{statement}
 use Rattle.working.proofs.steps.forward.Tie as tie
 
@@ -10,8 +10,8 @@ returns c =
     let s = c .before .before in
     let a = s .args in (
       c .step-pairs .ensures .0,
-      step-pairs (arrays (a .states) (a .n) (now (a .word)) (now (a .next))) (s .pre .0 .fits) (now (a .pairs)) _
-          (c .step-pairs .ensures .1),
+      step-pairs (arrays (a .states) (a .n) (now (a .word)) (now (a .next))) (s .pre .0 .linked .fits)
+          (s .pre .0 .bytes) (now (a .pairs)) _ (c .step-pairs .ensures .1),
     )
 
 pub forward-spec : {M : Type 1} → statement M

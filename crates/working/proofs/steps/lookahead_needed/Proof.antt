@@ -29,8 +29,7 @@ emptied : (c : tie.After-is-empty Inv-loop μ-loop)
 emptied c =
     let s = c .before .before .before in
     c .is-empty .ensures
-    ∙ empty-of (rowsOf (table s)) (s .args .states) (c .before .before .loop .set) (length-rows (table s))
-    (s .pre .0 .fits .few)
+    ∙ empty-of (rowsOf (table s)) (s .args .states) (length-rows (table s)) (c .before .before .loop .set)
 
 -- one step forward
 stepped : (c : tie.After-replace Inv-loop μ-loop)
@@ -67,7 +66,7 @@ forward-requires c κs =
 replace-requires : tie.Need-replace-requires Inv-loop μ-loop
 replace-requires c κs =
     let l = c .before .before .before .before .before .before .before .before .before in
-    (l .before .pre .0 .fits .few, l .loop .inv .1)
+    (l .before .pre .0 .linked .fits .few, l .loop .inv .1)
 
 returns-3 : tie.Need-returns-3 Inv-loop μ-loop
 returns-3 c =
