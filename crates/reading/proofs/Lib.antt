@@ -1,4 +1,5 @@
+pub mod Scans
 pub mod FirstReading
-pub mod FirstTurns
-pub mod DatumOrMark
+pub mod GroupReading
+pub mod GroupMarks
 pub mod Windowed

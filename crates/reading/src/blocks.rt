@@ -17,6 +17,7 @@ use bitsets::meets;
 use bitsets::none;
 use bitsets::with;
 use groups::targets_at;
+use stepping::index;
 use stepping::readers;
 use stepping::step_all;
 use table::chains::wide;
@@ -52,10 +53,11 @@ fn first_group(
 ) -> usize
     requires { ⌜ ((t : Arrays) × Grouped t (now start) (now first) (now low) (now high)) ⌝ }
     ensures answer { λ r. ⌜
-        r ≡ firstGroup (now (start .entry)) (now (first .entry)) (now (low .entry)) (now (high .entry)) past w ahead ⌝ }
+        (r ≡ firstGroup (now (start .entry)) (now (first .entry)) (now (low .entry)) (now (high .entry)) past w ahead)
+        × (w < 256) ⌝ }
 {
     let end = start[w as usize + 1] as usize;
-    let mut k = start[w as usize] as usize;
+    let mut k = index(start[w as usize]);
     while k < end {
         if joins(first, low, high, past, ahead, k) {
             return k;
@@ -100,15 +102,13 @@ fn first_into(
 
 // A group of the word w is that of a state of the set.
 fn has_word(start: &[u16; 257], first: &[u16; 2048], set: BitSet, w: u8) -> bool
-    requires { ⌜
-        ((w : ℕ) → w < 256 → getD (now start) (w + 1) 0 ≤ 2048)
-        × ((k : ℕ) → getD (now start) w 0 ≤ k → k < getD (now start) (w + 1) 0 → getD (now first) k 0 < 2048) ⌝ }
+    requires { ⌜ ((t : Arrays) × (low : List ℕ) × (high : List ℕ) × Grouped t (now start) (now first) low high) ⌝ }
     ensures answer { λ r. ⌜
         r ≡ between (holdsFrom (now (first .entry)) set) (getD (now (start .entry)) w 0)
         (getD (now (start .entry)) (w + 1) 0) ⌝ }
 {
     let end = start[w as usize + 1] as usize;
-    let mut k = start[w as usize] as usize;
+    let mut k = index(start[w as usize]);
     while k < end {
         if has(set, first[k] as usize / 16) {
             return true;

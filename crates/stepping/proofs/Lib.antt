@@ -1,3 +1,5 @@
 pub mod StateSteps
+pub mod SetSteps
+pub mod GroupTurns
 pub mod StateWords
 pub mod Readings

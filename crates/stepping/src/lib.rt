@@ -1,13 +1,13 @@
 // Sets of states in two machine words, stepped by words along the groups of their edges, forward and back.
 ghost use mathlib.Core.Path.{_≡_};
 ghost use mathlib.Core.Bool.{_||_};
-ghost use Prim.Native.Nat.{ℕ, _+_, _≤_, _<_};
-ghost use lib.ListN.{length, getD};
+ghost use Prim.Native.Nat.{ℕ, _≤_, _<_};
+ghost use lib.ListN.{length};
 ghost use lib.Seq.{slice};
 ghost use Rattle.table.specs.Edges.{Arrays, rowsOf};
 ghost use Rattle.bitsets.specs.BitSets.{holds, yesNo};
-ghost use Rattle.groups.specs.Groups.{sourceAt, Grouped, between, stepsTo, leadsInto};
-ghost use Rattle.stepping.specs.StateSets.{alongAll, able};
+ghost use Rattle.groups.specs.Groups.{sourceAt, Grouped, stepsTo, leadsInto};
+ghost use Rattle.stepping.specs.StateSets.{along, alongAll, back, able};
 use bitsets::BitSet;
 use bitsets::every;
 use bitsets::has;
@@ -16,6 +16,13 @@ use bitsets::meets;
 use bitsets::none;
 use bitsets::with_if;
 use groups::targets_at;
+
+// A number of two bytes as an index.
+pub fn index(x: u16) -> usize
+    ensures answer { λ r. ⌜ r ≡ x ⌝ }
+{
+    x as usize
+}
 
 // The set with the states to which group k leads, where its state is in `set`.
 fn step_group(
@@ -48,12 +55,11 @@ fn step_by(
 ) -> BitSet
     requires { ⌜ ((t : Arrays) × Grouped t (now start) (now first) (now low) (now high)) ⌝ }
     ensures answer { λ r. ⌜
-        ((u : ℕ) → holds r u
-        ≡ between (stepsTo (now (first .entry)) (now (low .entry)) (now (high .entry)) set u)
-        (getD (now (start .entry)) w 0) (getD (now (start .entry)) (w + 1) 0)) ⌝ }
+        ((t : Arrays) → Grouped t (now (start .entry)) (now (first .entry)) (now (low .entry)) (now (high .entry))
+        → yesNo (t .states) r ≡ along (rowsOf t) (yesNo (t .states) set) w) ⌝ }
 {
     let end = start[w as usize + 1] as usize;
-    let mut k = start[w as usize] as usize;
+    let mut k = index(start[w as usize]);
     let mut out = none();
     while k < end {
         let more = step_group(first, low, high, set, k, out);
@@ -95,12 +101,11 @@ fn back_by(
 ) -> BitSet
     requires { ⌜ ((t : Arrays) × Grouped t (now start) (now first) (now low) (now high)) ⌝ }
     ensures answer { λ r. ⌜
-        ((s : ℕ) → holds r s
-        ≡ between (leadsInto (now (first .entry)) (now (low .entry)) (now (high .entry)) set s)
-        (getD (now (start .entry)) w 0) (getD (now (start .entry)) (w + 1) 0)) ⌝ }
+        ((t : Arrays) → Grouped t (now (start .entry)) (now (first .entry)) (now (low .entry)) (now (high .entry))
+        → yesNo (t .states) r ≡ back (rowsOf t) (yesNo (t .states) set) w) ⌝ }
 {
     let end = start[w as usize + 1] as usize;
-    let mut k = start[w as usize] as usize;
+    let mut k = index(start[w as usize]);
     let mut out = none();
     while k < end {
         let more = back_group(first, low, high, set, k, out);

@@ -1,21 +1,30 @@
--- The edge's state first, then its next state.
-use Rattle.laws.proofs.All.{sym, ap, _&&_, arith, now, getD, member, needs}
+-- The group's state first, then its targets.
+use Rattle.laws.proofs.All.{sym, ap, _∙_, _&&_, now, needs}
+use Rattle.bitsets.specs.BitSets.{meeting}
+use Rattle.groups.specs.Groups.{targetsAt}
 use Rattle.reading.proofs.blocks.joins.Statement.{statement}
 use Rattle.reading.proofs.blocks.joins.Tie as tie
 
 returns : tie.Need-returns
 returns c =
-    let a = c .before .before .before .before .args in
-    sym (ap (λ b. b && member (now (a .ahead)) (getD (now (a .next)) (a .e) 0)) (c .before .before .if1 .taken))
+    let p = c .before in
+    let i = p .before in
+    let h = i .before in
+    let a = h .before .before .args in
+    c .meets .ensures ∙ ap (λ g. meeting 128 g (a .ahead)) (p .targets-at .ensures)
+    ∙ sym (ap (λ b. b && meeting 128 (targetsAt (now (a .low)) (now (a .high)) (a .k)) (a .ahead))
+    (sym (h .has .ensures) ∙ i .if1 .taken))
 
 returns-2 : tie.Need-returns-2
 returns-2 c =
-    let a = c .before .before .args in
-    sym (ap (λ b. b && member (now (a .ahead)) (getD (now (a .next)) (a .e) 0)) (c .if1 .left))
+    let h = c .before in
+    let a = h .before .before .args in
+    sym (ap (λ b. b && meeting 128 (targetsAt (now (a .low)) (now (a .high)) (a .k)) (a .ahead))
+    (sym (h .has .ensures) ∙ c .if1 .left))
 
 pub joins-spec : {M : Type 1} → statement M
 joins-spec =
     tie.close
     (tie.spec
-    (λ c. search needs) (λ c. search needs) (λ c. omega (arith, c .before .before .before .pre .1))
-    (λ c. c .before .before .before .pre .1) returns returns-2)
+    (λ c. search needs) (λ c. search needs) (λ c. search needs) (λ c κs. search needs) (λ c κs. search needs)
+    (λ c κs. search needs) returns returns-2)
