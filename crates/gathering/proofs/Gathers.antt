@@ -2,7 +2,7 @@
 -- In order: leaves-no, leaves-yes; put-led; Partly, what the loop has gathered, part-start, part-jump, part-edge,
 -- part-done.
 -- Assumes nothing.
-use Rattle.laws.proofs.All.{_≡_, refl, sym, ap, ap₂, subst, _∙_, Bool, true, false, not, _&&_, _||_, or-false, List, ℕ}
+use Rattle.laws.proofs.All.{_≡_, refl, sym, ap, ap₂, subst, _∙_, true, false, not, _&&_, _||_, or-false, List, ℕ}
 use Rattle.laws.proofs.All.{_-_, _/_, _%_, _<_, eqb, eq-eqb, ne-eqb, length, Whether, so, nay, eqb-is}
 use mathlib.Core.Bool.{or-true}
 use Rattle.table.specs.Marks.{some}

@@ -2,7 +2,7 @@
 -- In order: none-joined; beyond-joined, the states to which the second edges lead; joins-left, joins-only,
 -- joins-marked, one turn of the loop over the first edges.
 -- Assumes nothing.
-use Rattle.laws.proofs.All.{_≡_, refl, sym, ap, ap₂, subst, _∙_, Bool, true, false, not, _&&_, and-false, List, ℕ, _*_}
+use Rattle.laws.proofs.All.{_≡_, sym, ap, ap₂, subst, _∙_, Bool, true, false, not, _&&_, and-false, List, ℕ}
 use Rattle.laws.proofs.All.{_/_, _%_, _≤_, _<_, arith, T, eqb, eqb→eq, eqb-refl, any, bool-eq, and→, →and}
 use Rattle.table.specs.Marks.{some}
 use Rattle.table.specs.Edges.{Arrays, places, nextOf, bears}
@@ -10,7 +10,7 @@ use Rattle.table.proofs.Marks.{found, some-at}
 use Rattle.bitsets.specs.declared.BitSet.{BitSet}
 use Rattle.bitsets.specs.BitSets.{holds, membersOf, setAt}
 use Rattle.bitsets.proofs.Sets.{any-members→, →any-members}
-use Rattle.gathering.specs.Gathered.{leaves, besideTo, led, Gathered, holdsIn}
+use Rattle.gathering.specs.Gathered.{leaves, besideTo, Gathered, holdsIn}
 use Rattle.pairs.specs.PairSets.{takes, beyond, joins}
 
 -- the set of no state has no member

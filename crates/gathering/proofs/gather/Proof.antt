@@ -1,5 +1,5 @@
 -- The loop goes along the chain of the word from its last edge to its first; what is left to gather is below `cur`.
-use Rattle.laws.proofs.All.{_≡_, ap, _∙_, true, _-_, _*_, _≤_, _<_, arith, now, getD, needs}
+use Rattle.laws.proofs.All.{_≡_, true, _-_, _*_, _≤_, _<_, arith, now, getD, needs}
 use Rattle.table.specs.Edges.{Arrays, arrays, nextOf, bears, lastBelow}
 use Rattle.table.proofs.Edges.{bears-edge, link-below, on-le, on-bears}
 use Rattle.gathering.proofs.Gathers.{Partly, part-start, part-jump, part-edge, part-done}

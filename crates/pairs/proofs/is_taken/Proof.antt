@@ -1,5 +1,5 @@
 -- The two answers of the test of 16.
-use Rattle.laws.proofs.All.{sym, ap, _∙_, _||_, _%_, eqb, eq-eqb, ne-eqb}
+use Rattle.laws.proofs.All.{sym, ap, _||_, _%_, eqb, eq-eqb, ne-eqb}
 use Rattle.pairs.proofs.is_taken.Statement.{statement}
 use Rattle.pairs.proofs.is_taken.Tie as tie
 

@@ -1,5 +1,5 @@
 -- Each turn marks where the edges with the word lead of which one carries the datum d and the other does not.
-use Rattle.laws.proofs.All.{_≡_, refl, ap, _∙_, _-_, _*_, _≤_, arith, now, needs}
+use Rattle.laws.proofs.All.{_≡_, refl, _∙_, _-_, _*_, _≤_, arith, now, needs}
 use Rattle.table.specs.Edges.{arrays}
 use Rattle.pairs.specs.PairSets.{Long, joins, joinsBy, Marked}
 use Rattle.pairs.proofs.RowMarks.{mark-none, mark-row}

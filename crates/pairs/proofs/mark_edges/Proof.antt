@@ -1,6 +1,6 @@
 -- The loop goes along the chain of the word from its last edge to its first; what is left to mark is below `cur`.
-use Rattle.laws.proofs.All.{_≡_, sym, ap, _∙_, true, _&&_, _||_, ⊎-elim, ℕ, _-_, _*_, _/_, _≤_, _<_, arith, now, getD}
-use Rattle.laws.proofs.All.{eqb, any, needs}
+use Rattle.laws.proofs.All.{_≡_, sym, ap, _∙_, true, _&&_, _||_, ⊎-elim, ℕ, _-_, _*_, _≤_, _<_, arith, now, getD}
+use Rattle.laws.proofs.All.{any, needs}
 use Rattle.table.specs.Edges.{Arrays, arrays, nextOf, bears, lastBelow}
 use Rattle.table.proofs.Edges.{bears-edge, link-below, on-le, on-bears, on-some}
 use Rattle.bitsets.specs.BitSets.{holds, membersOf, setAt}
