@@ -26,7 +26,7 @@ use Rattle.table.specs.Formed.{formed}
 use Rattle.table.specs.Edges.{Arrays, rowsOf}
 use Rattle.bitsets.specs.declared.BitSet.{BitSet}
 use Rattle.bitsets.specs.BitSets.{holds, membersOf, yesNo}
-use Rattle.bitsets.specs.StateSets.{Words, joined}
+use Rattle.bitsets.specs.StateSets.{Words, joined as joinedSets}
 use Rattle.groups.specs.Groups.{Grouped, between, stepsTo, leadsInto}
 use Rattle.record.specs.Layout.{pack}
 use Rattle.checker.specs.Accepted.{Accepted}
@@ -236,7 +236,7 @@ pub state-sets : ((s : BitSet) → Words s → (ones (s .low) + ones (s .high) �
     ≡ first (holds s) 128 (range 128))
     × ((eqb (s .low) 0 && eqb (s .high) 0) ≡ not (any (holds s) (range 128))))
     × ((r s : BitSet) → Words r → Words s
-    → yesNo 128 (joined r s) ≡ map (λ i. holds r i || holds s i) (range 128))
+    → yesNo 128 (joinedSets r s) ≡ map (λ i. holds r i || holds s i) (range 128))
 state-sets =
     let p = Rattle.bitsets.proofs.StateSets.stateSets in
     (λ s w. (p .number s w, p .lowest s w, p .empty s w), p .joining)
