@@ -1,9 +1,9 @@
 -- The readings of a block, edge by edge.
--- In order: readings→, →readings, readings-below; some→, a block with no words ahead, →some.
+-- In order: readings→, →readings; some→, a block with no words ahead, →some.
 -- Assumes nothing.
-use Rattle.laws.proofs.All.{subst, Bool, true, _&&_, List, ℕ, _≤_, _<_, arith, T, eqb, eqb→eq, eqb-refl, length}
+use Rattle.laws.proofs.All.{subst, Bool, true, _&&_, List, ℕ, _<_, arith, T, eqb, eqb→eq, eqb-refl, length}
 use Rattle.laws.proofs.All.{range, elem, and→, →and, any→, →any, any-below→, →any-below, →tab, member, any-map}
-use Rattle.laws.proofs.All.{any-concat, elem-filter, →elem-filter, elem-range, Below, each-below, each-elem, each-map}
+use Rattle.laws.proofs.All.{any-concat, elem-filter, →elem-filter, elem-range}
 use Rattle.table.specs.Rows.{edge, Rows, edges, at, hasWord}
 use Rattle.table.specs.Paths.{Closed}
 use Rattle.stepping.specs.StateSets.{everyState, enters}
@@ -27,13 +27,6 @@ module _ (g : Rows) (S : List Bool) (w : ℕ) where
         simp (any-concat, any-map) (→any-below (λ s. elem d (readingsOf g S w A s)) (length g) s n
         (→elem-filter (λ d. member S s && enters A w (at g s d)) d (range (length (edges g s)))
         (elem-range (length (edges g s)) d l) (→and (member S s) (enters A w (at g s d)) m e)))
-
-    -- a reading is below the number of a state's edges
-    pub readings-below : (n : ℕ) → ((s : ℕ) → s < length g → length (edges g s) ≤ n) → Below n (readings g S w A)
-    readings-below n h =
-        each-below n (readings g S w A) (each-map (λ d. T (elem d (readings g S w A))) (λ d. d < n)
-        (λ d t. let (s, i, m, l, e) = readings→ d t in omega (arith, h s i)) (readings g S w A)
-        (each-elem (readings g S w A)))
 
   -- where an edge from S has the word w, wherever it leads, there is a reading with no words ahead
   pub some→ : Closed g → T (someEdge g S w) → (d : ℕ) × T (elem d (readings g S w (everyState g)))

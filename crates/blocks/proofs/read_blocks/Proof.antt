@@ -8,12 +8,12 @@ use Rattle.blocks.proofs.read_blocks.Statement.{statement}
 use Rattle.blocks.proofs.read_blocks.Tie as tie
 
 abbrev Inv-loop : tie.InvT-loop
-Inv-loop states n word next start order words first m a count out₀ i₀ out i =
+Inv-loop states n word next start first low high words begin m a count out₀ i₀ out i =
     (i ≤ count) × (count ≤ length out₀) × (length out ≡ length out₀)
-    × (out ≡ map (block (under (rowsOf (arrays states n word next)) m a) words) (from first i) ++ drop i out₀)
+    × (out ≡ map (block (under (rowsOf (arrays states n word next)) m a) words) (from begin i) ++ drop i out₀)
 
 abbrev μ-loop : tie.MeasureT-loop
-μ-loop states n word next start order words first m a count out₀ i₀ out i = count - i
+μ-loop states n word next start first low high words begin m a count out₀ i₀ out i = count - i
 
 abbrev blockAt : tie.Start Inv-loop μ-loop → ℕ → ℕ
 blockAt s =
@@ -30,7 +30,7 @@ loop-again c =
       omega arith,
       l .inv .1,
       length-set (l .out) (l .i) (c .read-block .result) ∙ l .inv .2,
-      map-more (blockAt s) (s .args .first) (now (s .args .out)) (l .out) (l .i) (c .read-block .result) (l .inv .3)
+      map-more (blockAt s) (s .args .begin) (now (s .args .out)) (l .out) (l .i) (c .read-block .result) (l .inv .3)
           (c .read-block .ensures) (omega arith),
     )
 
@@ -42,7 +42,7 @@ returns c =
     let s = c .before .before .before .before in
     let l = c .before .loop in
     let e : l .i ≡ s .args .count = omega arith in
-    l .inv .3 ∙ ap (λ k. map (blockAt s) (from (s .args .first) k) ++ drop k (now (s .args .out))) e
+    l .inv .3 ∙ ap (λ k. map (blockAt s) (from (s .args .begin) k) ++ drop k (now (s .args .out))) e
 
 pub read-blocks-spec : {M : Type 1} → statement M
 read-blocks-spec =

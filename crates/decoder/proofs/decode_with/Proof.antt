@@ -1,6 +1,6 @@
--- The checks in their order, then the blocks by the runs of the table's edges.
-use Rattle.laws.proofs.All.{_≡_, sym, subst, _∙_, true, _-_, arith, not-true, not-false, now, T, length, drop}
-use Rattle.laws.proofs.All.{needs}
+-- The checks in their order, then the blocks by the groups of the table's edges.
+use Rattle.laws.proofs.All.{_≡_, sym, subst, _∙_, true, ℕ, _-_, arith, not-true, not-false, now, T, length, drop}
+use Rattle.laws.proofs.All.{length-replicate, needs}
 use Rattle.answer.specs.declared.Refusal.the-variants.{Field, BadByte, TooFewWords, ShortOutput}
 use Rattle.table.specs.Value.{Ready, ready, codeIn}
 use Rattle.table.specs.Edges.{arrays, Fits}
@@ -66,19 +66,25 @@ ways-requires : tie.Need-ways-requires
 ways-requires c κs = ready-table (c .before .before .before .before .before) .narrow
 
 lay-requires : tie.Need-lay-requires
-lay-requires c κs = fits (c .before .before .before .before)
+lay-requires c κs = (
+  fits (c .before .before .before .before .before .before .before .before),
+  length-replicate {A = ℕ} 257 0,
+  length-replicate {A = ℕ} 2048 0,
+  length-replicate {A = ℕ} 2048 0,
+  length-replicate {A = ℕ} 2048 0,
+)
 
 read-blocks-requires : tie.Need-read-blocks-requires
 read-blocks-requires c κs =
     let h = c .before .before .before .before .before .before .before in
-    let w = h .before .before .before .before .before in
+    let w = h .before .before .before .before .before .before .before .before .before in
     let i = w .before .before .before .before in
     (h .lay .ensures, omega (arith, i .before .if2 .left), i .if3 .left)
 
 returns-5 : tie.Need-returns-5
 returns-5 c =
-    let w = c .before .before .before .before .before .before .before .before .before .before .before .before
-    .before .before .before in
+    let h = c .before .before .before .before .before .before .before .before .before .before in
+    let w = h .before .before .before .before .before .before .before .before .before in
     let b = w .before .before in
     let i = b .before .before in
     let a = i .before .before .before .before .before .before .args in

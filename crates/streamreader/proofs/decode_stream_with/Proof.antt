@@ -1,6 +1,7 @@
 -- `streamreader::decode_stream_with` meets its contract: the checks in their order, then the blocks part by part.
 -- Assumes nothing.
-use Rattle.laws.proofs.All.{_≡_, sym, subst, _∙_, true, _-_, arith, not-true, not-false, now, T, length, drop, needs}
+use Rattle.laws.proofs.All.{_≡_, sym, subst, _∙_, true, ℕ, _-_, arith, not-true, not-false, now, T, length, drop}
+use Rattle.laws.proofs.All.{length-replicate, needs}
 use Rattle.answer.specs.declared.Refusal.the-variants.{Field, TooFewWords, ShortOutput, Stream}
 use Rattle.answer.proofs.Answered.{declined, finished}
 use Rattle.table.specs.Value.{ready, codeIn}
@@ -75,12 +76,18 @@ ways-requires c κs =
     ready→ (i .before .before .before .before .args .t) (told-ready i) .narrow
 
 lay-requires : tie.Need-lay-requires
-lay-requires c κs = fits (c .before .before .before .before)
+lay-requires c κs = (
+  fits (c .before .before .before .before .before .before .before .before),
+  length-replicate {A = ℕ} 257 0,
+  length-replicate {A = ℕ} 2048 0,
+  length-replicate {A = ℕ} 2048 0,
+  length-replicate {A = ℕ} 2048 0,
+)
 
 read-parts-requires : tie.Need-read-parts-requires
 read-parts-requires c κs =
     let h = c .before .before .before .before .before .before .before in
-    let e = h .before .before .before .before .before .before in
+    let e = h .before .before .before .before .before .before .before .before .before .before in
     let b = e .before .before in
     let i = b .before .before in
     let a = i .before .before .before .before .args in
@@ -99,7 +106,8 @@ read-parts-requires c κs =
 returns-5 : tie.Need-returns-5
 returns-5 c =
     let p = c .before .before in
-    let w = p .before .before .before .before .before .before .before .before .before .before .before .before .before in
+    let h = p .before .before .before .before .before .before .before .before in
+    let w = h .before .before .before .before .before .before .before .before .before in
     let e = w .before in
     let i = e .before .before .before .before in
     let a = i .before .before .before .before .args in

@@ -11,13 +11,13 @@ use Rattle.streamreader.proofs.read_parts.Statement.{statement}
 use Rattle.streamreader.proofs.read_parts.Tie as tie
 
 abbrev Inv-loop : tie.InvT-loop
-Inv-loop states n word next start order stream q count m a out₀ blocks i₀ out i =
+Inv-loop states n word next start first low high stream q count m a out₀ blocks i₀ out i =
     (i % 8 ≡ 0) × (length out ≡ length out₀)
     × (out ≡ map (block (under (rowsOf (arrays states n word next)) m a) (unpacked q count stream))
     (range (min i blocks)) ++ drop (min i blocks) out₀)
 
 abbrev μ-loop : tie.MeasureT-loop
-μ-loop states n word next start order stream q count m a out₀ blocks i₀ out i = blocks - i
+μ-loop states n word next start first low high stream q count m a out₀ blocks i₀ out i = blocks - i
 
 abbrev blockAt : tie.Start Inv-loop μ-loop → ℕ → ℕ
 blockAt s =
