@@ -82,8 +82,8 @@ pub fn gather(
     have
 }
 
-// The states of all those sets of the array whose numbers are in the set: as many turns as it has members, each with the
-// lowest that is left.
+// The states of all those sets of the array whose numbers are in the set: as many turns as it has members, each with
+// the lowest that is left.
 pub fn union_of(sets: &[u64; 256], set: BitSet) -> BitSet
     ensures answer { λ r. ⌜
         ((u : ℕ) → holds r u ≡ any (holdsIn (now (sets .entry)) u) (membersOf set)) ⌝ }

@@ -1,6 +1,6 @@
 -- The loop goes over the states of the set from the lowest on, as many as it has, and joins their sets.
-use Rattle.laws.proofs.All.{_≡_, _<_, _≤_, refl, ap, _∙_, _||_, List, [], _∷_, ℕ, T, arith, getD, length, length-drop, now}
-use Rattle.laws.proofs.All.{needs}
+use Rattle.laws.proofs.All.{_≡_, refl, ap, _∙_, _||_, List, [], _∷_, ℕ, _≤_, _<_, arith, T, now, length, getD}
+use Rattle.laws.proofs.All.{length-drop, needs}
 use Rattle.bitsets.specs.BitSets.{valueOf, holds, membersOf}
 use Rattle.bitsets.proofs.Places.{places-each}
 use Rattle.bitsets.proofs.Members.{Walked, walk-start, walk-next, walk-done, head-lt}
