@@ -1,7 +1,13 @@
 // Decoding under a table: "From W words come W − a blocks", each by the reading rule.
 ghost use mathlib.Core.Path.{_≡_};
-ghost use lib.ListN.{length};
+ghost use mathlib.Core.List.{_++_, map};
+ghost use Prim.Native.Nat.{_+_, _≤_};
+ghost use lib.ListN.{length, drop};
+ghost use Rattle.laws.specs.Lists.{range};
 ghost use Rattle.answer.specs.Outcomes.{answerOf, outputOf};
+ghost use Rattle.table.specs.Edges.{borrowed, rowsOf, Fits};
+ghost use Rattle.stepping.specs.Reading.{block};
+ghost use Rattle.stepping.specs.BlockParts.{under};
 ghost use Rattle.codec.specs.With.{decodedWith};
 use answer::Answer;
 use answer::Refusal;
@@ -11,6 +17,57 @@ use groups::laying::lay;
 use table::Table;
 use table::chains::ways;
 use table::ready::is_ready;
+
+// The first `count` blocks of the words in front of the output, by the groups of the table's edges.
+fn read_all(
+    states: usize,
+    n: usize,
+    word: &[u8; 2048],
+    next: &[u8; 2048],
+    words: &[u8],
+    m: usize,
+    a: usize,
+    count: usize,
+    out: &mut [u8],
+)
+    requires { ⌜
+        Fits (borrowed states n word next) × (count + a ≤ length (now words)) × (count ≤ length (now out)) ⌝ }
+    ensures written { λ r. ⌜
+        now (out .exit)
+        ≡ map (block (under (rowsOf (borrowed states n (word .entry) (next .entry))) m a)
+        (now (words .entry))) (range count) ++ drop count (now (out .entry)) ⌝ }
+{
+    let mut start = [0u16; 257];
+    let mut first = [0u16; 2048];
+    let mut low = [0u64; 2048];
+    let mut high = [0u64; 2048];
+    lay(
+        states,
+        n,
+        word,
+        next,
+        &mut start,
+        &mut first,
+        &mut low,
+        &mut high,
+    );
+    read_blocks(
+        states,
+        n,
+        word,
+        next,
+        &start,
+        &first,
+        &low,
+        &high,
+        words,
+        0,
+        m,
+        a,
+        count,
+        out,
+    );
+}
 
 // The blocks of the words under the table, in the output. Declines with 7 for a value of the struct that no record
 // gives, then 12, 13, 11.
@@ -39,35 +96,6 @@ pub fn decode_with(t: Table, words: &[u8], out: &mut [u8]) -> Answer
     let n = ways(t.p);
     let word = t.word;
     let next = t.next;
-    let mut start = [0u16; 257];
-    let mut first = [0u16; 2048];
-    let mut low = [0u64; 2048];
-    let mut high = [0u64; 2048];
-    lay(
-        t.states,
-        n,
-        &word,
-        &next,
-        &mut start,
-        &mut first,
-        &mut low,
-        &mut high,
-    );
-    read_blocks(
-        t.states,
-        n,
-        &word,
-        &next,
-        &start,
-        &first,
-        &low,
-        &high,
-        words,
-        0,
-        t.memory,
-        a,
-        count,
-        out,
-    );
+    read_all(t.states, n, &word, &next, words, t.memory, a, count, out);
     Answer::Done(count)
 }

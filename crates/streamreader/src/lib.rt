@@ -6,7 +6,7 @@ ghost use Prim.Native.Nat.{_+_, _*_, _-_, _%_, _≤_, min};
 ghost use lib.ListN.{length, take, drop};
 ghost use Rattle.laws.specs.Lists.{range, from};
 ghost use Rattle.answer.specs.Outcomes.{answerOf, outputOf};
-ghost use Rattle.table.specs.Edges.{borrowed, rowsOf};
+ghost use Rattle.table.specs.Edges.{borrowed, rowsOf, Fits};
 ghost use Rattle.groups.specs.Groups.{Grouped};
 ghost use Rattle.stepping.specs.Reading.{block};
 ghost use Rattle.stepping.specs.BlockParts.{under};
@@ -138,6 +138,59 @@ fn read_parts(
     }
 }
 
+// The blocks of the `count` words of a stream in front of the output, by the groups of the table's edges.
+fn read_all(
+    states: usize,
+    n: usize,
+    word: &[u8; 2048],
+    next: &[u8; 2048],
+    stream: &[u8],
+    q: usize,
+    count: usize,
+    m: usize,
+    a: usize,
+    out: &mut [u8],
+)
+    requires { ⌜
+        Fits (borrowed states n word next) × (q ≤ 8) × (count ≤ limit) × (count * q ≤ 8 * length (now stream))
+        × (m ≤ 15) × (a ≤ 15) × (a ≤ count) × (count - a ≤ length (now out)) ⌝ }
+    ensures written { λ r. ⌜
+        now (out .exit)
+        ≡ map (block (under (rowsOf (borrowed states n (word .entry) (next .entry))) m a)
+        (unpacked q count (now (stream .entry)))) (range (count - a)) ++ drop (count - a) (now (out .entry)) ⌝ }
+{
+    let mut start = [0u16; 257];
+    let mut first = [0u16; 2048];
+    let mut low = [0u64; 2048];
+    let mut high = [0u64; 2048];
+    lay(
+        states,
+        n,
+        word,
+        next,
+        &mut start,
+        &mut first,
+        &mut low,
+        &mut high,
+    );
+    read_parts(
+        states,
+        n,
+        word,
+        next,
+        &start,
+        &first,
+        &low,
+        &high,
+        stream,
+        q,
+        count,
+        m,
+        a,
+        out,
+    );
+}
+
 // The blocks of the `count` words of a stream under the table, in the output. Declines with 7 for a value of the struct
 // that no record gives, then 15, 12, 13.
 pub fn decode_stream_with(t: Table, count: usize, stream: &[u8], out: &mut [u8]) -> Answer
@@ -164,29 +217,11 @@ pub fn decode_stream_with(t: Table, count: usize, stream: &[u8], out: &mut [u8])
     let n = ways(t.p);
     let word = t.word;
     let next = t.next;
-    let mut start = [0u16; 257];
-    let mut first = [0u16; 2048];
-    let mut low = [0u64; 2048];
-    let mut high = [0u64; 2048];
-    lay(
+    read_all(
         t.states,
         n,
         &word,
         &next,
-        &mut start,
-        &mut first,
-        &mut low,
-        &mut high,
-    );
-    read_parts(
-        t.states,
-        n,
-        &word,
-        &next,
-        &start,
-        &first,
-        &low,
-        &high,
         stream,
         t.q,
         count,

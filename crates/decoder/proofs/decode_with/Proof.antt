@@ -1,6 +1,6 @@
--- The checks in their order, then the blocks by the groups of the table's edges.
-use Rattle.laws.proofs.All.{_≡_, sym, subst, _∙_, true, ℕ, _-_, arith, not-true, not-false, now, T, length, drop}
-use Rattle.laws.proofs.All.{length-replicate, needs}
+-- The checks in their order, then the blocks.
+use Rattle.laws.proofs.All.{_≡_, sym, subst, _∙_, true, _-_, arith, not-true, not-false, now, T, length, drop}
+use Rattle.laws.proofs.All.{needs}
 use Rattle.answer.specs.declared.Refusal.the-variants.{Field, BadByte, TooFewWords, ShortOutput}
 use Rattle.table.specs.Value.{Ready, ready, codeIn}
 use Rattle.table.specs.Edges.{arrays, Fits}
@@ -65,26 +65,15 @@ returns-4 c =
 ways-requires : tie.Need-ways-requires
 ways-requires c κs = ready-table (c .before .before .before .before .before) .narrow
 
-lay-requires : tie.Need-lay-requires
-lay-requires c κs = (
-  fits (c .before .before .before .before .before .before .before .before),
-  length-replicate {A = ℕ} 257 0,
-  length-replicate {A = ℕ} 2048 0,
-  length-replicate {A = ℕ} 2048 0,
-  length-replicate {A = ℕ} 2048 0,
-)
-
-read-blocks-requires : tie.Need-read-blocks-requires
-read-blocks-requires c κs =
-    let h = c .before .before .before .before .before .before .before in
-    let w = h .before .before .before .before .before .before .before .before .before in
+read-all-requires : tie.Need-read-all-requires
+read-all-requires c κs =
+    let w = c .before .before .before .before .before in
     let i = w .before .before .before .before in
-    (h .lay .ensures, omega (arith, i .before .if2 .left), i .if3 .left)
+    (fits w, omega (arith, i .before .if2 .left), i .if3 .left)
 
 returns-5 : tie.Need-returns-5
 returns-5 c =
-    let h = c .before .before .before .before .before .before .before .before .before .before in
-    let w = h .before .before .before .before .before .before .before .before .before in
+    let w = c .before .before .before .before .before .before .before .before in
     let b = w .before .before in
     let i = b .before .before in
     let a = i .before .before .before .before .before .before .args in
@@ -96,7 +85,7 @@ returns-5 c =
     (b .before .power .result)
     (b .first-bad .result) (b .before .power .ensures) (b .first-bad .ensures) (w .before .if4 .left))
     (length-decode (codeIn (a .t)) ws)
-    (c .before .before .read-blocks .ensures ∙ decoded-in (a .t) (w .ways .result) ws (drop k out)
+    (c .before .before .read-all .ensures ∙ decoded-in (a .t) (w .ways .result) ws (drop k out)
     (w .ways .ensures .0))
 
 pub decode-with-spec : {M : Type 1} → statement M
@@ -104,4 +93,4 @@ decode-with-spec =
     tie.close
     (tie.spec
     (λ c κs. search needs) returns returns-2 (λ c. search needs) returns-3 power-requires (λ c κs. search needs)
-    returns-4 ways-requires lay-requires read-blocks-requires (λ c. search needs) returns-5)
+    returns-4 ways-requires read-all-requires (λ c. search needs) returns-5)

@@ -1,7 +1,6 @@
 -- `streamreader::decode_stream_with` meets its contract: the checks in their order, then the blocks part by part.
 -- Assumes nothing.
-use Rattle.laws.proofs.All.{_≡_, sym, subst, _∙_, true, ℕ, _-_, arith, not-true, not-false, now, T, length, drop}
-use Rattle.laws.proofs.All.{length-replicate, needs}
+use Rattle.laws.proofs.All.{_≡_, sym, subst, _∙_, true, _-_, arith, not-true, not-false, now, T, length, drop, needs}
 use Rattle.answer.specs.declared.Refusal.the-variants.{Field, TooFewWords, ShortOutput, Stream}
 use Rattle.answer.proofs.Answered.{declined, finished}
 use Rattle.table.specs.Value.{ready, codeIn}
@@ -75,25 +74,16 @@ ways-requires c κs =
     let i = c .before .before .before .before in
     ready→ (i .before .before .before .before .args .t) (told-ready i) .narrow
 
-lay-requires : tie.Need-lay-requires
-lay-requires c κs = (
-  fits (c .before .before .before .before .before .before .before .before),
-  length-replicate {A = ℕ} 257 0,
-  length-replicate {A = ℕ} 2048 0,
-  length-replicate {A = ℕ} 2048 0,
-  length-replicate {A = ℕ} 2048 0,
-)
-
-read-parts-requires : tie.Need-read-parts-requires
-read-parts-requires c κs =
-    let h = c .before .before .before .before .before .before .before in
-    let e = h .before .before .before .before .before .before .before .before .before .before in
+read-all-requires : tie.Need-read-all-requires
+read-all-requires c κs =
+    let w = c .before .before .before .before .before in
+    let e = w .before in
     let b = e .before .before in
     let i = b .before .before in
     let a = i .before .before .before .before .args in
     let r = ready-formed (a .t) (told-ready i) .range in
     let g = good-stream→ (a .t .q) (a .count) (now (a .stream)) (subst T (sym (is-good b)) tt) in (
-      h .lay .ensures,
+      fits w,
       r .q₂,
       g .few,
       g .holds,
@@ -106,8 +96,7 @@ read-parts-requires c κs =
 returns-5 : tie.Need-returns-5
 returns-5 c =
     let p = c .before .before in
-    let h = p .before .before .before .before .before .before .before .before in
-    let w = h .before .before .before .before .before .before .before .before .before in
+    let w = p .before .before .before .before .before .before in
     let e = w .before in
     let i = e .before .before .before .before in
     let a = i .before .before .before .before .args in
@@ -118,12 +107,12 @@ returns-5 c =
     (unstream-done (a .t) (a .count) (length out) xs (is-ready i) (is-good (e .before .before)) (e .before .if3 .left)
     (e .if4 .left))
     (length-unstreamed (a .t) (a .count) xs)
-    (p .read-parts .ensures ∙ unstreamed-in (a .t) (a .count) xs (w .ways .result)
+    (p .read-all .ensures ∙ unstreamed-in (a .t) (a .count) xs (w .ways .result)
     (drop (a .count - a .t .lookahead) out) (w .ways .ensures .0))
 
 pub decode-stream-with-spec : {M : Type 1} → statement M
 decode-stream-with-spec =
     tie.close
     (tie.spec
-    (λ c κs. search needs) returns is-stream-requires returns-2 returns-3 returns-4 ways-requires lay-requires
-    read-parts-requires (λ c. search needs) returns-5)
+    (λ c κs. search needs) returns is-stream-requires returns-2 returns-3 returns-4 ways-requires
+    read-all-requires (λ c. search needs) returns-5)
