@@ -1,8 +1,8 @@
 // Decoding under a table: "From W words come W − a blocks", each by the reading rule.
 ghost use mathlib.Core.Path.{_≡_};
 ghost use mathlib.Core.List.{_++_, map};
-ghost use Prim.Native.Nat.{_+_, _≤_};
-ghost use lib.ListN.{length, drop};
+ghost use Prim.Native.Nat.{ℕ, _+_, _*_, _%_, _^_, _≤_, _<_};
+ghost use lib.ListN.{length, getD, drop};
 ghost use Rattle.laws.specs.Lists.{range};
 ghost use Rattle.answer.specs.Outcomes.{answerOf, outputOf};
 ghost use Rattle.table.specs.Edges.{borrowed, rowsOf, Fits};
@@ -22,6 +22,7 @@ use table::ready::is_ready;
 fn read_all(
     states: usize,
     n: usize,
+    q: usize,
     word: &[u8; 2048],
     next: &[u8; 2048],
     words: &[u8],
@@ -31,7 +32,8 @@ fn read_all(
     out: &mut [u8],
 )
     requires { ⌜
-        Fits (borrowed states n word next) × (count + a ≤ length (now words)) × (count ≤ length (now out)) ⌝ }
+        Fits (borrowed states n word next) × (count + a ≤ length (now words)) × (count ≤ length (now out)) × (q ≤ 8)
+        × ((e : ℕ) → e < states * 16 → e % 16 < n → getD (now word) e 0 < 2 ^ q) ⌝ }
     ensures written { λ r. ⌜
         now (out .exit)
         ≡ map (block (under (rowsOf (borrowed states n (word .entry) (next .entry))) m a)
@@ -44,6 +46,7 @@ fn read_all(
     lay(
         states,
         n,
+        q,
         word,
         next,
         &mut start,
@@ -96,6 +99,17 @@ pub fn decode_with(t: Table, words: &[u8], out: &mut [u8]) -> Answer
     let n = ways(t.p);
     let word = t.word;
     let next = t.next;
-    read_all(t.states, n, &word, &next, words, t.memory, a, count, out);
+    read_all(
+        t.states,
+        n,
+        t.q,
+        &word,
+        &next,
+        words,
+        t.memory,
+        a,
+        count,
+        out,
+    );
     Answer::Done(count)
 }

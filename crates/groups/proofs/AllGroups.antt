@@ -1,9 +1,11 @@
 -- The groups of all words below a bound, word by word.
 -- In order: Laying, with laying-start, laying-room, laying-more; laid.
 -- Assumes nothing.
-use Rattle.laws.proofs.All.{_≡_, sym, ap, subst, subst₂, _∙_, List, ℕ, _+_, _≤_, _<_, arith, ℕ-discrete, length, getD}
-use Rattle.laws.proofs.All.{set, length-set, getD-set-same, getD-set-other}
-use Rattle.table.specs.Edges.{Arrays, Fits}
+use Rattle.laws.proofs.All.{_≡_, refl, sym, ap, subst, subst₂, _∙_, List, ℕ, zero, suc, _+_, _%_, _≤_, _<_, arith}
+use Rattle.laws.proofs.All.{ℕ-discrete, decLt, ltb-true, length, getD, set, length-set, getD-set-same}
+use Rattle.laws.proofs.All.{getD-set-other, replicate, length-replicate}
+use Rattle.table.specs.Edges.{Arrays, Fits, places, wordOf}
+use Rattle.table.proofs.Edges.{bears-edge, bears-word}
 use Rattle.groups.specs.Groups.{targetsAt, Within, Grouped}
 use Rattle.groups.specs.Counts.{count, before}
 use Rattle.groups.proofs.Counts.{before-more, before-zero, before-le}
@@ -19,22 +21,27 @@ pub record Laying (t : Arrays) (v k : ℕ) (start first low high : List ℕ) : T
   pub rise : (w : ℕ) → w ≤ v → getD start w 0 ≤ k
   pub room : k ≤ before t v 2048
   pub words : (w : ℕ) → w < v → OfWord t w (getD start w 0) (getD start (w + 1) 0) first low high
+  pub others : (w : ℕ) → v < w → getD start w 0 ≡ 0
+
+zeros : (n w : ℕ) → _≡_ {A = ℕ} (getD (replicate n 0) w 0) 0
+zeros zero w = refl
+zeros (suc n) zero = refl
+zeros (suc n) (suc w) = zeros n w
 
 -- no word yet
-pub laying-start : (t : Arrays) (start first low high : List ℕ) → length start ≡ 257 → length first ≡ 2048
-    → length low ≡ 2048 → length high ≡ 2048 → Laying t 0 0 (set start 0 0) first low high
-laying-start t start first low high a b c d =
-    let z = getD-set-same start 0 0 0 (omega arith) in
-    record {
-      startLong = length-set start 0 0 ∙ a;
-      firstLong = b;
-      lowLong = c;
-      highLong = d;
-      last = z;
-      rise = λ w h. let e : w ≡ 0 = omega arith in omega (arith, ap (λ i. getD (set start 0 0) i 0) e);
-      room = omega (arith, before-zero t 2048);
-      words = λ w h. absurd (omega arith);
-    }
+pub laying-start : (t : Arrays) (first low high : List ℕ) → length first ≡ 2048 → length low ≡ 2048
+    → length high ≡ 2048 → Laying t 0 0 (replicate 257 0) first low high
+laying-start t first low high b c d = record {
+  startLong = length-replicate {A = ℕ} 257 0;
+  firstLong = b;
+  lowLong = c;
+  highLong = d;
+  last = zeros 257 0;
+  rise = λ w h. omega (arith, zeros 257 w);
+  room = omega (arith, before-zero t 2048);
+  words = λ w h. absurd (omega arith);
+  others = λ w h. zeros 257 w;
+}
 
 module _ (t : Arrays) (v k : ℕ) (start first low high : List ℕ) (y : Laying t v k start first low high) where
   -- there is room for as many groups as there are edges with the word
@@ -55,6 +62,7 @@ module _ (t : Arrays) (v k : ℕ) (start first low high : List ℕ) (y : Laying 
     rise = λ w i. at-rise w i (ℕ-discrete w (v + 1));
     room = omega (arith, y .room, before-more t v 2048);
     words = λ w i. at-word w i (ℕ-discrete w v);
+    others = λ w i. getD-set-other start (v + 1) w (k + m) 0 (λ e. omega arith) ∙ y .others w (omega arith);
   }
     where
       new : getD (set start (v + 1) (k + m)) (v + 1) 0 ≡ k + m
@@ -80,19 +88,35 @@ module _ (t : Arrays) (v k : ℕ) (start first low high : List ℕ) (y : Laying 
           (word-same t w (getD start w 0) (getD start (w + 1) 0) first low high f l h (y .words w n)
           (λ j z. p j (omega arith)) (λ j z. q j (omega arith)))
 
--- the groups of all words
-pub laid : (t : Arrays) (k : ℕ) (start first low high : List ℕ) → Fits t → Laying t 256 k start first low high
+-- the groups of all words, where none from v on is in use
+pub laid : (t : Arrays) (v k : ℕ) (start first low high : List ℕ) → Fits t → v ≤ 256
+    → ((e : ℕ) → e < places t → e % 16 < t .ways → wordOf t e < v) → Laying t v k start first low high
     → Grouped t start first low high
-laid t k start first low high g y = record {
+laid t v k start first low high g few bound y = record {
   fits = g;
-  room = λ w h. omega (arith, y .rise (w + 1) (omega arith), y .room, before-le t 256 2048);
+  room = λ w h. room w (decLt w v);
   below = λ w j i. group w j i .below;
   edge = λ w j i. group w j i .edge;
   least = λ w j e i. group w j i .least e;
-  rising = λ w j l a b c. y .words w (a .0) .rising j l (a .1) c (b .2);
-  whole = λ w e h l q. let (j, a, b, z) = y .words w h .whole e l q in (j, (h, a, b), z);
+  rising = λ w j l a b c. y .words w (used w j a) .rising j l (a .1) c (b .2);
+  whole = λ w e h l q.
+      let z : wordOf t e ≡ w = bears-word t w e q in
+      let (j, a, b, r) = y .words w (omega (arith, bound e l (ltb-true _ _ (bears-edge t w e q)))) .whole e l q in
+      (j, (h, a, b), r);
   targets = λ w j u i. group w j i .targets u;
 }
   where
+    room : (w : ℕ) → Dec (w < v) → getD start (w + 1) 0 ≤ 2048
+    room w (yes h) = omega (arith, y .rise (w + 1) (omega arith), y .room, before-le t v 2048)
+    room w (no h) = omega (arith, y .others (w + 1) (omega arith))
+
+    -- a word that has a group is in use
+    used : (w j : ℕ) → Within start w j → w < v
+    used w j (h, a, b) = go (decLt w v)
+      where
+        go : Dec (w < v) → w < v
+        go (yes i) = i
+        go (no i) = absurd (omega (arith, y .others (w + 1) (omega arith)))
+
     group : (w j : ℕ) → Within start w j → GroupOf t w (getD first j 0) (targetsAt low high j)
-    group w j (h, a, b) = y .words w h .group j a b
+    group w j i = y .words w (used w j i) .group j (i .1) (i .2)

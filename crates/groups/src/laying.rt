@@ -1,8 +1,8 @@
 // The groups of all words laid out in a row, word by word.
 ghost use mathlib.Core.Path.{_≡_};
-ghost use Prim.Native.Nat.{ℕ, _+_, _≤_, _<_};
+ghost use Prim.Native.Nat.{ℕ, _+_, _*_, _%_, _^_, _≤_, _<_};
 ghost use lib.Dec.{T};
-ghost use lib.ListN.{length};
+ghost use lib.ListN.{length, getD};
 ghost use Rattle.table.specs.Edges.{borrowed, Fits};
 ghost use Rattle.bitsets.specs.BitSets.{holds, membersOf};
 ghost use Rattle.groups.specs.Groups.{firstEdge, Grouped, PutAll};
@@ -72,10 +72,11 @@ fn put_groups(
     }
 }
 
-// The groups of all words.
+// The groups of all words, which have q bits.
 pub fn lay(
     states: usize,
     n: usize,
+    q: usize,
     word: &[u8; 2048],
     next: &[u8; 2048],
     start: &mut [u16; 257],
@@ -84,20 +85,22 @@ pub fn lay(
     high: &mut [u64; 2048],
 )
     requires { ⌜
-        Fits (borrowed states n word next) × (length (now start) ≡ 257) × (length (now first) ≡ 2048)
-        × (length (now low) ≡ 2048) × (length (now high) ≡ 2048) ⌝ }
+        Fits (borrowed states n word next) × (length (now first) ≡ 2048) × (length (now low) ≡ 2048)
+        × (length (now high) ≡ 2048) × (q ≤ 8)
+        × ((e : ℕ) → e < states * 16 → e % 16 < n → getD (now word) e 0 < 2 ^ q) ⌝ }
     ensures written { λ r. ⌜
         Grouped (borrowed states n (word .entry) (next .entry)) (now (start .exit)) (now (first .exit))
         (now (low .exit)) (now (high .exit)) ⌝ }
 {
+    let words = bits::power(q);
     let mut head = [0u16; 256];
     let mut link = [0u16; 2048];
     chain(states, n, word, next, &mut head, &mut link);
     let mut targets = [0u64; 256];
-    start[0] = 0;
+    *start = [0u16; 257];
     let mut k = 0;
     let mut w = 0;
-    while w < 256 {
+    while w < words {
         let have = gather(states, n, word, next, &head, &link, w, 16, &mut targets);
         put_groups(n, word, w, k, have, &targets, first, low, high);
         k += count(have) as usize;

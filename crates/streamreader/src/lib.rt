@@ -2,8 +2,8 @@
 // words of one part. The reading of a block depends on its window alone.
 ghost use mathlib.Core.Path.{_≡_};
 ghost use mathlib.Core.List.{_++_, map};
-ghost use Prim.Native.Nat.{_+_, _*_, _-_, _%_, _≤_, min};
-ghost use lib.ListN.{length, take, drop};
+ghost use Prim.Native.Nat.{ℕ, _+_, _*_, _-_, _%_, _^_, _≤_, _<_, min};
+ghost use lib.ListN.{length, getD, take, drop};
 ghost use Rattle.laws.specs.Lists.{range, from};
 ghost use Rattle.answer.specs.Outcomes.{answerOf, outputOf};
 ghost use Rattle.table.specs.Edges.{borrowed, rowsOf, Fits};
@@ -153,7 +153,8 @@ fn read_all(
 )
     requires { ⌜
         Fits (borrowed states n word next) × (q ≤ 8) × (count ≤ limit) × (count * q ≤ 8 * length (now stream))
-        × (m ≤ 15) × (a ≤ 15) × (a ≤ count) × (count - a ≤ length (now out)) ⌝ }
+        × (m ≤ 15) × (a ≤ 15) × (a ≤ count) × (count - a ≤ length (now out))
+        × ((e : ℕ) → e < states * 16 → e % 16 < n → getD (now word) e 0 < 2 ^ q) ⌝ }
     ensures written { λ r. ⌜
         now (out .exit)
         ≡ map (block (under (rowsOf (borrowed states n (word .entry) (next .entry))) m a)
@@ -166,6 +167,7 @@ fn read_all(
     lay(
         states,
         n,
+        q,
         word,
         next,
         &mut start,

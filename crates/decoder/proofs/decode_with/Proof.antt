@@ -6,6 +6,7 @@ use Rattle.table.specs.Value.{Ready, ready, codeIn}
 use Rattle.table.specs.Edges.{arrays, Fits}
 use Rattle.table.proofs.ReadyTables.{ready→}
 use Rattle.table.proofs.RowsOf.{fits-lent}
+use Rattle.groups.proofs.ReadyWords.{words-lent}
 use Rattle.stepping.specs.Reading.{decode}
 use Rattle.codec.specs.With.{decodedWith}
 use Rattle.answer.proofs.Answered.{declined, finished}
@@ -69,7 +70,14 @@ read-all-requires : tie.Need-read-all-requires
 read-all-requires c κs =
     let w = c .before .before .before .before .before in
     let i = w .before .before .before .before in
-    (fits w, omega (arith, i .before .if2 .left), i .if3 .left)
+    let t = i .before .before .before .before .before .before .args .t in
+    let r = ready-table (i .before .before) in (
+      fits w,
+      omega (arith, i .before .if2 .left),
+      i .if3 .left,
+      r .short,
+      words-lent t (w .ways .result) r (w .ways .ensures .0),
+    )
 
 returns-5 : tie.Need-returns-5
 returns-5 c =

@@ -1,5 +1,5 @@
 -- Each turn writes the groups of one word behind those of the words before it.
-use Rattle.laws.proofs.All.{_≡_, ℕ, _+_, _-_, _≤_, _<_, arith, now, length, length-replicate, needs}
+use Rattle.laws.proofs.All.{_≡_, ℕ, _+_, _-_, _^_, _≤_, _<_, arith, now, length, length-replicate, pow-mono, needs}
 use Rattle.table.specs.Edges.{Arrays, arrays, Linked}
 use Rattle.bitsets.specs.BitSets.{membersOf}
 use Rattle.groups.specs.Counts.{count}
@@ -9,28 +9,32 @@ use Rattle.groups.proofs.laying.lay.Statement.{statement}
 use Rattle.groups.proofs.laying.lay.Tie as tie
 
 abbrev Inv-loop : tie.InvT-loop
-Inv-loop states n word next start₀ first₀ low₀ high₀ head link targets₀ k₀ w₀ start first low high targets k w =
-    (w ≤ 256) × (length targets ≡ 256) × Linked (arrays states n word next) head link
-    × Laying (arrays states n word next) w k start first low high
+Inv-loop states n q word next start₀ first₀ low₀ high₀ words head link targets₀ k₀ w₀ start first low high targets k w =
+    (w ≤ words) × (words ≡ 2 ^ q) × (words ≤ 256) × (length targets ≡ 256)
+    × Linked (arrays states n word next) head link × Laying (arrays states n word next) w k start first low high
 
 abbrev μ-loop : tie.MeasureT-loop
-μ-loop states n word next start₀ first₀ low₀ high₀ head link targets₀ k₀ w₀ start first low high targets k w = 256 - w
+μ-loop states n q word next start₀ first₀ low₀ high₀ words head link targets₀ k₀ w₀ start first low high targets k w =
+    words - w
 
 abbrev begin : tie.At-loop Inv-loop μ-loop → tie.Start Inv-loop μ-loop
-begin l = l .before .before .before .before
+begin l = l .before .before .before .before .before .before
 
 abbrev table : tie.Start Inv-loop μ-loop → Arrays
 table s = arrays (s .args .states) (s .args .n) (now (s .args .word)) (now (s .args .next))
 
 loop-holds : tie.Need-loop-holds Inv-loop μ-loop
 loop-holds c =
-    let s = c .before .before .before in
-    let a = s .args in (
+    let p = c .before .before .before .before in
+    let s = p .before in
+    let a = s .args in
+    let h : 2 ^ a .q ≤ 2 ^ 8 = pow-mono (s .pre .4) in (
       omega arith,
+      p .power .ensures,
+      omega (arith, p .power .ensures),
       length-replicate {A = ℕ} 256 0,
-      record { fits = s .pre .0; chained = c .chain .ensures },
-      laying-start (table s) (now (a .start)) (now (a .first)) (now (a .low)) (now (a .high)) (s .pre .1) (s .pre .2)
-          (s .pre .3) (s .pre .4),
+      record { fits = s .pre .0; chained = c .before .chain .ensures },
+      laying-start (table s) (now (a .first)) (now (a .low)) (now (a .high)) (s .pre .1) (s .pre .2) (s .pre .3),
     )
 
 -- the turn in hand
@@ -48,7 +52,7 @@ room : (c : tie.After-gather Inv-loop μ-loop)
     → turn c .before .loop .k + length (membersOf (c .gather .result)) ≤ 2048
 room c =
     let l = turn c .before .loop in
-    laying-room _ _ _ _ _ _ _ (l .inv .3) (length (membersOf (c .gather .result))) (few c)
+    laying-room _ _ _ _ _ _ _ (l .inv .5) (length (membersOf (c .gather .result))) (few c)
 
 put-groups-requires : tie.Need-put-groups-requires Inv-loop μ-loop
 put-groups-requires c κs =
@@ -63,9 +67,9 @@ put-groups-requires c κs =
             s .pre .0 .few,
             member-group (table s) (s .pre .0) (l .w) (g .gather .result) _ (g .gather .ensures) x h q .below,
           ),
-      l .inv .3 .firstLong,
-      l .inv .3 .lowLong,
-      l .inv .3 .highLong,
+      l .inv .5 .firstLong,
+      l .inv .5 .lowLong,
+      l .inv .5 .highLong,
     )
 
 -- where the set of the states that have the word is found
@@ -76,7 +80,9 @@ fits : (c : tie.After-count Inv-loop μ-loop) → turn (gathered c) .before .loo
 fits c = omega (arith, room (gathered c), c .count .ensures)
 
 below : (c : tie.After-count Inv-loop μ-loop) → turn (gathered c) .before .loop .w < 256
-below c = omega (arith, turn (gathered c) .loop-test .taken)
+below c =
+    let i = turn (gathered c) in
+    omega (arith, i .loop-test .taken, i .before .loop .inv .2)
 
 loop-again : tie.Need-loop-again Inv-loop μ-loop
 loop-again c =
@@ -87,9 +93,11 @@ loop-again c =
     let G = g .gather .ensures in
     let P = c .before .put-groups .ensures in (
       omega (arith, below c),
-      G .long,
+      l .inv .1,
       l .inv .2,
-      laying-more _ _ _ _ _ _ _ (l .inv .3) (below c) (c .count .result)
+      G .long,
+      l .inv .4,
+      laying-more _ _ _ _ _ _ _ (l .inv .5) (below c) (c .count .result)
           (omega (arith, few g, c .count .ensures)) _ _ _ (P .firstLong) (P .lowLong) (P .highLong)
           (word-laid (table s) (s .pre .0) (l .w) (g .gather .result) _ G _ _ _ (l .k) _ _ _ P (c .count .result)
           (c .count .ensures)) (P .edges) (P .others),
@@ -99,14 +107,15 @@ returns : tie.Need-returns Inv-loop μ-loop
 returns c =
     let l = c .before .loop in
     let s = begin (c .before) in
-    let z : l .w ≡ 256 = omega (arith, l .inv .0, c .loop-test .left) in
-    laid (table s) (l .k) (l .start) (l .first) (l .low) (l .high) (s .pre .0) (rw z at (l .inv .3))
+    let z : l .w ≡ 2 ^ s .args .q = omega (arith, l .inv .0, l .inv .1, c .loop-test .left) in
+    laid (table s) (2 ^ s .args .q) (l .k) (l .start) (l .first) (l .low) (l .high) (s .pre .0)
+    (omega (arith, l .inv .1, l .inv .2)) (s .pre .5) (rw z at (l .inv .5))
 
 pub lay-spec : {M : Type 1} → statement M
 lay-spec =
     tie.close
     (tie.spec
-    Inv-loop μ-loop (λ c κs. search needs) (λ c. search needs) loop-holds (λ c κs. search needs) put-groups-requires
+    Inv-loop μ-loop (λ c κs. search needs) (λ c κs. search needs) loop-holds (λ c κs. search needs) put-groups-requires
     (λ c κs. search needs) (λ c. omega (arith, fits c)) (λ c. omega (arith, fits c)) (λ c. omega (arith, below c))
     (λ c. omega (arith, fits c)) (λ c. search needs) (λ c. omega (arith, below c)) (λ c. omega (arith, below c))
     loop-again returns)
