@@ -5,6 +5,7 @@ ghost use Rattle.answer.specs.declared.Verdict.the-variants.{Good};
 ghost use Rattle.answer.specs.Outcomes.{onward, answerOf, outputOf};
 ghost use Rattle.compiler.specs.Compile.{compileInto, compileJob, compileRunLength, compileJoined};
 ghost use Rattle.job.specs.JobValues.{jobIn, jobOutcome, JobReady};
+use crate::compiling::begin;
 use crate::compiling::compile;
 use answer::Answer;
 use answer::Verdict;
@@ -22,7 +23,7 @@ fn compile_into(j: JobValue, out: &mut [u8]) -> Answer
     ensures written { λ r. ⌜
         now (out .exit) ≡ outputOf (compileInto (length (now (out .entry))) (jobIn j)) (now (out .entry)) ⌝ }
 {
-    let r = compile(j);
+    let r = compile(j, begin(j));
     let v = r.verdict;
     let t = r.table;
     match v {

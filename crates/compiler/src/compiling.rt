@@ -67,14 +67,21 @@ fn split_and_window(j: JobValue, n: usize, g: Graph, start: usize) -> TableAnswe
     with_window(t)
 }
 
-// The table of a job, or the refusal: 3, 4, 5, 6.
-pub fn compile(j: JobValue) -> TableAnswer
+// The component of a job. Compiling it is a call of its own, so that what the two need of the stack is not added up.
+pub fn begin(j: JobValue) -> ComponentAnswer
     requires { ⌜ JobReady j ⌝ }
+    ensures answer { λ r. ⌜ FoundIn (weightsOf (jobIn j)) (graphOf (jobIn j)) r ⌝ }
+{
+    component_of(j, ways(j.p))
+}
+
+// The table of a job with its component, or the refusal: 3, 4, 5, 6.
+pub fn compile(j: JobValue, found: ComponentAnswer) -> TableAnswer
+    requires { ⌜ JobReady j × FoundIn (weightsOf (jobIn j)) (graphOf (jobIn j)) found ⌝ }
     ensures answer { λ r. ⌜ outcomeIn r ≡ compile (jobIn j) ⌝ }
     ensures kept { λ r. ⌜ (r .verdict ≡ Good → Whole (r .table)) ⌝ }
 {
     let n = ways(j.p);
-    let found = component_of(j, n);
     match weigh(found.total, found.crowded) {
         Verdict::Bad(r) => declined(r),
         Verdict::Good => {

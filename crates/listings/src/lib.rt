@@ -8,6 +8,7 @@ use answer::Answer;
 use answer::Refusal;
 use answer::Verdict;
 use answer::refusal_number;
+use compiler::compiling::begin;
 use compiler::compiling::compile;
 use job::JobValue;
 use job::reading::read_run_length;
@@ -22,7 +23,7 @@ fn list_into(j: JobValue, out: &mut [u8]) -> Answer
     ensures written { λ r. ⌜
         now (out .exit) ≡ outputOf (listedInto (length (now (out .entry))) (jobIn j)) (now (out .entry)) ⌝ }
 {
-    let r = compile(j);
+    let r = compile(j, begin(j));
     let v = r.verdict;
     let t = r.table;
     match v {

@@ -10,7 +10,7 @@ use Rattle.listings.proofs.list_into.Statement.{statement}
 use Rattle.listings.proofs.list_into.Tie as tie
 
 compile-requires : tie.Need-compile-requires
-compile-requires c κs = c .before .pre
+compile-requires c κs = (c .before .before .pre, c .begin .ensures)
 
 list-requires : tie.Need-list-requires
 list-requires c κs =
@@ -20,7 +20,7 @@ list-requires c κs =
 returns : tie.Need-returns
 returns c =
     let k = c .before .before .before .before .compile in
-    let a = c .before .before .before .before .before .before .args in
+    let a = c .before .before .before .before .before .before .before .args in
     let o = now (a .out) in
     ends-bad (compile (jobIn (a .j))) (λ c. fitting (length o) (listing c)) o _
     (read-bad (k .result) _ _ (k .ensures .0) (c .before .v .given .1))
@@ -29,7 +29,7 @@ returns-2 : tie.Need-returns-2
 returns-2 c =
     let w = c .before .before .list in
     let k = c .before .before .before .before .before .before .before .compile in
-    let a = c .before .before .before .before .before .before .before .before .before .args in
+    let a = c .before .before .before .before .before .before .before .before .before .before .args in
     let o = now (a .out) in
     goes-on (compile (jobIn (a .j))) (λ c. fitting (length o) (listing c)) o _ (w .result) _
     (read-done (k .result) _ (k .ensures .0) (c .before .before .before .before .enum-told .given .1))
@@ -38,5 +38,5 @@ returns-2 c =
 pub list-into-spec : {M : Type 1} → statement M
 list-into-spec =
     tie.close
-    (tie.spec compile-requires (λ c. search needs) (λ c. search needs) list-requires returns (λ c. search needs)
+    (tie.spec (λ c κs. c .before .pre) compile-requires (λ c. search needs) (λ c. search needs) list-requires returns (λ c. search needs)
     returns-2)

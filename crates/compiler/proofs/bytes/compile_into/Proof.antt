@@ -10,12 +10,12 @@ use Rattle.compiler.proofs.bytes.compile_into.Statement.{statement}
 use Rattle.compiler.proofs.bytes.compile_into.Tie as tie
 
 compile-requires : tie.Need-compile-requires
-compile-requires c κs = c .before .pre
+compile-requires c κs = (c .before .before .pre, c .begin .ensures)
 
 returns : tie.Need-returns
 returns c =
     let k = c .before .before .before .before .compile in
-    let a = c .before .before .before .before .before .before .args in
+    let a = c .before .before .before .before .before .before .before .args in
     let o = now (a .out) in
     ends-bad (compile (jobIn (a .j))) (λ c. packInto c (length o)) o _
     (read-bad (k .result) _ _ (k .ensures .0) (c .before .v .given .1))
@@ -24,7 +24,7 @@ returns-2 : tie.Need-returns-2
 returns-2 c =
     let w = c .before .before .write in
     let k = c .before .before .before .before .before .before .before .compile in
-    let s = c .before .before .before .before .before .before .before .before .before in
+    let s = c .before .before .before .before .before .before .before .before .before .before in
     let j = jobIn (s .args .j) in
     let e = read-done (k .result) (compile j) (k .ensures .0)
     (c .before .before .before .before .enum-told .given .1) in
@@ -34,5 +34,5 @@ returns-2 c =
 pub compile-into-spec : {M : Type 1} → statement M
 compile-into-spec =
     tie.close
-    (tie.spec compile-requires (λ c. search needs) (λ c. search needs) (λ c κs. search needs) returns
+    (tie.spec (λ c κs. c .before .pre) compile-requires (λ c. search needs) (λ c. search needs) (λ c κs. search needs) returns
     (λ c. search needs) returns-2)

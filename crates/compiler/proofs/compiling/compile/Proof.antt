@@ -10,13 +10,13 @@ use Rattle.compiler.proofs.compiling.compile.Tie as tie
 split-and-window-requires : tie.Need-split-and-window-requires
 split-and-window-requires c κs =
     let w = c .before .before .before in
-    let f = w .before .component-of .ensures in
-    let s = w .before .before .before in
+    let s = w .before .before in
+    let f = s .pre .1 in
     let (some, light, room) = weighed-good (jobIn (s .args .j)) _ _ (f .total) (f .crowds)
     (said-good _ _ _ (w .weigh .ensures) (c .before .enum-told .given .1)) in (
-      s .pre,
+      s .pre .0,
       record {
-        count = w .before .before .ways .ensures .0;
+        count = w .before .ways .ensures .0;
         work = f .work room;
         fits = f .fits room;
         first = f .start;
@@ -29,8 +29,9 @@ returns : tie.Need-returns
 returns c =
     let k = c .before .before in
     let w = k .before .before in
-    let f = w .before .component-of .ensures in
-    let j = jobIn (w .before .before .before .args .j) in (
+    let s = w .before .before in
+    let f = s .pre .1 in
+    let j = jobIn (s .args .j) in (
       c .declined .ensures .0
           ∙ sym (weighed-bad j _ _ (f .total) (f .crowds) _
           (said-bad _ _ _ (w .weigh .ensures) _ (k .r .given .1))),
@@ -41,6 +42,6 @@ pub compile-spec : {M : Type 1} → statement M
 compile-spec =
     tie.close
     (tie.spec
-    (λ c κs. c .pre .allowed .p₂) (λ c κs. (c .before .pre, c .ways .ensures .0)) (λ c κs. search needs)
+    (λ c κs. c .pre .0 .allowed .p₂) (λ c κs. search needs)
     (λ c. search needs) (λ c κs. search needs) (λ c. search needs) split-and-window-requires returns
     (λ c. search needs))
