@@ -88,20 +88,19 @@ fn add_states(power: &[u8; 4096], words: usize, k: usize, index: [usize; 16], g:
     requires { ⌜ (length (now power) ≡ 4096) × (words ≤ 256) × (k ≤ 16) × (g .edges ≤ 2048) ⌝ }
     ensures answer { λ r. ⌜ Added g (concat (map (rowOfState (now (power .entry)) words index) (range k))) r ⌝ }
 {
-    let mut h = g;
+    let mut r = NextGraph {
+        crowded: false,
+        graph: g,
+    };
     let mut s = 0;
     while s < k {
-        let r = add_state(power, words, s, index, h);
+        r = add_state(power, words, s, index, r.graph);
         if r.crowded {
             return r;
         }
-        h = r.graph;
         s += 1;
     }
-    NextGraph {
-        crowded: false,
-        graph: h,
-    }
+    r
 }
 
 // A graph without edges, with the weights of the component's states.

@@ -40,18 +40,17 @@ pub fn split_all(g: Graph, n: usize) -> NextGraph
     requires { ⌜ Splits n g ⌝ }
     ensures answer { λ r. ⌜ SplitAllInto n g r ⌝ }
 {
-    let mut h = g;
+    let mut r = NextGraph {
+        crowded: false,
+        graph: g,
+    };
     let mut more = is_unfinished(g, n);
     while more {
-        let r = split(h, n);
+        r = split(r.graph, n);
         if r.crowded {
             return r;
         }
-        h = r.graph;
-        more = is_unfinished(h, n);
+        more = is_unfinished(r.graph, n);
     }
-    NextGraph {
-        crowded: false,
-        graph: h,
-    }
+    r
 }

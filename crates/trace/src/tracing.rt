@@ -7,6 +7,7 @@ ghost use Rattle.trace.specs.Traced.{tracing, tracedJob, tracedRunLength
 use crate::endings::put_ending;
 use crate::stages::put_stages;
 use answer::Verdict;
+use compiler::compiling::begin;
 use compiler::compiling::compile;
 use job::JobAnswer;
 use job::reading::read_job;
@@ -25,7 +26,7 @@ fn trace(r: JobAnswer, out: &mut [u8], at: usize) -> usize
         Verdict::Bad(x) => put_refusal_line(out, at, x),
         Verdict::Good => {
             let end = put_stages(j, out, at, ways(j.p));
-            put_ending(compile(j), out, end)
+            put_ending(compile(j, begin(j)), out, end)
         }
     }
 }

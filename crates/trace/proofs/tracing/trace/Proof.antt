@@ -19,7 +19,7 @@ returns-2 : tie.Need-returns-2
 unfolding traced
 returns-2 c =
     let k = c .before .before .before .before in
-    rw (k .before .before .before .before .before .before .enum-told .given .1, ← k .compile .ensures .0)
+    rw (k .before .before .before .before .before .before .before .enum-told .given .1, ← k .compile .ensures .0)
     (search added-more)
 
 pub trace-spec : {M : Type 1} → statement M
@@ -28,5 +28,6 @@ trace-spec =
     (tie.spec
     (λ c. search needs) (λ c κs. search needs) (λ c. search needs) (λ c κs. ready (c .before) .allowed .p₂)
     (λ c κs. (ready (c .before .before), c .ways .ensures .0))
-    (λ c κs. ready (c .before .before .before .before .before)) (λ c κs. search needs) (λ c. search needs) returns
+    (λ c κs. ready (c .before .before .before .before .before))
+    (λ c κs. (ready (c .before .before .before .before .before .before), c .begin .ensures)) (λ c κs. search needs) (λ c. search needs) returns
     (λ c. search needs) returns-2)
