@@ -1,13 +1,13 @@
 -- Doubling the edges into a state.
 -- In order: entered, entered-yes, entered-no, count-yes, count-taken, count-left,
 -- entered-all; Grown, grown-room, grown-yes, grown-no,
--- turn-yes, turn-no, grown-end.
+-- turn-yes, turn-no; arc-kept, target-kept, here-yes, here-no; grown-end.
 -- Assumes nothing.
 use Rattle.laws.proofs.All.{_≡_, sym, ap, subst, _∙_, List, [], _∷_, _++_, map, append-nil, ℕ, _+_, _≤_, _<_, arith}
 use Rattle.laws.proofs.All.{eq-eqb, ne-eqb, length, getD, length-append, length-map, if_then_else_, range, filter}
-use Rattle.laws.proofs.All.{map-append, filter-append, map-range-more}
+use Rattle.laws.proofs.All.{map-append, filter-append, map-range-more, map-range-at, length-map-range, List·getD-append}
 use Rattle.graph.specs.declared.Graph.{Graph}
-use Rattle.graph.specs.Arcs.{Arc, enters}
+use Rattle.graph.specs.Arcs.{Arc, arc, enters}
 use Rattle.graph.specs.Splitting.{redirected}
 use Rattle.graph.specs.Value.{arcAt, arcsIn}
 use Rattle.parting.specs.Parts.{entering, Doubled}
@@ -89,6 +89,29 @@ module _ (g : Graph) (s : ℕ) (h : Graph) (m i : ℕ) (c : Grown g s h m i) whe
   pub turn-no : (h' : Graph) (m' : ℕ) → h' ≡ h → m' ≡ m → m ≤ 2048 → (getD (g .target) i 0 ≡ s → ⊥)
       → (m' ≤ 2048) × Grown g s h' m' (i + 1)
   turn-no h' m' e f l q = (omega arith, rw (e, f) (grown-no q))
+
+-- the edges of g stand in h as they were, so a turn may read them there
+module _ (g : Graph) (s : ℕ) (h : Graph) (m i : ℕ) (c : Grown g s h m i) (k : i < g .edges) where
+  pub arc-kept : arcAt h i ≡ arcAt g i
+  arc-kept =
+      let n = appended-count g h m _ c in
+      let l : i < m = omega arith in
+      let a : i < length (arcsIn g) = subst (λ x. i < x) (sym (length-map-range (arcAt g) (g .edges))) k in
+      sym (map-range-at (arcAt h) m i (arc 0 0 0) l) ∙ ap (λ L. getD L i (arc 0 0 0)) (c .arcs)
+      ∙ List·getD-append (arcsIn g) _ (arc 0 0 0) i a ∙ map-range-at (arcAt g) (g .edges) i (arc 0 0 0) k
+
+  pub target-kept : getD (h .target) i 0 ≡ getD (g .target) i 0
+  target-kept = ap (λ a. a .target) arc-kept
+
+  pub here-yes : (h' : Graph) (m' : ℕ) → h' ≡ withArc h m (getD (h .source) i 0) (getD (h .word) i 0) (g .states)
+      → m' ≡ m + 1 → m < 2048 → getD (h .target) i 0 ≡ s → (m' ≤ 2048) × Grown g s h' m' (i + 1)
+  here-yes h' m' e f l q =
+      turn-yes g s h m i c h' m'
+      (e ∙ ap (λ a. withArc h m (a .source) (a .word) (g .states)) arc-kept) f l (sym target-kept ∙ q)
+
+  pub here-no : (h' : Graph) (m' : ℕ) → h' ≡ h → m' ≡ m → m ≤ 2048 → (getD (h .target) i 0 ≡ s → ⊥)
+      → (m' ≤ 2048) × Grown g s h' m' (i + 1)
+  here-no h' m' e f l q = turn-no g s h m i c h' m' e f l (λ z. q (target-kept ∙ z))
 
 pub grown-end : (g : Graph) (s : ℕ) (h : Graph) (m : ℕ) → m ≤ 2048 → Grown g s h m (g .edges)
     → Doubled g s (record {

@@ -78,20 +78,27 @@ pub fn enter_count(g: Graph, s: usize) -> usize
     count
 }
 
+// A byte as a state.
+fn wide(x: u8) -> usize
+    ensures answer { λ r. ⌜ r ≡ x ⌝ }
+{
+    x as usize
+}
+
 // Behind all edges, each edge into s once more, to the new state; there is room for them.
 pub fn double_edges(g: Graph, s: usize) -> Graph
     requires { ⌜ (g .edges + entering (arcsIn g) s ≤ 2048) × (g .states < 128) ⌝ }
     ensures answer { λ r. ⌜ Doubled g s r ⌝ }
 {
     let mut h = g;
-    let n = g.edges;
-    let fresh = g.states as u8;
+    let n = h.edges;
+    let fresh = h.states as u8;
     let mut m = n;
     let mut i = 0;
     while i < n {
-        if g.target[i] as usize == s {
-            h.source[m] = g.source[i];
-            h.word[m] = g.word[i];
+        if wide(h.target[i]) == s {
+            h.source[m] = h.source[i];
+            h.word[m] = h.word[i];
             h.target[m] = fresh;
             m += 1;
         }

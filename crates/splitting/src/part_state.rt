@@ -23,8 +23,8 @@ fn weigh(g: Graph, s: usize, w: u8) -> Graph
     ensures answer { λ r. ⌜ Weighed g s w r ⌝ }
 {
     let mut h = g;
-    let n = g.states;
-    let rest = g.weight[s] - w;
+    let n = h.states;
+    let rest = h.weight[s] - w;
     h.weight[s] = w;
     h.weight[n] = rest;
     h.states = n + 1;

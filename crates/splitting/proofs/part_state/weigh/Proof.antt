@@ -7,8 +7,8 @@ use Rattle.splitting.proofs.part_state.weigh.Tie as tie
 returns : tie.Need-returns
 returns c =
     let p = c .before .args in
-    let a : length (p .t1 .weight) ≡ 128 = search needs in
-    weigh-is (p .t1) (p .s) (p .w) a (omega arith) (omega arith)
+    let a : length (p .g .weight) ≡ 128 = search needs in
+    weigh-is (p .g) (p .s) (p .w) a (omega arith) (omega arith)
 
 pub weigh-spec : {M : Type 1} → statement M
 weigh-spec =
