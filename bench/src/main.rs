@@ -1,10 +1,14 @@
 //! Compares the proved library with the outside implementation, and measures both.
 mod chains;
 mod compare;
+mod families;
+mod hostile;
 mod library;
 mod marks;
 mod plain;
 mod records;
+mod short;
+mod slowest;
 mod speed;
 mod stack;
 mod streams;
@@ -26,6 +30,10 @@ fn main() {
             let seconds = arguments.get(2).and_then(|s| s.parse().ok()).unwrap_or(10);
             compare::for_seconds(seconds);
         }
-        _ => eprintln!("usage: bench/run speed | sweep | stack | records | marks | compare SECONDS"),
+        Some("slowest") => {
+            let seconds = arguments.get(2).and_then(|s| s.parse().ok()).unwrap_or(60);
+            slowest::for_seconds(seconds);
+        }
+        _ => eprintln!("usage: bench/run speed | sweep | stack | records | marks | compare SECONDS | slowest SECONDS"),
     }
 }

@@ -1,7 +1,7 @@
 //! Times of the proved library beside others: candidates interleaved in one run, 31 rounds, medians, outputs compared first.
 use crate::chains::Chains;
 use crate::compare::Numbers;
-use crate::{library, plain};
+use crate::{hostile, library, plain};
 use std::time::Instant;
 
 const ROUNDS: usize = 31;
@@ -21,7 +21,13 @@ pub fn record(job: [u8; 5]) -> Vec<u8> {
     reference::calls::compile_run_length(&job, 65535).output
 }
 
-fn seconds(call: impl FnOnce()) -> f64 {
+/// The bytes of a ready record.
+pub fn ready(name: &str) -> Vec<u8> {
+    std::fs::read(format!("records/{name}.sbc")).expect(name)
+}
+
+/// How long a call takes.
+pub fn seconds(call: impl FnOnce()) -> f64 {
     let start = Instant::now();
     call();
     start.elapsed().as_secs_f64()
@@ -45,14 +51,21 @@ pub fn medians(candidates: &mut [&mut dyn FnMut()]) -> Vec<f64> {
 
 fn check() {
     println!("check, us a call");
-    for (name, record, calls) in [("E2", E2.to_vec(), 1000), ("2 7 4 8 16", record([2, 7, 4, 8, 16]), 20)] {
-        assert_eq!(library::check(&record), (0, 0), "the record of {name} is accepted");
+    for (name, record, calls, answer) in [
+        ("E2", E2.to_vec(), 1000, 0),
+        ("2 7 4 8 16", record([2, 7, 4, 8, 16]), 20, 0),
+        ("one word, refused", hostile::one_word().pack(), 5, 10),
+        ("turned pairs, refused", hostile::turned_pairs().pack(), 5, 10),
+        ("late words, accepted", hostile::late_words().pack(), 2, 0),
+        ("long pairs, accepted", hostile::long_pairs().pack(), 5, 0),
+    ] {
+        assert_eq!(library::check(&record), (answer, 0), "{name}");
         let t = medians(&mut [
-            &mut || (0..calls).for_each(|_| assert_eq!(library::check(&record).0, 0)),
-            &mut || (0..calls).for_each(|_| assert_eq!(reference::calls::check(&record).refusal, 0)),
+            &mut || (0..calls).for_each(|_| assert_eq!(library::check(&record).0, answer)),
+            &mut || (0..calls).for_each(|_| assert_eq!(u64::from(reference::calls::check(&record).refusal), answer)),
         ]);
         let us = |t: f64| t * 1e6 / f64::from(calls);
-        println!("  {name:12} proved {:9.2}   outside implementation {:9.2}", us(t[0]), us(t[1]));
+        println!("  {name:21} proved {:9.2}   outside implementation {:9.2}", us(t[0]), us(t[1]));
     }
 }
 
@@ -170,7 +183,10 @@ pub fn all() {
     decode("E2's record", &E2);
     decode("listed code", &record([0, 1, 2, 3, 2]));
     decode("listed code as first printed", &LISTED_FIRST);
+    decode("MFM", &ready("mfm-1-3"));
+    decode("ach-2-7", &ready("ach-2-7"));
     decode("2 7 4 8 16", &record([2, 7, 4, 8, 16]));
+    crate::short::all();
     checked("listed code", [0, 1, 2, 3, 2]);
     checked("1 13 4 6 9", [1, 13, 4, 6, 9]);
     crate::streams::all();

@@ -10,7 +10,7 @@ fn timed<T>(total: &mut Duration, call: impl FnOnce() -> T) -> T {
 }
 
 /// All jobs d, k, p, q, cap in order.
-fn jobs() -> impl Iterator<Item = [u8; 5]> {
+pub fn jobs() -> impl Iterator<Item = [u8; 5]> {
     let pairs = (0..16u8).flat_map(|d| (d..16).map(move |k| (d, k)));
     let rates = move |(d, k)| (1..=4u8).flat_map(move |p| (1..=8u8).map(move |q| (d, k, p, q)));
     pairs.flat_map(rates).flat_map(|(d, k, p, q)| (1..=16u8).map(move |cap| [d, k, p, q, cap]))
