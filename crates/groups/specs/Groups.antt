@@ -43,7 +43,8 @@ Within start w k = (w < 256) × (getD start w 0 ≤ k) × (k < getD start (w + 1
 -- first edge of each, `low` and `high` the two words of the set of its targets
 pub record Grouped (t : Arrays) (start first low high : List ℕ) : Type 0 where
   pub fits : Fits t
-  pub room : (w : ℕ) → w < 256 → getD start (w + 1) 0 ≤ 2048
+  pub room : (w : ℕ) → w < 256 → (getD start (w + 1) 0 ≤ 2048) × (getD start (w + 1) 0 ≤ length low)
+      × (getD start (w + 1) 0 ≤ length high)
   pub below : (w k : ℕ) → Within start w k → getD first k 0 < places t
   pub edge : (w k : ℕ) → Within start w k → bears t w (getD first k 0) ≡ true
   pub least : (w k e : ℕ) → Within start w k → e / 16 ≡ sourceAt first k → e < getD first k 0 → bears t w e ≡ false
@@ -68,8 +69,8 @@ pub record Put (first low high : List ℕ) (k e : ℕ) (s : BitSet) (f l h : Lis
 pub record PutAll (first low high : List ℕ) (at : ℕ) (states : List ℕ) (edgeOf : ℕ → ℕ) (sets : List ℕ)
     (f l h : List ℕ) : Type 0 where
   pub firstLong : length f ≡ 2048
-  pub lowLong : length l ≡ 2048
-  pub highLong : length h ≡ 2048
+  pub lowLong : length l ≡ length low
+  pub highLong : length h ≡ length high
   pub edge : (j : ℕ) → j < length states → getD f (at + j) 0 ≡ edgeOf (getD states j 0)
   pub targets : (j : ℕ) → j < length states → targetsAt l h (at + j) ≡ setAt sets (getD states j 0)
   pub edges : (j : ℕ) → j < at → getD f j 0 ≡ getD first j 0

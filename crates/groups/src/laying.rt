@@ -41,13 +41,14 @@ fn put_groups(
     have: BitSet,
     targets: &[u64; 256],
     first: &mut [u16; 2048],
-    low: &mut [u64; 2048],
-    high: &mut [u64; 2048],
+    low: &mut [u64],
+    high: &mut [u64],
 )
     requires { ⌜
         (n ≤ 16) × (at + length (membersOf have) ≤ 2048)
         × ((s : ℕ) → s < 128 → T (holds have s) → firstEdge n (now word) w s < 2048)
-        × (length (now first) ≡ 2048) × (length (now low) ≡ 2048) × (length (now high) ≡ 2048) ⌝ }
+        × (length (now first) ≡ 2048) × (at + length (membersOf have) ≤ length (now low))
+        × (at + length (membersOf have) ≤ length (now high)) ⌝ }
     ensures written { λ r. ⌜
         PutAll (now (first .entry)) (now (low .entry)) (now (high .entry)) at (membersOf have)
         (firstEdge n (now (word .entry)) w) (now (targets .entry)) (now (first .exit)) (now (low .exit))
@@ -81,12 +82,12 @@ pub fn lay(
     next: &[u8; 2048],
     start: &mut [u16; 257],
     first: &mut [u16; 2048],
-    low: &mut [u64; 2048],
-    high: &mut [u64; 2048],
+    low: &mut [u64],
+    high: &mut [u64],
 )
     requires { ⌜
-        Fits (borrowed states n word next) × (length (now first) ≡ 2048) × (length (now low) ≡ 2048)
-        × (length (now high) ≡ 2048) × (q ≤ 8)
+        Fits (borrowed states n word next) × (length (now first) ≡ 2048) × (states * 16 ≤ length (now low))
+        × (states * 16 ≤ length (now high)) × (q ≤ 8)
         × ((e : ℕ) → e < states * 16 → e % 16 < n → getD (now word) e 0 < 2 ^ q) ⌝ }
     ensures written { λ r. ⌜
         Grouped (borrowed states n (word .entry) (next .entry)) (now (start .exit)) (now (first .exit))

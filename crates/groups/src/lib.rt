@@ -9,8 +9,8 @@ use bitsets::BitSet;
 pub mod laying;
 
 // The states to which the edges of group k lead.
-pub fn targets_at(low: &[u64; 2048], high: &[u64; 2048], k: usize) -> BitSet
-    requires { ⌜ k < 2048 ⌝ }
+pub fn targets_at(low: &[u64], high: &[u64], k: usize) -> BitSet
+    requires { ⌜ (k < length (now low)) × (k < length (now high)) ⌝ }
     ensures answer { λ r. ⌜ r ≡ targetsAt (now (low .entry)) (now (high .entry)) k ⌝ }
 {
     BitSet {
@@ -25,12 +25,11 @@ pub fn put_group(
     e: usize,
     targets: BitSet,
     first: &mut [u16; 2048],
-    low: &mut [u64; 2048],
-    high: &mut [u64; 2048],
+    low: &mut [u64],
+    high: &mut [u64],
 )
     requires { ⌜
-        (k < 2048) × (e < 2048) × (length (now first) ≡ 2048) × (length (now low) ≡ 2048)
-        × (length (now high) ≡ 2048) ⌝ }
+        (k < 2048) × (e < 2048) × (length (now first) ≡ 2048) × (k < length (now low)) × (k < length (now high)) ⌝ }
     ensures written { λ r. ⌜
         Put (now (first .entry)) (now (low .entry)) (now (high .entry)) k e targets (now (first .exit))
         (now (low .exit)) (now (high .exit)) ⌝ }

@@ -25,13 +25,14 @@ use table::chains::wide;
 // Group k leads from a state of the one set into the other.
 fn joins(
     first: &[u16; 2048],
-    low: &[u64; 2048],
-    high: &[u64; 2048],
+    low: &[u64],
+    high: &[u64],
     past: BitSet,
     ahead: BitSet,
     k: usize,
 ) -> bool
-    requires { ⌜ (k < 2048) × (sourceAt (now first) k < 128) ⌝ }
+    requires { ⌜
+        (k < 2048) × (sourceAt (now first) k < 128) × (k < length (now low)) × (k < length (now high)) ⌝ }
     ensures answer { λ r. ⌜
         r ≡ joinsAt (now (first .entry)) (now (low .entry)) (now (high .entry)) past ahead k ⌝ }
 {
@@ -45,8 +46,8 @@ fn joins(
 fn first_group(
     start: &[u16; 257],
     first: &[u16; 2048],
-    low: &[u64; 2048],
-    high: &[u64; 2048],
+    low: &[u64],
+    high: &[u64],
     past: BitSet,
     w: u8,
     ahead: BitSet,
@@ -157,8 +158,8 @@ fn past_start(i: usize, m: usize) -> BitSet
 fn past_set(
     start: &[u16; 257],
     first: &[u16; 2048],
-    low: &[u64; 2048],
-    high: &[u64; 2048],
+    low: &[u64],
+    high: &[u64],
     words: &[u8],
     i: usize,
     m: usize,
@@ -189,8 +190,8 @@ pub fn read_block(
     next: &[u8; 2048],
     start: &[u16; 257],
     first: &[u16; 2048],
-    low: &[u64; 2048],
-    high: &[u64; 2048],
+    low: &[u64],
+    high: &[u64],
     words: &[u8],
     i: usize,
     m: usize,

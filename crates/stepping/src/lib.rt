@@ -27,13 +27,14 @@ pub fn index(x: u16) -> usize
 // The set with the states to which group k leads, where its state is in `set`.
 fn step_group(
     first: &[u16; 2048],
-    low: &[u64; 2048],
-    high: &[u64; 2048],
+    low: &[u64],
+    high: &[u64],
     set: BitSet,
     k: usize,
     out: BitSet,
 ) -> BitSet
-    requires { ⌜ (k < 2048) × (sourceAt (now first) k < 128) ⌝ }
+    requires { ⌜
+        (k < 2048) × (sourceAt (now first) k < 128) × (k < length (now low)) × (k < length (now high)) ⌝ }
     ensures answer { λ r. ⌜
         ((u : ℕ) → holds r u
         ≡ (holds out u || stepsTo (now (first .entry)) (now (low .entry)) (now (high .entry)) set u k)) ⌝ }
@@ -48,8 +49,8 @@ fn step_group(
 fn step_by(
     start: &[u16; 257],
     first: &[u16; 2048],
-    low: &[u64; 2048],
-    high: &[u64; 2048],
+    low: &[u64],
+    high: &[u64],
     set: BitSet,
     w: u8,
 ) -> BitSet
@@ -72,13 +73,14 @@ fn step_by(
 // The set with the state of group k, where the group leads into `set`.
 fn back_group(
     first: &[u16; 2048],
-    low: &[u64; 2048],
-    high: &[u64; 2048],
+    low: &[u64],
+    high: &[u64],
     set: BitSet,
     k: usize,
     out: BitSet,
 ) -> BitSet
-    requires { ⌜ (k < 2048) × (sourceAt (now first) k < 128) ⌝ }
+    requires { ⌜
+        (k < 2048) × (sourceAt (now first) k < 128) × (k < length (now low)) × (k < length (now high)) ⌝ }
     ensures answer { λ r. ⌜
         ((s : ℕ) → holds r s
         ≡ (holds out s || leadsInto (now (first .entry)) (now (low .entry)) (now (high .entry)) set s k)) ⌝ }
@@ -94,8 +96,8 @@ fn back_group(
 fn back_by(
     start: &[u16; 257],
     first: &[u16; 2048],
-    low: &[u64; 2048],
-    high: &[u64; 2048],
+    low: &[u64],
+    high: &[u64],
     set: BitSet,
     w: u8,
 ) -> BitSet
@@ -119,8 +121,8 @@ fn back_by(
 pub fn step_all(
     start: &[u16; 257],
     first: &[u16; 2048],
-    low: &[u64; 2048],
-    high: &[u64; 2048],
+    low: &[u64],
+    high: &[u64],
     set: BitSet,
     words: &[u8],
     from: usize,
@@ -148,8 +150,8 @@ pub fn step_all(
 pub fn readers(
     start: &[u16; 257],
     first: &[u16; 2048],
-    low: &[u64; 2048],
-    high: &[u64; 2048],
+    low: &[u64],
+    high: &[u64],
     words: &[u8],
     from: usize,
     to: usize,
