@@ -15,11 +15,11 @@ use Rattle.groups.proofs.WordGroups.{GroupOf, OfWord, word-same}
 pub record Laying (t : Arrays) (v k : ℕ) (start first low high : List ℕ) : Type 0 where
   pub startLong : length start ≡ 257
   pub firstLong : length first ≡ 2048
-  pub lowLong : length low ≡ 2048
-  pub highLong : length high ≡ 2048
+  pub lowLong : places t ≤ length low
+  pub highLong : places t ≤ length high
   pub last : getD start v 0 ≡ k
   pub rise : (w : ℕ) → w ≤ v → getD start w 0 ≤ k
-  pub room : k ≤ before t v 2048
+  pub room : k ≤ before t v (places t)
   pub words : (w : ℕ) → w < v → OfWord t w (getD start w 0) (getD start (w + 1) 0) first low high
   pub others : (w : ℕ) → v < w → getD start w 0 ≡ 0
 
@@ -29,8 +29,8 @@ zeros (suc n) zero = refl
 zeros (suc n) (suc w) = zeros n w
 
 -- no word yet
-pub laying-start : (t : Arrays) (first low high : List ℕ) → length first ≡ 2048 → length low ≡ 2048
-    → length high ≡ 2048 → Laying t 0 0 (replicate 257 0) first low high
+pub laying-start : (t : Arrays) (first low high : List ℕ) → length first ≡ 2048 → places t ≤ length low
+    → places t ≤ length high → Laying t 0 0 (replicate 257 0) first low high
 laying-start t first low high b c d = record {
   startLong = length-replicate {A = ℕ} 257 0;
   firstLong = b;
@@ -38,29 +38,29 @@ laying-start t first low high b c d = record {
   highLong = d;
   last = zeros 257 0;
   rise = λ w h. omega (arith, zeros 257 w);
-  room = omega (arith, before-zero t 2048);
+  room = omega (arith, before-zero t (places t));
   words = λ w h. absurd (omega arith);
   others = λ w h. zeros 257 w;
 }
 
 module _ (t : Arrays) (v k : ℕ) (start first low high : List ℕ) (y : Laying t v k start first low high) where
   -- there is room for as many groups as there are edges with the word
-  pub laying-room : (m : ℕ) → m ≤ count t v 2048 → k + m ≤ 2048
-  laying-room m h = omega (arith, y .room, before-more t v 2048, before-le t (v + 1) 2048)
+  pub laying-room : (m : ℕ) → m ≤ count t v (places t) → k + m ≤ places t
+  laying-room m h = omega (arith, y .room, before-more t v (places t), before-le t (v + 1) (places t))
 
   -- the groups of one word more
-  pub laying-more : v < 256 → (m : ℕ) → m ≤ count t v 2048 → (f l h : List ℕ) → length f ≡ 2048 → length l ≡ 2048
-      → length h ≡ 2048 → OfWord t v k (k + m) f l h → ((j : ℕ) → j < k → getD f j 0 ≡ getD first j 0)
+  pub laying-more : v < 256 → (m : ℕ) → m ≤ count t v (places t) → (f l h : List ℕ) → length f ≡ 2048
+      → length l ≡ length low → length h ≡ length high → OfWord t v k (k + m) f l h → ((j : ℕ) → j < k → getD f j 0 ≡ getD first j 0)
       → ((j : ℕ) → j < k → targetsAt l h j ≡ targetsAt low high j)
       → Laying t (v + 1) (k + m) (set start (v + 1) (k + m)) f l h
   laying-more b m few f l h a c d o p q = record {
     startLong = length-set start (v + 1) (k + m) ∙ y .startLong;
     firstLong = a;
-    lowLong = c;
-    highLong = d;
+    lowLong = omega (arith, c, y .lowLong);
+    highLong = omega (arith, d, y .highLong);
     last = new;
     rise = λ w i. at-rise w i (ℕ-discrete w (v + 1));
-    room = omega (arith, y .room, before-more t v 2048);
+    room = omega (arith, y .room, before-more t v (places t));
     words = λ w i. at-word w i (ℕ-discrete w v);
     others = λ w i. getD-set-other start (v + 1) w (k + m) 0 (λ e. omega arith) ∙ y .others w (omega arith);
   }
@@ -94,7 +94,7 @@ pub laid : (t : Arrays) (v k : ℕ) (start first low high : List ℕ) → Fits t
     → Grouped t start first low high
 laid t v k start first low high g few bound y = record {
   fits = g;
-  room = λ w h. room w (decLt w v);
+  room = λ w h. room w;
   below = λ w j i. group w j i .below;
   edge = λ w j i. group w j i .edge;
   least = λ w j e i. group w j i .least e;
@@ -106,9 +106,15 @@ laid t v k start first low high g few bound y = record {
   targets = λ w j u i. group w j i .targets u;
 }
   where
-    room : (w : ℕ) → Dec (w < v) → getD start (w + 1) 0 ≤ 2048
-    room w (yes h) = omega (arith, y .rise (w + 1) (omega arith), y .room, before-le t v 2048)
-    room w (no h) = omega (arith, y .others (w + 1) (omega arith))
+    fits : (w : ℕ) → Dec (w < v) → getD start (w + 1) 0 ≤ places t
+    fits w (yes h) = omega (arith, y .rise (w + 1) (omega arith), y .room, before-le t v (places t))
+    fits w (no h) = omega (arith, y .others (w + 1) (omega arith))
+
+    room : (w : ℕ) → (getD start (w + 1) 0 ≤ 2048) × (getD start (w + 1) 0 ≤ length low)
+        × (getD start (w + 1) 0 ≤ length high)
+    room w =
+        let h = fits w (decLt w v) in
+        (omega (arith, h, g .few), omega (arith, h, y .lowLong), omega (arith, h, y .highLong))
 
     -- a word that has a group is in use
     used : (w j : ℕ) → Within start w j → w < v

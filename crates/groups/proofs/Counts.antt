@@ -3,7 +3,7 @@
 -- Assumes nothing.
 use Rattle.laws.proofs.All.{_≡_, refl, sym, ap, _∙_, _⊎_, inl, inr, Bool, true, false, _∷_, [], ℕ, zero, suc, _+_}
 use Rattle.laws.proofs.All.{_-_, _*_, _/_, _≤_, _<_, add-zero, add-one, le-refl, arith, length, length-append}
-use Rattle.laws.proofs.All.{if_then_else_, filter, range, filter-append, range-more}
+use Rattle.laws.proofs.All.{_++_, append-nil, if_then_else_, filter, range, filter-append, range-more}
 use native.Mathlib.Nat.{add-suc}
 use Rattle.table.specs.Edges.{Arrays, wordOf, bears}
 use Rattle.table.proofs.Edges.{bears-word}
@@ -124,7 +124,21 @@ module _ (t : Arrays) (w : ℕ) where
           let n : count t w (d * 16) ≤ count t w (suc d * 16) = rw m at (count-rise t w (d * 16) 16) in
           omega (arith, more, one false q)
 
-  pub members-count : (d n : ℕ) → ((s : ℕ) → s < d → bitAt n s ≡ true → Has s)
-      → length (placesOf d n) ≤ count t w (d * 16)
+  none-beyond : (p : ℕ → Bool) (d k : ℕ) → ((s : ℕ) → d ≤ s → s < d + k → p s ≡ false)
+      → filter p (range (d + k)) ≡ filter p (range d)
+  none-beyond p d zero f = ap (λ x. filter p (range x)) (add-zero d)
+  none-beyond p d (suc k) f =
+      let e : d + suc k ≡ d + k + 1 = omega arith in
+      ap (λ x. filter p (range x)) e ∙ ap (filter p) (range-more (d + k))
+      ∙ filter-append p (range (d + k)) ((d + k) ∷ [])
+      ∙ ap (λ b. filter p (range (d + k)) ++ (if b then (d + k) ∷ [] else [])) (f (d + k) (omega arith) (omega arith))
+      ∙ append-nil (filter p (range (d + k))) ∙ none-beyond p d k (λ s a b. f s a (omega arith))
+
+  -- where no member is d or more
+  pub members-count : (d k n : ℕ) → ((s : ℕ) → d ≤ s → s < d + k → bitAt n s ≡ false)
+      → ((s : ℕ) → s < d → bitAt n s ≡ true → Has s) → length (placesOf (d + k) n) ≤ count t w (d * 16)
   unfolding placesOf
-  members-count d n f = states-count (bitAt n) d f
+  members-count d k n g f =
+      let e = ap length (none-beyond (bitAt n) d k g) in
+      let h = states-count (bitAt n) d f in
+      omega arith

@@ -31,8 +31,8 @@ pub record Putting (first low high : List ℕ) (at : ℕ) (states : List ℕ) (e
   pub rest : left ≡ drop (k - at) states
   pub lowest : s ≡ getD left 0 128
   pub firstLong : length f ≡ 2048
-  pub lowLong : length l ≡ 2048
-  pub highLong : length h ≡ 2048
+  pub lowLong : length l ≡ length low
+  pub highLong : length h ≡ length high
   pub edge : (j : ℕ) → at + j < k → getD f (at + j) 0 ≡ edgeOf (getD states j 0)
   pub targets : (j : ℕ) → at + j < k → targetsAt l h (at + j) ≡ setAt sets (getD states j 0)
   pub edges : (j : ℕ) → j < at → getD f j 0 ≡ getD first j 0
@@ -40,17 +40,17 @@ pub record Putting (first low high : List ℕ) (at : ℕ) (states : List ℕ) (e
 
 module _ (first low high : List ℕ) (at : ℕ) (states : List ℕ) (edgeOf : ℕ → ℕ) (sets : List ℕ) where
   -- no group yet
-  pub putting-start : (s : ℕ) → s ≡ getD states 0 128 → length first ≡ 2048 → length low ≡ 2048 → length high ≡ 2048
+  pub putting-start : (s : ℕ) → s ≡ getD states 0 128 → length first ≡ 2048
       → Putting first low high at states edgeOf sets states s at first low high
-  putting-start s e a b c =
+  putting-start s e a =
       let z : at - at ≡ 0 = omega arith in
       record {
         begun = omega arith;
         rest = sym (ap (λ i. drop i states) z);
         lowest = e;
         firstLong = a;
-        lowLong = b;
-        highLong = c;
+        lowLong = refl;
+        highLong = refl;
         edge = λ j h. absurd (omega arith);
         targets = λ j h. absurd (omega arith);
         edges = λ j h. refl;

@@ -2,7 +2,8 @@
 -- In order: GroupOf, one group; targets-same, member-source, member-group, the group of one state; states-few, no more
 -- states than edges; OfWord, word-laid, word-same, the groups of one word.
 -- Assumes nothing.
-use Rattle.laws.proofs.All.{_≡_, sym, ap, ap₂, subst, subst₂, _∙_, Bool, true, false, not, _&&_, and-false, List, ℕ}
+use Rattle.laws.proofs.All.{_≡_, refl, sym, ap, ap₂, subst, subst₂, _∙_, Bool, true, false, not, _&&_, and-false}
+use Rattle.laws.proofs.All.{List, ℕ}
 use Rattle.laws.proofs.All.{_+_, _-_, _*_, _/_, _%_, _≤_, _<_, arith, T, eqb, eqb→eq, eqb-refl, ne-eqb, lt-ltb}
 use Rattle.laws.proofs.All.{ltb-true, length, getD, any-range-same, and→, →and, T→true}
 use Rattle.table.specs.Marks.{some}
@@ -10,7 +11,7 @@ use Rattle.table.specs.Edges.{Arrays, places, isEdge, nextOf, Fits, bears}
 use Rattle.table.proofs.Marks.{found, some-at}
 use Rattle.table.proofs.Edges.{bears-edge}
 use Rattle.bitsets.specs.declared.BitSet.{BitSet}
-use Rattle.bitsets.specs.BitSets.{valueOf, holds, membersOf, setAt}
+use Rattle.bitsets.specs.BitSets.{placesOf, valueOf, holds, membersOf, setAt}
 use Rattle.bitsets.proofs.Sets.{members-rising, members-find, members-hold}
 use Rattle.gathering.specs.Gathered.{leaves, besideFrom, besideTo, Gathered}
 use Rattle.groups.specs.Groups.{goesTo, hasAt, firstEdge, targetsAt, sourceAt, PutAll}
@@ -99,10 +100,20 @@ module _ (t : Arrays) (g : Fits t) (w : ℕ) (have : BitSet) (sets : List ℕ) (
         }
 
   -- no more states in the set than edges with the word
-  pub states-few : length (membersOf have) ≤ count t w 2048
+  pub states-few : length (membersOf have) ≤ count t w (places t)
   states-few =
-      members-count t w 128 (valueOf have)
-      (λ s h q. let (e, l, z, b) = held-edge s h (subst T (sym q) tt) in (e, z, b))
+      let k : t .states + (128 - t .states) ≡ 128 = omega (arith, g .few) in
+      subst (λ d. length (placesOf d (valueOf have)) ≤ count t w (places t)) k
+      (members-count t w (t .states) (128 - t .states) (valueOf have) (λ s a b. none s (omega arith) a)
+      (λ s h q. let (e, l, z, b) = held-edge s (omega (arith, g .few)) (subst T (sym q) tt) in (e, z, b)))
+    where
+      -- a number that is no state is in no set
+      none : (s : ℕ) → s < 128 → t .states ≤ s → holds have s ≡ false
+      none s h a = go (holds have s) refl
+        where
+          go : (b : Bool) → holds have s ≡ b → holds have s ≡ false
+          go true q = let (e, l, z, b) = held-edge s h (subst T (sym q) tt) in absurd (omega arith)
+          go false q = q
 
 -- ---- the groups of one word, from place `at` on and below `end`
 pub record OfWord (t : Arrays) (w at end : ℕ) (first low high : List ℕ) : Type 0 where

@@ -15,7 +15,7 @@ abbrev μ-loop : tie.MeasureT-loop
 μ-loop n word w at targets first₀ low₀ high₀ left₀ k₀ s₀ first low high left k s = length (membersOf left)
 
 abbrev start : tie.In-loop Inv-loop μ-loop → tie.Start Inv-loop μ-loop
-start i = i .before .before .before
+start i = i .before .before .before .before .before
 
 -- the state in hand by its place in the set
 place : (i : tie.In-loop Inv-loop μ-loop)
@@ -35,8 +35,8 @@ room i = omega (arith, place i .0, i .before .loop .inv .begun, start i .pre .1)
 
 loop-holds : tie.Need-loop-holds Inv-loop μ-loop
 loop-holds c =
-    let s = c .before in
-    putting-start _ _ _ _ _ _ _ _ (c .lowest .ensures) (s .pre .3) (s .pre .4) (s .pre .5)
+    let s = c .before .before .before in
+    putting-start _ _ _ _ _ _ _ _ (c .lowest .ensures) (s .pre .3)
 
 put-group-requires : tie.Need-put-group-requires Inv-loop μ-loop
 put-group-requires c κs =
@@ -47,8 +47,8 @@ put-group-requires c κs =
       room i,
       omega (arith, f .first-edge .ensures, start i .pre .2 (l .s) (i .loop-test .taken) (held i)),
       l .inv .firstLong,
-      l .inv .lowLong,
-      l .inv .highLong,
+      omega (arith, l .inv .lowLong, place i .0, l .inv .begun, start i .pre .4),
+      omega (arith, l .inv .highLong, place i .0, l .inv .begun, start i .pre .5),
     )
 
 -- the turn at whose end c stands
@@ -60,7 +60,7 @@ some-left i = putting-some _ _ _ _ _ _ _ _ _ _ _ _ _ (i .before .loop .inv) (i .
 
 loop-less : tie.Need-loop-less Inv-loop μ-loop
 loop-less c =
-    let i = turn (c .before .before) in
+    let i = turn (c .before .before .before .before .before .before) in
     omega (
       arith,
       some-left i,
@@ -70,7 +70,7 @@ loop-less c =
 
 loop-again : tie.Need-loop-again Inv-loop μ-loop
 loop-again c =
-    let p = c .before .before in
+    let p = c .before .before .before .before .before .before in
     let i = turn p in
     let g = p .before .before .before .before in
     putting-more _ _ _ _ _ _ _ _ _ _ _ _ _ (i .before .loop .inv) _ _ _ _ _ _ _ (i .loop-test .taken)
@@ -79,7 +79,7 @@ loop-again c =
 
 returns : tie.Need-returns Inv-loop μ-loop
 returns c =
-    let h = c .before .before .before .args .have in
+    let h = c .before .before .before .before .before .args .have in
     putting-done _ _ _ _ _ _ _ _ _ _ _ _ _ (c .before .loop .inv) (c .loop-test .left)
     (λ j l. members-hold h j l .0)
 
@@ -88,5 +88,6 @@ put-groups-spec =
     tie.close
     (tie.spec
     Inv-loop μ-loop (λ c κs. search needs) loop-holds (λ c κs. search needs) (λ c κs. search needs)
-    put-group-requires (λ c κs. some-left (turn c)) (λ c κs. search needs)
-    (λ c. omega (arith, room (turn (c .before .before)))) loop-less loop-again returns)
+    put-group-requires (λ c κs. some-left (turn (c .before .before .before .before))) (λ c κs. search needs)
+    (λ c. omega (arith, room (turn (c .before .before .before .before .before .before)))) loop-less loop-again
+    (λ c. c .before .loop .inv .lowLong) (λ c. c .before .loop .inv .highLong) returns)
