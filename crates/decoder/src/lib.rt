@@ -18,7 +18,92 @@ use table::Table;
 use table::chains::ways;
 use table::ready::is_ready;
 
-// The first `count` blocks of the words in front of the output, by the groups of the table's edges.
+// The first `count` blocks of the words in front of the output, by the groups of the table's edges, whose sets are kept
+// in two arrays that are lent.
+fn read_with(
+    states: usize,
+    n: usize,
+    q: usize,
+    word: &[u8; 2048],
+    next: &[u8; 2048],
+    words: &[u8],
+    m: usize,
+    a: usize,
+    count: usize,
+    low: &mut [u64],
+    high: &mut [u64],
+    out: &mut [u8],
+)
+    requires { ⌜
+        Fits (borrowed states n word next) × (count + a ≤ length (now words)) × (count ≤ length (now out)) × (q ≤ 8)
+        × ((e : ℕ) → e < states * 16 → e % 16 < n → getD (now word) e 0 < 2 ^ q)
+        × (states * 16 ≤ length (now low)) × (states * 16 ≤ length (now high)) ⌝ }
+    ensures written { λ r. ⌜
+        now (out .exit)
+        ≡ map (block (under (rowsOf (borrowed states n (word .entry) (next .entry))) m a)
+        (now (words .entry))) (range count) ++ drop count (now (out .entry)) ⌝ }
+{
+    let mut start = [0u16; 257];
+    let mut first = [0u16; 2048];
+    lay(states, n, q, word, next, &mut start, &mut first, low, high);
+    read_blocks(
+        states,
+        n,
+        word,
+        next,
+        &start,
+        &first,
+        low,
+        high,
+        words,
+        0,
+        m,
+        a,
+        count,
+        out,
+    );
+}
+
+// The same for a table of at most 16 states: no more is cleared than such a table can use.
+fn read_few(
+    states: usize,
+    n: usize,
+    q: usize,
+    word: &[u8; 2048],
+    next: &[u8; 2048],
+    words: &[u8],
+    m: usize,
+    a: usize,
+    count: usize,
+    out: &mut [u8],
+)
+    requires { ⌜
+        Fits (borrowed states n word next) × (count + a ≤ length (now words)) × (count ≤ length (now out)) × (q ≤ 8)
+        × ((e : ℕ) → e < states * 16 → e % 16 < n → getD (now word) e 0 < 2 ^ q) × (states ≤ 16) ⌝ }
+    ensures written { λ r. ⌜
+        now (out .exit)
+        ≡ map (block (under (rowsOf (borrowed states n (word .entry) (next .entry))) m a)
+        (now (words .entry))) (range count) ++ drop count (now (out .entry)) ⌝ }
+{
+    let mut low = [0u64; 256];
+    let mut high = [0u64; 256];
+    read_with(
+        states,
+        n,
+        q,
+        word,
+        next,
+        words,
+        m,
+        a,
+        count,
+        &mut low,
+        &mut high,
+        out,
+    );
+}
+
+// The same for any table.
 fn read_all(
     states: usize,
     n: usize,
@@ -39,35 +124,20 @@ fn read_all(
         ≡ map (block (under (rowsOf (borrowed states n (word .entry) (next .entry))) m a)
         (now (words .entry))) (range count) ++ drop count (now (out .entry)) ⌝ }
 {
-    let mut start = [0u16; 257];
-    let mut first = [0u16; 2048];
     let mut low = [0u64; 2048];
     let mut high = [0u64; 2048];
-    lay(
+    read_with(
         states,
         n,
         q,
         word,
         next,
-        &mut start,
-        &mut first,
-        &mut low,
-        &mut high,
-    );
-    read_blocks(
-        states,
-        n,
-        word,
-        next,
-        &start,
-        &first,
-        &low,
-        &high,
         words,
-        0,
         m,
         a,
         count,
+        &mut low,
+        &mut high,
         out,
     );
 }
