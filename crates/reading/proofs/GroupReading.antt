@@ -187,4 +187,4 @@ module _ (t : Arrays) (start first low high : List ℕ) (g : Grouped t start fir
         go : Scanned joins noPlace (getD start w 0) (getD start (w + 1) 0) k
             → readings (rowsOf t) (yesNo (t .states) P) w (yesNo (t .states) A) ≡ []
         go (inl (_, f)) = no-reading t (g .fits) P A w (none-reads f)
-        go (inr (_, m, _, _)) = absurd (omega (arith, g .room w hw))
+        go (inr (_, m, _, _)) = absurd (omega (arith, g .room w hw .0))

@@ -2,7 +2,7 @@
 -- In order: between-first; Joining with join-start, join-next, join-done; edge-small, group-small.
 -- Assumes nothing.
 use Rattle.laws.proofs.All.{_≡_, sym, ap, ap₂, _∙_, Bool, false, _||_, or-assoc, or-false, List, ℕ, suc, _+_, _-_}
-use Rattle.laws.proofs.All.{_≤_, _<_, add-one, arith, getD, from, any}
+use Rattle.laws.proofs.All.{_≤_, _<_, add-one, arith, length, getD, from, any}
 use Rattle.table.specs.Edges.{Arrays}
 use Rattle.bitsets.specs.declared.BitSet.{BitSet}
 use Rattle.bitsets.specs.BitSets.{holds}
@@ -46,5 +46,8 @@ module _ (t : Arrays) (start first low high : List ℕ) (g : Grouped t start fir
   pub edge-small : (k : ℕ) → Within start w k → getD first k 0 < 2048
   edge-small k i = omega (arith, g .below w k i, g .fits .few)
 
-  pub group-small : (k : ℕ) → Within start w k → (k < 2048) × (sourceAt first k < 128)
-  group-small k i = (omega (arith, g .room w (i .0), i .2), omega (arith, edge-small k i))
+  pub group-small : (k : ℕ) → Within start w k
+      → (k < 2048) × (sourceAt first k < 128) × (k < length low) × (k < length high)
+  group-small k i =
+      let (a, b, c) = g .room w (i .0) in
+      (omega (arith, a, i .2), omega (arith, edge-small k i), omega (arith, b, i .2), omega (arith, c, i .2))

@@ -21,11 +21,11 @@ blockAt s =
     block (under (rowsOf (arrays (a .states) (a .n) (now (a .word)) (now (a .next)))) (a .m) (a .a)) (now (a .words))
 
 loop-holds : tie.Need-loop-holds Inv-loop μ-loop
-loop-holds c = (omega arith, c .before .before .pre .2, refl, refl)
+loop-holds c = (omega arith, c .before .before .before .before .pre .2, refl, refl)
 
 loop-again : tie.Need-loop-again Inv-loop μ-loop
 loop-again c =
-    let s = c .before .before .before .before .before in
+    let s = c .before .before .before .before .before .before .before in
     let l = c .before .before .loop in (
       omega arith,
       l .inv .1,
@@ -39,7 +39,7 @@ same-length c = c .before .loop .inv .2
 
 returns : tie.Need-returns Inv-loop μ-loop
 returns c =
-    let s = c .before .before .before .before in
+    let s = c .before .before .before .before .before .before in
     let l = c .before .loop in
     let e : l .i ≡ s .args .count = omega arith in
     l .inv .3 ∙ ap (λ k. map (blockAt s) (from (s .args .begin) k) ++ drop k (now (s .args .out))) e

@@ -15,16 +15,16 @@ abbrev μ-loop : tie.MeasureT-loop
 
 -- the groups of the word end inside the arrays
 end-small : (s : tie.Start Inv-loop μ-loop) → getD (now (s .args .start)) (s .args .w + 1) 0 < 2049
-end-small s = omega (arith, s .pre .1 .room (s .args .w) (omega arith))
+end-small s = omega (arith, s .pre .1 .room (s .args .w) (omega arith) .0)
 
 cast-end : tie.Need-cast-end Inv-loop μ-loop
-cast-end c = omega (arith, end-small (c .before))
+cast-end c = omega (arith, end-small (c .before .before .before))
 
 loop-holds : tie.Need-loop-holds Inv-loop μ-loop
 loop-holds c = join-start _ _ _ _ (c .none .result) (c .before .index .ensures) (c .none .ensures)
 
 abbrev begin : tie.In-loop Inv-loop μ-loop → tie.Start Inv-loop μ-loop
-begin c = c .before .before .before .before .before .before
+begin c = c .before .before .before .before .before .before .before .before
 
 -- the group in hand is one of the word
 within : (c : tie.In-loop Inv-loop μ-loop)
@@ -52,7 +52,7 @@ loop-again c =
 returns : tie.Need-returns Inv-loop μ-loop
 returns c = λ t g.
     let l = c .before .loop in
-    let a = c .before .before .before .before .before .before .args in
+    let a = c .before .before .before .before .before .before .before .before .args in
     back-bits t (now (a .start)) (now (a .first)) (now (a .low)) (now (a .high)) g (a .set) (l .out) (a .w)
     (omega arith) (join-done _ _ _ (l .k) (l .out) (l .inv) (c .loop-test .left))
 

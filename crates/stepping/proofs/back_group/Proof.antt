@@ -8,7 +8,7 @@ use Rattle.stepping.proofs.back_group.Tie as tie
 returns : tie.Need-returns
 returns c = λ s.
     let m = c .before in
-    let a = m .before .before .before .args in
+    let a = m .before .before .before .before .before .args in
     c .with-if .ensures s
     ∙ ap (λ b. holds (a .out) s || (b && eqb (sourceAt (now (a .first)) (a .k)) s))
     (m .meets .ensures ∙ ap (λ g. meeting 128 g (a .set)) (m .before .targets-at .ensures))

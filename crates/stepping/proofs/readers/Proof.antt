@@ -20,7 +20,7 @@ abbrev μ-loop : tie.MeasureT-loop
 
 loop-holds : tie.Need-loop-holds Inv-loop μ-loop
 loop-holds c =
-    let s = c .before .before in (
+    let s = c .before .before .before .before in (
       omega arith,
       s .pre .1,
       λ t g.
@@ -35,10 +35,10 @@ sub-j c = omega (arith, c .loop-test .taken)
 shared-slice-read-back-by : tie.Need-shared-slice-read-back-by Inv-loop μ-loop
 shared-slice-read-back-by c =
     let i = c .before in
-    omega (arith, i .loop-test .taken, i .before .loop .inv .0, i .before .before .before .before .pre .2)
+    omega (arith, i .loop-test .taken, i .before .loop .inv .0, i .before .before .before .before .before .before .pre .2)
 
 back-by-requires : tie.Need-back-by-requires Inv-loop μ-loop
-back-by-requires c κs = c .before .before .before .before .before .pre .0
+back-by-requires c κs = c .before .before .before .before .before .before .before .pre .0
 
 loop-less : tie.Need-loop-less Inv-loop μ-loop
 loop-less c = omega (arith, c .before .before .loop-test .taken)
@@ -47,7 +47,7 @@ loop-again : tie.Need-loop-again Inv-loop μ-loop
 loop-again c =
     let i = c .before .before in
     let l = i .before .loop in
-    let s = i .before .before .before .before in
+    let s = i .before .before .before .before .before .before in
     let ws = now (s .args .words) in
     let to = s .args .to in
     let e : l .j - 1 + 1 ≡ l .j = omega (arith, i .loop-test .taken) in (
@@ -63,7 +63,7 @@ loop-again c =
 returns : tie.Need-returns Inv-loop μ-loop
 returns c = λ t g.
     let l = c .before .loop in
-    let a = c .before .before .before .before .args in
+    let a = c .before .before .before .before .before .before .args in
     let z : l .j ≡ a .from = omega (arith, l .inv .1, c .loop-test .left) in
     l .inv .2 t g ∙ ap (λ j. able (rowsOf t) (slice j (a .to) (now (a .words)))) z
 

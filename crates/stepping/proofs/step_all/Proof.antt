@@ -18,15 +18,15 @@ abbrev μ-loop : tie.MeasureT-loop
 μ-loop start first low high words from to reached₀ j₀ reached j = to - j
 
 loop-holds : tie.Need-loop-holds Inv-loop μ-loop
-loop-holds c = (omega arith, c .before .pre .1, λ t g. refl)
+loop-holds c = (omega arith, c .before .before .before .pre .1, λ t g. refl)
 
 shared-slice-read-step-by : tie.Need-shared-slice-read-step-by Inv-loop μ-loop
 shared-slice-read-step-by c =
     let i = c .before in
-    omega (arith, i .before .loop .inv .0, i .loop-test .taken, i .before .before .before .pre .2)
+    omega (arith, i .before .loop .inv .0, i .loop-test .taken, i .before .before .before .before .before .pre .2)
 
 step-by-requires : tie.Need-step-by-requires Inv-loop μ-loop
-step-by-requires c κs = c .before .before .before .before .pre .0
+step-by-requires c κs = c .before .before .before .before .before .before .pre .0
 
 add-j : tie.Need-add-j Inv-loop μ-loop
 add-j c = omega (arith, c .before .before .loop-test .taken)
@@ -38,7 +38,7 @@ loop-again : tie.Need-loop-again Inv-loop μ-loop
 loop-again c =
     let i = c .before .before in
     let l = i .before .loop in
-    let s = i .before .before .before in
+    let s = i .before .before .before .before .before in
     let ws = now (s .args .words) in
     let to = s .args .to in (
       omega (arith, l .inv .0),
@@ -52,7 +52,7 @@ loop-again c =
 returns : tie.Need-returns Inv-loop μ-loop
 returns c = λ t g.
     let l = c .before .loop in
-    let a = c .before .before .before .args in
+    let a = c .before .before .before .before .before .args in
     let S = yesNo (t .states) (l .reached) in
     let z : l .j ≡ a .to = omega (arith, l .inv .1, c .loop-test .left) in
     sym (l .inv .2 t g ∙ ap (λ j. alongAll (rowsOf t) S (slice j (a .to) (now (a .words)))) z

@@ -10,7 +10,7 @@ returns c = λ u.
     let p = c .before in
     let i = p .before in
     let h = i .before in
-    let a = h .before .before .args in
+    let a = h .before .before .before .before .args in
     c .join .ensures u
     ∙ ap (λ g. holds (a .out) u || holds g u) (p .targets-at .ensures)
     ∙ ap (λ b. holds (a .out) u || (b && holds (targetsAt (now (a .low)) (now (a .high)) (a .k)) u))
@@ -19,7 +19,7 @@ returns c = λ u.
 returns-2 : tie.Need-returns-2
 returns-2 c = λ u.
     let h = c .before in
-    let a = h .before .before .args in
+    let a = h .before .before .before .before .args in
     sym (ap (λ b. holds (a .out) u || (b && holds (targetsAt (now (a .low)) (now (a .high)) (a .k)) u))
     (sym (h .has .ensures) ∙ c .if1 .left)
     ∙ or-false (holds (a .out) u))

@@ -18,21 +18,21 @@ abbrev μ-loop : tie.MeasureT-loop
 
 -- the groups of the word end inside the arrays
 end-small : (s : tie.Start Inv-loop μ-loop) → getD (now (s .args .start)) (s .args .w + 1) 0 < 2049
-end-small s = omega (arith, s .pre .1 .room (s .args .w) (omega arith))
+end-small s = omega (arith, s .pre .1 .room (s .args .w) (omega arith) .0)
 
 cast-end : tie.Need-cast-end Inv-loop μ-loop
-cast-end c = omega (arith, end-small (c .before))
+cast-end c = omega (arith, end-small (c .before .before .before))
 
 loop-holds : tie.Need-loop-holds Inv-loop μ-loop
 loop-holds c =
-    let a = c .before .before .before .args in
+    let a = c .before .before .before .before .before .args in
     let f = joinsAt (now (a .first)) (now (a .low)) (now (a .high)) (a .past) (a .ahead) in (
       omega (arith, c .index .ensures),
       ap (λ k. scan f noPlace k (getD (now (a .start)) (a .w + 1) 0)) (sym (c .index .ensures)),
     )
 
 abbrev begin : tie.At-loop Inv-loop μ-loop → tie.Start Inv-loop μ-loop
-begin c = c .before .before .before .before
+begin c = c .before .before .before .before .before .before
 
 within : (c : tie.In-loop Inv-loop μ-loop)
     → Within (now (begin (c .before) .args .start)) (begin (c .before) .args .w) (c .before .loop .k)

@@ -18,7 +18,7 @@ abbrev μ-loop : tie.MeasureT-loop
 
 -- the groups of the word end inside the arrays
 end-small : (s : tie.Start Inv-loop μ-loop) → getD (now (s .args .start)) (s .args .w + 1) 0 < 2049
-end-small s = omega (arith, s .pre .3 .room (s .args .w) (omega arith))
+end-small s = omega (arith, s .pre .3 .room (s .args .w) (omega arith) .0)
 
 cast-end : tie.Need-cast-end Inv-loop μ-loop
 cast-end c = omega (arith, end-small (c .before))

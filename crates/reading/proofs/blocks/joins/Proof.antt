@@ -10,7 +10,7 @@ returns c =
     let p = c .before in
     let i = p .before in
     let h = i .before in
-    let a = h .before .before .args in
+    let a = h .before .before .before .before .args in
     c .meets .ensures ∙ ap (λ g. meeting 128 g (a .ahead)) (p .targets-at .ensures)
     ∙ sym (ap (λ b. b && meeting 128 (targetsAt (now (a .low)) (now (a .high)) (a .k)) (a .ahead))
     (sym (h .has .ensures) ∙ i .if1 .taken))
@@ -18,7 +18,7 @@ returns c =
 returns-2 : tie.Need-returns-2
 returns-2 c =
     let h = c .before in
-    let a = h .before .before .args in
+    let a = h .before .before .before .before .args in
     sym (ap (λ b. b && meeting 128 (targetsAt (now (a .low)) (now (a .high)) (a .k)) (a .ahead))
     (sym (h .has .ensures) ∙ c .if1 .left))
 

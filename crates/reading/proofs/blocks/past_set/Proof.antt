@@ -8,7 +8,7 @@ returns : tie.Need-returns
 returns c = λ t g.
     let l = c .before in
     let p = l .before in
-    let a = p .before .before .args in
+    let a = p .before .before .before .before .args in
     past-set t (g .fits) (a .m) 0 (now (a .words)) (a .i) (p .past-start .result) (l .less .result)
     (p .past-start .ensures .0) (p .past-start .ensures .1) (l .less .ensures) _ (c .step-all .ensures t g)
 

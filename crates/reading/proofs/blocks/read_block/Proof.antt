@@ -13,7 +13,7 @@ use Rattle.reading.proofs.blocks.read_block.Tie as tie
 
 module _ (c : tie.After-first-group) where
   abbrev start : tie.Start
-  start = c .before .before .before .before .before
+  start = c .before .before .before .before .before .before .before
 
   abbrev table : Arrays
   table = arrays (start .args .states) (start .args .n) (now (start .args .word)) (now (start .args .next))
