@@ -103,8 +103,8 @@ fn read_few(
     );
 }
 
-// The same for any table.
-fn read_all(
+// The same for a table of any size.
+fn read_many(
     states: usize,
     n: usize,
     q: usize,
@@ -140,6 +140,34 @@ fn read_all(
         &mut high,
         out,
     );
+}
+
+// The same, with the arrays that the table asks for.
+fn read_all(
+    states: usize,
+    n: usize,
+    q: usize,
+    word: &[u8; 2048],
+    next: &[u8; 2048],
+    words: &[u8],
+    m: usize,
+    a: usize,
+    count: usize,
+    out: &mut [u8],
+)
+    requires { ⌜
+        Fits (borrowed states n word next) × (count + a ≤ length (now words)) × (count ≤ length (now out)) × (q ≤ 8)
+        × ((e : ℕ) → e < states * 16 → e % 16 < n → getD (now word) e 0 < 2 ^ q) ⌝ }
+    ensures written { λ r. ⌜
+        now (out .exit)
+        ≡ map (block (under (rowsOf (borrowed states n (word .entry) (next .entry))) m a)
+        (now (words .entry))) (range count) ++ drop count (now (out .entry)) ⌝ }
+{
+    if states <= 16 {
+        read_few(states, n, q, word, next, words, m, a, count, out);
+        return;
+    }
+    read_many(states, n, q, word, next, words, m, a, count, out);
 }
 
 // The blocks of the words under the table, in the output. Declines with 7 for a value of the struct that no record
