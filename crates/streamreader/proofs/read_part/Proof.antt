@@ -8,10 +8,10 @@ use Rattle.streamreader.proofs.Parts.{skip-in, part-holds, part-reach, 
 use Rattle.streamreader.proofs.read_part.Statement.{statement}
 use Rattle.streamreader.proofs.read_part.Tie as tie
 
-skip : (c : tie.After-less) → let a = c .before .before .before .args in
+skip : (c : tie.After-less) → let a = c .before .before .before .before .before .args in
     c .less .result / 8 * a .q ≤ length (now (a .stream))
 skip c =
-    let s = c .before .before .before in
+    let s = c .before .before .before .before .before in
     let a = s .args in
     skip-in (a .q) (a .count) (c .less .result) (length (now (a .stream))) (omega (arith, c .less .ensures))
     (s .pre .3)
@@ -24,7 +24,7 @@ part-get-words-start c = skip c
 
 -- the part's words are words of the stream
 words-in : (c : tie.After-smaller) → let f = c .before .before in
-    f .less .result + c .smaller .result ≤ f .before .before .before .args .count
+    f .less .result + c .smaller .result ≤ f .before .before .before .before .before .args .count
 words-in c =
     let f = c .before .before in
     omega (
@@ -32,14 +32,14 @@ words-in c =
       f .less .ensures,
       c .smaller .ensures,
       min-le-left
-          (f .before .before .before .args .count - f .less .result) 1055,
+          (f .before .before .before .before .before .args .count - f .less .result) 1055,
     )
 
 get-words-requires : tie.Need-get-words-requires
 get-words-requires c κs =
     let k = c .before in
     let f = k .before .before in
-    let s = f .before .before .before in
+    let s = f .before .before .before .before .before in
     let a = s .args in
     let xs = now (a .stream) in
     let base = f .less .result in
@@ -60,7 +60,7 @@ get-words-requires c κs =
 read-blocks-requires : tie.Need-read-blocks-requires
 read-blocks-requires c κs =
     let f = c .before .before .before .before .before .before .before in
-    let s = f .before .before .before in
+    let s = f .before .before .before .before .before in
     let a = s .args in
     let b : f .less .result ≡ a .i - 16 = f .less .ensures in (
       s .pre .0,
@@ -74,7 +74,7 @@ returns c =
     let g = r .before .before .before .before in
     let k = g .before .before in
     let f = k .before .before in
-    let s = f .before .before .before in
+    let s = f .before .before .before .before .before in
     let a = s .args in
     let xs = now (a .stream) in
     let base = f .less .result in

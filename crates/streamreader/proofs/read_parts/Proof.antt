@@ -27,7 +27,7 @@ blockAt s =
 
 loop-holds : tie.Need-loop-holds Inv-loop μ-loop
 loop-holds c =
-    let s = c .before .before in
+    let s = c .before .before .before .before in
     let o = now (s .args .out) in (
       omega arith,
       refl,
@@ -38,7 +38,7 @@ read-part-requires : tie.Need-read-part-requires Inv-loop μ-loop
 read-part-requires c κs =
     let m = c .before in
     let l = m .before .before .loop in
-    let s = c .before .before .before .before .before .before in
+    let s = c .before .before .before .before .before .before .before .before in
     let (b, f, e) = part-end (l .i) (s .args .count - s .args .a) (m .smaller .result) (m .before .loop-test .taken)
     (m .smaller .ensures) in (
       s .pre .0,
@@ -59,7 +59,7 @@ loop-again c =
     let r = c .before .before in
     let m = r .before .before in
     let l = m .before .before .loop in
-    let s = m .before .before .before .before .before in
+    let s = m .before .before .before .before .before .before .before in
     let n = s .args .count - s .args .a in
     let o = now (s .args .out) in
     let (b, f, e) = part-end (l .i) n (m .smaller .result) (m .before .loop-test .taken) (m .smaller .ensures) in
@@ -76,7 +76,7 @@ same-length c = c .before .loop .inv .1
 
 returns : tie.Need-returns Inv-loop μ-loop
 returns c =
-    let s = c .before .before .before .before in
+    let s = c .before .before .before .before .before .before in
     let l = c .before .loop in
     let e : min (l .i) (s .args .count - s .args .a) ≡ s .args .count - s .args .a = min-eq-right (omega arith) in
     l .inv .2 ∙ ap (λ k. map (blockAt s) (range k) ++ drop k (now (s .args .out))) e
