@@ -38,5 +38,6 @@ returns-2 c =
 pub list-into-spec : {M : Type 1} → statement M
 list-into-spec =
     tie.close
-    (tie.spec (λ c κs. c .before .pre) compile-requires (λ c. search needs) (λ c. search needs) list-requires returns (λ c. search needs)
-    returns-2)
+    (tie.spec
+    (λ c κs. c .before .pre) compile-requires (λ c. search needs) (λ c. search needs) list-requires returns
+    (λ c. search needs) returns-2)

@@ -35,7 +35,8 @@ sub-j c = omega (arith, c .loop-test .taken)
 shared-slice-read-back-by : tie.Need-shared-slice-read-back-by Inv-loop μ-loop
 shared-slice-read-back-by c =
     let i = c .before in
-    omega (arith, i .loop-test .taken, i .before .loop .inv .0, i .before .before .before .before .before .before .pre .2)
+    let s = i .before .before .before .before .before .before in
+    omega (arith, i .loop-test .taken, i .before .loop .inv .0, s .pre .2)
 
 back-by-requires : tie.Need-back-by-requires Inv-loop μ-loop
 back-by-requires c κs = c .before .before .before .before .before .before .before .pre .0

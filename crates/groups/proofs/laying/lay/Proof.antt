@@ -1,5 +1,6 @@
 -- Each turn writes the groups of one word behind those of the words before it.
-use Rattle.laws.proofs.All.{_≡_, refl, _∙_, ℕ, _+_, _-_, _^_, _≤_, _<_, arith, now, length, length-replicate, pow-mono, needs}
+use Rattle.laws.proofs.All.{_≡_, refl, _∙_, ℕ, _+_, _-_, _^_, _≤_, _<_, arith, now, length, length-replicate}
+use Rattle.laws.proofs.All.{pow-mono, needs}
 use Rattle.table.specs.Edges.{Arrays, arrays, places, Linked}
 use Rattle.bitsets.specs.BitSets.{membersOf}
 use Rattle.groups.specs.Counts.{count}

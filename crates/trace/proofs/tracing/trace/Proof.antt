@@ -29,5 +29,5 @@ trace-spec =
     (λ c. search needs) (λ c κs. search needs) (λ c. search needs) (λ c κs. ready (c .before) .allowed .p₂)
     (λ c κs. (ready (c .before .before), c .ways .ensures .0))
     (λ c κs. ready (c .before .before .before .before .before))
-    (λ c κs. (ready (c .before .before .before .before .before .before), c .begin .ensures)) (λ c κs. search needs) (λ c. search needs) returns
-    (λ c. search needs) returns-2)
+    (λ c κs. (ready (c .before .before .before .before .before .before), c .begin .ensures)) (λ c κs. search needs)
+    (λ c. search needs) returns (λ c. search needs) returns-2)
