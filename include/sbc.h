@@ -3,7 +3,7 @@
  * Needs C99 or later, or C++. Bytes go as a pointer to the first and their number, a uint64_t on every machine. Where
  * the number is 0 the pointer may be NULL: no byte is read or written there. The bytes of `out` lie apart from those
  * that the call reads: no byte is in both. Nothing is kept after a call and nothing is allocated, so calls may run at
- * the same time on different outputs. A call takes less than 200 KB of stack (measured on x86-64 by `bench/run stack`;
+ * the same time on different outputs. A call takes less than 128 KB of stack (measured on x86-64 by `bench/run stack`;
  * compiling takes most).
  *
  * Every call but sbc_version answers one number, the refusal times 2^56 plus a value; take it apart by `sbc_refusal`
