@@ -1,4 +1,4 @@
-// Links the static library that `rt staticlib api` writes, and the plain loops in C.
+// Links the static library that `rt staticlib sbc` writes, and the plain loops in C.
 use std::process::Command;
 
 fn main() {
@@ -16,6 +16,6 @@ fn main() {
     println!("cargo:rustc-link-search=native={out}");
     println!("cargo:rustc-link-lib=static=plain");
     println!("cargo:rustc-link-search=native={root}/../target/staticlib");
-    println!("cargo:rustc-link-lib=static=api");
-    println!("cargo:rerun-if-changed={root}/../target/staticlib/libapi.a");
+    println!("cargo:rustc-link-lib=static=sbc");
+    println!("cargo:rerun-if-changed={root}/../target/staticlib/libsbc.a");
 }

@@ -2,7 +2,7 @@
  *   record: 24 04 00 40 23 00 41 01 01 c0 40 40
  *   words: 02 03 02 02
  *   blocks: 01 00 01 01
- * Build: gcc -std=c99 -O2 bench/example.c target/staticlib/libapi.a -o target/example
+ * Build: gcc -std=c99 -O2 bench/example.c target/staticlib/libsbc.a -o target/example
  */
 #include "../include/sbc.h"
 #include <stdio.h>

@@ -1,6 +1,6 @@
 /* Every call with NULL where it is lent no byte, and with no room: what each answers. It ends with status 0 and prints
  * nothing if all is as written here.
- * Build: gcc -std=c99 -O2 bench/nulls.c target/staticlib/libapi.a -o target/nulls
+ * Build: gcc -std=c99 -O2 bench/nulls.c target/staticlib/libsbc.a -o target/nulls
  */
 #include "../include/sbc.h"
 #include <stdio.h>

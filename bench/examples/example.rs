@@ -2,7 +2,7 @@
 //!   record: [36, 4, 0, 64, 35, 0, 65, 1, 1, 192, 64, 64]
 //!   words: [2, 3, 2, 2]
 //!   blocks: [1, 0, 1, 1]
-//! Build: rustc -O bench/examples/example.rs -L native=target/staticlib -l static=api -o target/example
+//! Build: rustc -O bench/examples/example.rs -L native=target/staticlib -l static=sbc -o target/example
 extern "C" {
     fn sbc_compile_run_length(job: *const u8, jl: u64, out: *mut u8, ol: u64) -> u64;
     fn sbc_encode(r: *const u8, rl: u64, blocks: *const u8, bl: u64, out: *mut u8, ol: u64) -> u64;

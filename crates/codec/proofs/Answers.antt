@@ -10,13 +10,13 @@ use Rattle.answer.proofs.FirstBad.{allBelow-true, allBelow→}
 use Rattle.answer.proofs.Outcomes.{unless→}
 use Rattle.table.specs.Rows.{Code}
 use Rattle.table.specs.Paths.{Blocks, recording, closing}
-use Rattle.windows.specs.Window.{Window}
+use Rattle.window.specs.Window.{Window}
 use Rattle.table.specs.Formed.{Formed}
-use Rattle.checker.specs.Accepted.{Sound}
+use Rattle.record_check.specs.Accepted.{Sound}
 use Rattle.table.proofs.Paths.{closed-blocks, length-recording, blocks→path, path-words}
 use Rattle.table.proofs.Shape.{words}
-use Rattle.checker.proofs.Acceptance.{sound}
-use Rattle.stepping.specs.Reading.{decode}
+use Rattle.record_check.proofs.Acceptance.{sound}
+use Rattle.codec_steps.specs.Reading.{decode}
 use Rattle.codec.specs.Answers.{encoded, decoded}
 use Rattle.codec.specs.Damage.{Recording}
 use Rattle.codec.proofs.RoundTrip.{decode-recording}

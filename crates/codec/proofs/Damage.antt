@@ -6,11 +6,11 @@ use Rattle.laws.proofs.All.{length, getD, List·getD-append, map-range-at, Belo
 use Rattle.table.specs.Rows.{Code}
 use Rattle.table.specs.Paths.{recording, closing}
 use Rattle.table.proofs.Paths.{length-spells, closed-blocks, length-recording, blocks→path}
-use Rattle.stepping.specs.Reading.{decode, block}
+use Rattle.codec_steps.specs.Reading.{decode, block}
 use Rattle.codec.specs.Damage.{StandsClear}
 use Rattle.codec.proofs.Local.{block-local, block-local-start}
 use Rattle.codec.proofs.OneDatum.{one-path}
-use Rattle.checker.specs.Accepted.{Sound}
+use Rattle.record_check.specs.Accepted.{Sound}
 
 module _ (c : Code) (good : Sound c) (data′ L : List ℕ) (fit : Below (2 ^ c .p) data′) where
   -- a block of the recording itself

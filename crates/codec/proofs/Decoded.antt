@@ -6,8 +6,8 @@ use Rattle.table.specs.declared.Table.{Table}
 use Rattle.table.specs.Rows.{Code}
 use Rattle.table.specs.Value.{codeIn}
 use Rattle.table.specs.Edges.{arrays, rowsOf}
-use Rattle.stepping.specs.Reading.{block, decode}
-use Rattle.stepping.specs.BlockParts.{under}
+use Rattle.codec_steps.specs.Reading.{block, decode}
+use Rattle.codec_steps.specs.BlockParts.{under}
 
 -- "From W words come W − a blocks"
 pub length-decode : (c : Code) (ws : List ℕ) → length ws - c .window .lookahead ≡ length (decode c ws)

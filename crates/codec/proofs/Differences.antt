@@ -6,8 +6,8 @@ use Rattle.laws.proofs.All.{length, getD, filter-interval, Below}
 use Rattle.answer.specs.Outcomes.{done}
 use Rattle.table.specs.Rows.{Code}
 use Rattle.table.specs.Paths.{Blocks, recording}
-use Rattle.checker.specs.Parse.{parse}
-use Rattle.stepping.specs.Reading.{markAhead}
+use Rattle.record_check.specs.Parse.{parse}
+use Rattle.codec_steps.specs.Reading.{markAhead}
 use Rattle.codec.specs.Answers.{decodeUnder}
 use Rattle.codec.specs.Damage.{SameOutside, differ, differences}
 use Rattle.codec.proofs.Reach.{words-reach}

@@ -12,12 +12,12 @@ use Rattle.table.specs.Rows.{Code}
 use Rattle.table.specs.Paths.{Blocks, recording}
 use Rattle.table.specs.Value.{codeIn, ready}
 use Rattle.table.proofs.Paths.{length-recording}
-use Rattle.windows.specs.Works.{works}
-use Rattle.obeying.specs.Obeys.{obeys}
+use Rattle.window.specs.Works.{works}
+use Rattle.record_obeys.specs.Obeys.{obeys}
 use Rattle.record.specs.Checks.{fieldsChecked}
-use Rattle.checker.specs.Parse.{judged, parse, checkedOnly}
-use Rattle.checker.proofs.Parse.{parse-formed}
-use Rattle.stepping.specs.Reading.{block, decode}
+use Rattle.record_check.specs.Parse.{judged, parse, checkedOnly}
+use Rattle.record_check.proofs.Parse.{parse-formed}
+use Rattle.codec_steps.specs.Reading.{block, decode}
 use Rattle.codec.specs.Answers.{encoded, decoded, encodeUnder, decodeUnder, encodeChecked, decodeChecked}
 use Rattle.codec.specs.With.{encodedWith, decodedWith}
 use Rattle.codec.proofs.Answers.{→encoded, →decoded, decoded→}

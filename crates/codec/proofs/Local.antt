@@ -5,8 +5,8 @@
 use Rattle.laws.proofs.All.{_≡_, sym, ap, _∙_, _⊎_, inl, inr, Bool, List, ℕ, suc, _+_, _-_, _≤_, _<_, arith, decLe}
 use Rattle.laws.proofs.All.{getD, take, drop, lt-ltb, le-ltb, take-take, getD-take, getD-drop, drop-take, drop-drop}
 use Rattle.table.specs.Rows.{Rows, Code}
-use Rattle.stepping.specs.StateSets.{everyState, oneState, alongAll}
-use Rattle.stepping.specs.Reading.{reading, past, block}
+use Rattle.codec_steps.specs.StateSets.{everyState, oneState, alongAll}
+use Rattle.codec_steps.specs.Reading.{reading, past, block}
 
 -- the datum of the word w behind the words `pre` from the states of S, and before the words ws
 abbrev readBehind : Rows → List Bool → List ℕ → ℕ → List ℕ → ℕ

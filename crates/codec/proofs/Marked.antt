@@ -11,12 +11,12 @@ use Rattle.answer.specs.Outcomes.{done}
 use Rattle.table.specs.Rows.{Rows, Code}
 use Rattle.table.specs.Paths.{Blocks, recording}
 use Rattle.table.proofs.RowsOf.{ways-small}
-use Rattle.checker.specs.Accepted.{Sound}
-use Rattle.checker.specs.Parse.{parse}
-use Rattle.checker.proofs.Acceptance.{sound}
-use Rattle.stepping.specs.StateSets.{everyState, oneState, alongAll, able}
-use Rattle.stepping.specs.Reading.{readings, someEdge, markBefore, markAhead, markFor, past, block, decode}
-use Rattle.stepping.proofs.Readings.{readings→, some→, →some}
+use Rattle.record_check.specs.Accepted.{Sound}
+use Rattle.record_check.specs.Parse.{parse}
+use Rattle.record_check.proofs.Acceptance.{sound}
+use Rattle.codec_steps.specs.StateSets.{everyState, oneState, alongAll, able}
+use Rattle.codec_steps.specs.Reading.{readings, someEdge, markBefore, markAhead, markFor, past, block, decode}
+use Rattle.codec_steps.proofs.Readings.{readings→, some→, →some}
 use Rattle.codec.specs.Answers.{decodeUnder}
 use Rattle.codec.specs.Damage.{StandsClear}
 use Rattle.codec.specs.Found.{found}

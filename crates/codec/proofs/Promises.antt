@@ -6,13 +6,13 @@ use Rattle.answer.specs.Outcomes.{done}
 use Rattle.answer.proofs.Outcomes.{onward→}
 use Rattle.table.specs.Rows.{Code}
 use Rattle.table.specs.Paths.{Blocks, recording}
-use Rattle.windows.specs.Window.{Window}
+use Rattle.window.specs.Window.{Window}
 use Rattle.table.specs.Formed.{Formed}
 use Rattle.table.proofs.Formed.{formed→}
-use Rattle.checker.proofs.Acceptance.{sound}
-use Rattle.checker.specs.Parse.{parse}
-use Rattle.checker.proofs.Accepted.{parse-exact}
-use Rattle.stepping.specs.Reading.{markAhead, decode}
+use Rattle.record_check.proofs.Acceptance.{sound}
+use Rattle.record_check.specs.Parse.{parse}
+use Rattle.record_check.proofs.Accepted.{parse-exact}
+use Rattle.codec_steps.specs.Reading.{markAhead, decode}
 use Rattle.codec.specs.Answers.{encoded, encodeUnder, decodeUnder}
 use Rattle.codec.specs.Damage.{StandsClear, Recording}
 use Rattle.codec.proofs.Damage.{recovered}

@@ -9,10 +9,10 @@ use Rattle.laws.proofs.All.{drop, length-drop, drop-cons, drop-at, length-take-
 use Rattle.laws.proofs.All.{and→, →and, →any, any→, any-below→, →any-below, →orL, tab→, →tab, member}
 use Rattle.table.specs.Rows.{edge, Rows, edges, at}
 use Rattle.table.specs.Paths.{Path, ends, spells, Closed}
-use Rattle.stepping.specs.StateSets.{leads, along, alongAll, oneState, able, enters}
-use Rattle.stepping.specs.Reading.{readings, reading, markFor}
-use Rattle.stepping.proofs.Readings.{readings→, →readings}
-use Rattle.windows.proofs.Same.{Same, AgreeSame}
+use Rattle.codec_steps.specs.StateSets.{leads, along, alongAll, oneState, able, enters}
+use Rattle.codec_steps.specs.Reading.{readings, reading, markFor}
+use Rattle.codec_steps.proofs.Readings.{readings→, →readings}
+use Rattle.window.proofs.Same.{Same, AgreeSame}
 
 -- ---- a path by its data and its words
 pub data Reads (g : Rows) : ℕ → List ℕ → List ℕ → Type 0 where

@@ -5,9 +5,9 @@ use Rattle.laws.proofs.All.{_≡_, refl, sym, ap, _∙_, inl, inr, _↔_, List,
 use Rattle.laws.proofs.All.{length, ext-getD}
 use Rattle.table.specs.Rows.{Code}
 use Rattle.table.specs.Paths.{Blocks, recording}
-use Rattle.checker.specs.Accepted.{Sound}
+use Rattle.record_check.specs.Accepted.{Sound}
 use Rattle.table.proofs.Paths.{length-recording}
-use Rattle.stepping.specs.Reading.{decode}
+use Rattle.codec_steps.specs.Reading.{decode}
 use Rattle.codec.specs.Damage.{StandsClear, Recording}
 use Rattle.codec.proofs.Damage.{recovered}
 use Rattle.codec.proofs.Decoded.{length-decode}

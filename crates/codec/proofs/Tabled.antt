@@ -9,7 +9,7 @@ use Rattle.answer.proofs.FirstBad.{bad-found, none-bad}
 use Rattle.table.specs.declared.Table.{Table}
 use Rattle.table.specs.Paths.{recording}
 use Rattle.table.specs.Value.{codeIn, ready}
-use Rattle.stepping.specs.Reading.{decode}
+use Rattle.codec_steps.specs.Reading.{decode}
 use Rattle.codec.specs.Answers.{encoded, decoded}
 use Rattle.codec.specs.With.{encodedWith, decodedWith}
 

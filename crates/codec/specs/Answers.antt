@@ -13,8 +13,8 @@ use Rattle.answer.specs.FirstBad.{allBelow}
 use Rattle.table.specs.Rows.{Code}
 use Rattle.table.specs.Paths.{recording}
 use Rattle.record.specs.Checks.{fieldsChecked}
-use Rattle.checker.specs.Parse.{parse}
-use Rattle.stepping.specs.Reading.{decode}
+use Rattle.record_check.specs.Parse.{parse}
+use Rattle.codec_steps.specs.Reading.{decode}
 
 -- the recording of blocks: "13, 11"
 unfoldable pub encoded : Code → ℕ → List ℕ → Outcome (List ℕ)

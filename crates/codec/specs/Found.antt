@@ -6,8 +6,8 @@ use mathlib.Core.List.{List}
 use Prim.Native.Nat.{ℕ, _+_}
 use lib.ListN.{getD, take, drop}
 use Rattle.table.specs.Rows.{Code}
-use Rattle.stepping.specs.StateSets.{able}
-use Rattle.stepping.specs.Reading.{readings, past}
+use Rattle.codec_steps.specs.StateSets.{able}
+use Rattle.codec_steps.specs.Reading.{readings, past}
 
 -- the data of all edges from the past set of block i with word i, whose target can read the next a words
 abbrev pub found : Code → List ℕ → ℕ → List ℕ

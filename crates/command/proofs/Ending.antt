@@ -5,7 +5,7 @@ use Rattle.laws.proofs.All.{_≡_, refl, List, ℕ, arith}
 use Rattle.answer.specs.declared.Refusal.{Refusal}
 use Rattle.answer.specs.declared.Answer.the-variants.{Done, Refused}
 use Rattle.answer.specs.Outcomes.{Outcome, done, refused, answerOf}
-use Rattle.arguments.specs.declared.Status.the-variants.{Failed, Done as Ended}
+use Rattle.command_arguments.specs.declared.Status.the-variants.{Failed, Done as Ended}
 use Rattle.command.specs.Ending.{endOf}
 
 pub end-refused : (o : Outcome (List ℕ)) (r : Refusal) → answerOf o ≡ Refused r → Failed ≡ endOf o

@@ -5,10 +5,10 @@ use mathlib.Core.Bool.{Bool, true, false}
 use mathlib.Core.List.{List}
 use Prim.Native.Nat.{ℕ}
 use Rattle.answer.specs.Outcomes.{Outcome, done, refused}
-use Rattle.arguments.specs.declared.Way.{Way}
-use Rattle.arguments.specs.declared.Way.the-variants.{Encode, Decode}
-use Rattle.arguments.specs.declared.Status.{Status}
-use Rattle.arguments.specs.declared.Status.the-variants.{Done, Failed}
+use Rattle.command_arguments.specs.declared.Way.{Way}
+use Rattle.command_arguments.specs.declared.Way.the-variants.{Encode, Decode}
+use Rattle.command_arguments.specs.declared.Status.{Status}
+use Rattle.command_arguments.specs.declared.Status.the-variants.{Done, Failed}
 
 -- the end of a trace: a job that is refused is a failure
 abbrev pub endOf : Outcome (List ℕ) → Status

@@ -1,21 +1,21 @@
 // The actions that compile.
 ghost use mathlib.Core.Path.{_≡_};
 ghost use lib.ListN.{length};
-ghost use Rattle.compiler.specs.Compile.{compileRunLength};
+ghost use Rattle.compile.specs.Compile.{compileRunLength};
 ghost use Rattle.command.specs.Ending.{endOf};
 use answer::Answer;
-use arguments::Action;
-use arguments::Status;
-use arguments::read_place;
-use arguments::written_place;
-use compiler::bytes::compile_job;
-use compiler::bytes::compile_joined;
-use compiler::bytes::compile_run_length;
-use inputs::load;
-use inputs::numbers_said;
-use inputs::page;
-use messages::system::print;
-use outputs::finish;
+use command_arguments::Action;
+use command_arguments::Status;
+use command_arguments::read_place;
+use command_arguments::written_place;
+use command_inputs::load;
+use command_inputs::numbers_said;
+use command_inputs::page;
+use command_messages::system::print;
+use command_outputs::finish;
+use compile::bytes::compile_job;
+use compile::bytes::compile_joined;
+use compile::bytes::compile_run_length;
 use trace::tracing::trace_run_length;
 
 // The record of a run-length job.

@@ -6,19 +6,19 @@ ghost use Rattle.command.specs.Ending.{decoding, wayBy};
 mod compiling;
 mod records;
 
-use arguments::Action;
-use arguments::OnRecordings;
-use arguments::OnStream;
-use arguments::Status;
-use arguments::Way;
-use arguments::is_fitting;
-use arguments::naming::action_of;
-use arguments::shape_of;
-use arguments::status_number;
-use messages::usage::misused;
-use messages::usage::misused_word;
-use messages::usage::print_use;
-use messages::usage::print_version;
+use command_arguments::Action;
+use command_arguments::OnRecordings;
+use command_arguments::OnStream;
+use command_arguments::Status;
+use command_arguments::Way;
+use command_arguments::is_fitting;
+use command_arguments::naming::action_of;
+use command_arguments::shape_of;
+use command_arguments::status_number;
+use command_messages::usage::misused;
+use command_messages::usage::misused_word;
+use command_messages::usage::print_use;
+use command_messages::usage::print_version;
 
 // help [ACTION]
 fn help() -> Status {
@@ -58,7 +58,7 @@ fn way_by(back: bool) -> Way
 pub extern "C" fn sbc_action_code(back: bool) -> u32
     ensures past { λ r. ⌜ r ≤ 2 ⌝ }
 {
-    status_number(coding::code_files(way_by(back)))
+    status_number(command_code::code_files(way_by(back)))
 }
 
 // set. It is exported so that it has a stack frame of its own.
@@ -74,7 +74,7 @@ pub extern "C" fn sbc_action_set() -> u32
 pub extern "C" fn sbc_action_pack() -> u32
     ensures past { λ r. ⌜ r ≤ 2 ⌝ }
 {
-    status_number(streamfiles::pack_file())
+    status_number(command_stream::pack_file())
 }
 
 // unpack. It is exported so that it has a stack frame of its own.
@@ -82,7 +82,7 @@ pub extern "C" fn sbc_action_pack() -> u32
 pub extern "C" fn sbc_action_unpack() -> u32
     ensures past { λ r. ⌜ r ≤ 2 ⌝ }
 {
-    status_number(streamfiles::unpack_file())
+    status_number(command_stream::unpack_file())
 }
 
 // encode-stream. It is exported so that it has a stack frame of its own.
@@ -90,7 +90,7 @@ pub extern "C" fn sbc_action_unpack() -> u32
 pub extern "C" fn sbc_action_encode_stream() -> u32
     ensures past { λ r. ⌜ r ≤ 2 ⌝ }
 {
-    status_number(streamfiles::encode_file())
+    status_number(command_stream::encode_file())
 }
 
 // decode-stream. It is exported so that it has a stack frame of its own.
@@ -98,7 +98,7 @@ pub extern "C" fn sbc_action_encode_stream() -> u32
 pub extern "C" fn sbc_action_decode_stream() -> u32
     ensures past { λ r. ⌜ r ≤ 2 ⌝ }
 {
-    status_number(streamfiles::decode_file())
+    status_number(command_stream::decode_file())
 }
 
 // weave. It is exported so that it has a stack frame of its own.
@@ -106,7 +106,7 @@ pub extern "C" fn sbc_action_decode_stream() -> u32
 pub extern "C" fn sbc_action_weave() -> u32
     ensures past { λ r. ⌜ r ≤ 2 ⌝ }
 {
-    status_number(weavefiles::rearrange_file(OnRecordings::Weave))
+    status_number(command_weave::rearrange_file(OnRecordings::Weave))
 }
 
 // unweave. It is exported so that it has a stack frame of its own.
@@ -114,7 +114,7 @@ pub extern "C" fn sbc_action_weave() -> u32
 pub extern "C" fn sbc_action_unweave() -> u32
     ensures past { λ r. ⌜ r ≤ 2 ⌝ }
 {
-    status_number(weavefiles::rearrange_file(OnRecordings::Unweave))
+    status_number(command_weave::rearrange_file(OnRecordings::Unweave))
 }
 
 // Does an action on bit streams; the answer is the exit status.
@@ -126,7 +126,7 @@ fn act_on_stream(s: OnStream) -> u32
         OnStream::Unpack => sbc_action_unpack(),
         OnStream::Encode => sbc_action_encode_stream(),
         OnStream::Decode => sbc_action_decode_stream(),
-        OnStream::Reach => status_number(streamfiles::reaching::reach_bits()),
+        OnStream::Reach => status_number(command_stream::reaching::reach_bits()),
     }
 }
 

@@ -2,29 +2,29 @@
 ghost use mathlib.Core.Path.{_≡_};
 ghost use lib.ListN.{length};
 ghost use Rattle.answer.specs.Outcomes.{answerOf, outputOf};
-ghost use Rattle.closing.specs.Closing.{closedWith};
-ghost use Rattle.outputs.specs.Results.{Fails};
+ghost use Rattle.record_tail.specs.Closing.{closedWith};
+ghost use Rattle.command_outputs.specs.Results.{Fails};
 use answer::Verdict;
-use arguments::Action;
-use arguments::Status;
-use arguments::View;
-use arguments::read_place;
-use arguments::under_place;
-use arguments::written_place;
-use closing::with_tail;
-use inputs::load;
-use inputs::load_whole;
-use inputs::number_at;
-use inputs::page;
-use messages::refuse;
-use messages::refuse_set;
-use messages::system::print;
-use outputs::finish;
-use setlines::put_set;
-use sets::SetAnswer;
-use sets::check_set;
+use command_arguments::Action;
+use command_arguments::Status;
+use command_arguments::View;
+use command_arguments::read_place;
+use command_arguments::under_place;
+use command_arguments::written_place;
+use command_inputs::load;
+use command_inputs::load_whole;
+use command_inputs::number_at;
+use command_inputs::page;
+use command_messages::refuse;
+use command_messages::refuse_set;
+use command_messages::system::print;
+use command_outputs::finish;
+use command_view::put_view;
+use record_tail::with_tail;
+use set_check::SetAnswer;
+use set_check::check_set;
+use set_lines::put_set;
 use table::Table;
-use viewing::put_view;
 
 // Prints a view of a table.
 fn print_view(v: View, t: Table) -> Status {
@@ -41,7 +41,7 @@ pub fn view_file(v: View) -> Status {
         return Status::Failed;
     }
     let n = l.size;
-    let r = checker::load(&bytes[..n]);
+    let r = record_check::load(&bytes[..n]);
     let verdict = r.verdict;
     let t = r.table;
     match verdict {

@@ -7,8 +7,8 @@ use Prim.Native.Nat.{ℕ, _-_}
 use lib.ListN.{length}
 use Rattle.answer.specs.Outcomes.{Outcome, onward, fitting}
 use Rattle.table.specs.Rows.{Code}
-use Rattle.checker.specs.Parse.{parse}
-use Rattle.refusals.specs.Phrases.{wordsOf}
+use Rattle.record_check.specs.Parse.{parse}
+use Rattle.view_refusals.specs.Phrases.{wordsOf}
 
 -- p, q, states less one, m, a, K, constraint start and tail datum
 abbrev pub numbersOf : Code → List ℕ

@@ -7,10 +7,10 @@ ghost use Rattle.table.specs.Value.{codeIn, ready};
 ghost use Rattle.info.specs.Info.{numbersOf, infoUnder, phraseInto};
 use answer::Answer;
 use answer::Verdict;
-use checker::load;
-use refusals::put_words;
+use record_check::load;
 use table::Table;
-use views::filling::fill;
+use view_listing::filling::fill;
+use view_refusals::put_words;
 
 // The numbers of a table in the output, one byte each.
 fn tell_numbers(t: Table, out: &mut [u8]) -> Answer

@@ -11,11 +11,11 @@ use Rattle.answer.specs.Answers.{answerValue}
 use Rattle.answer.specs.Outcomes.{Outcome, done, refused, onward, fitting, answerOf, outputOf}
 use Rattle.answer.proofs.Outcomes.{fitting-true}
 use Rattle.table.specs.Rows.{Code}
-use Rattle.job.specs.Jobs.{readRunLength}
-use Rattle.compiler.specs.Compile.{compile}
-use Rattle.views.specs.Listing.{listing}
-use Rattle.listings.specs.Listings.{refusal, printed, listingOf, listInto}
-use Rattle.listings.proofs.Lengths.{refusal-short, compiled-short}
+use Rattle.compile_job.specs.Jobs.{readRunLength}
+use Rattle.compile.specs.Compile.{compile}
+use Rattle.view_listing.specs.Listing.{listing}
+use Rattle.view_job.specs.Listings.{refusal, printed, listingOf, listInto}
+use Rattle.view_job.proofs.Lengths.{refusal-short, compiled-short}
 
 -- ---- what is printed
 -- a result that fills the output stands in front of it

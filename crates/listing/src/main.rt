@@ -4,12 +4,12 @@ ghost use mathlib.Core.Path.{_≡_};
 ghost use Prim.Native.Nat.{_≤_};
 ghost use lib.ListN.{length, take};
 ghost use Rattle.io.specs.Counts.{Counts};
-ghost use Rattle.listings.specs.Listings.{listingOf};
+ghost use Rattle.view_job.specs.Listings.{listingOf};
 use answer::Answer;
 use libc::STDIN_FILENO;
 use libc::STDOUT_FILENO;
-use listings::list_run_length;
-use listings::tell_refusal;
+use view_job::list_run_length;
+use view_job::tell_refusal;
 
 // What is printed for a job's bytes, in front of the output, which is longer than every listing; the answer is its
 // length.

@@ -7,7 +7,7 @@ ghost use Prim.Native.Nat.{_<_};
 ghost use Rattle.io.specs.Counts.{Counts};
 use answer::Answer;
 use answer::answer_number;
-use compiler::bytes::compile_run_length;
+use compile::bytes::compile_run_length;
 use libc::STDOUT_FILENO;
 use sentences::put_sentence;
 use std::num::wrapping_add_usize;

@@ -10,23 +10,23 @@ use Rattle.answer.specs.declared.Refusal.the-variants.{NoCode, Field, ShortOutp
 use Rattle.answer.specs.Outcomes.{Outcome, done, refused, onward}
 use Rattle.constraint.specs.Walking.{Constraint, runLength}
 use Rattle.table.specs.Rows.{edge, Rows, Code, withTail}
-use Rattle.windows.specs.Works.{works}
-use Rattle.windows.specs.Search.{sizes, window}
-use Rattle.obeying.specs.Obeys.{obeys}
-use Rattle.checker.specs.Accepted.{accepted}
+use Rattle.window.specs.Works.{works}
+use Rattle.window.specs.Search.{sizes, window}
+use Rattle.record_obeys.specs.Obeys.{obeys}
+use Rattle.record_check.specs.Accepted.{accepted}
 use Rattle.record.specs.Layout.{pack}
 use Rattle.record.specs.Parse.{packInto}
 use Rattle.record.specs.Checks.{fieldsChecked}
-use Rattle.checker.specs.Parse.{parse}
+use Rattle.record_check.specs.Parse.{parse}
 use Rattle.codec.specs.Answers.{encoded, decoded, encodeUnder, decodeUnder}
-use Rattle.graph.specs.Arcs.{power}
-use Rattle.graph.specs.Weights.{weights}
-use Rattle.graph.specs.Component.{componentStates, componentGraph}
-use Rattle.graph.specs.Splitting.{split, splits, splitAll}
-use Rattle.finish.specs.TableOf.{tableStates, tableOf}
-use Rattle.labels.specs.Labels.{dataOf, relabelled}
-use Rattle.job.specs.Jobs.{readJob, readRunLength}
-use Rattle.compiler.specs.Compile.{weightsOf, componentOf, compile, compileRunLength}
+use Rattle.compile_graph.specs.Arcs.{power}
+use Rattle.compile_graph.specs.Weights.{weights}
+use Rattle.compile_graph.specs.Component.{componentStates, componentGraph}
+use Rattle.compile_graph.specs.Splitting.{split, splits, splitAll}
+use Rattle.compile_table.specs.TableOf.{tableStates, tableOf}
+use Rattle.compile_labels.specs.Labels.{dataOf, relabelled}
+use Rattle.compile_job.specs.Jobs.{readJob, readRunLength}
+use Rattle.compile.specs.Compile.{weightsOf, componentOf, compile, compileRunLength}
 use mathlib.Core.Bool.{true}
 
 -- the code to which the run-length job d, k, p, q, cap compiles

@@ -27,26 +27,26 @@ use Rattle.table.specs.Edges.{Arrays, rowsOf}
 use Rattle.bitsets.specs.declared.BitSet.{BitSet}
 use Rattle.bitsets.specs.BitSets.{holds, membersOf, yesNo}
 use Rattle.bitsets.specs.StateSets.{Words, joined as joinedSets}
-use Rattle.groups.specs.Groups.{Grouped, between, stepsTo, leadsInto}
+use Rattle.codec_groups.specs.Groups.{Grouped, between, stepsTo, leadsInto}
 use Rattle.record.specs.Layout.{pack}
-use Rattle.checker.specs.Accepted.{Accepted}
-use Rattle.checker.specs.Parse.{parse}
-use Rattle.stepping.specs.StateSets.{along, back}
-use Rattle.stepping.specs.Reading.{markAhead, block}
+use Rattle.record_check.specs.Accepted.{Accepted}
+use Rattle.record_check.specs.Parse.{parse}
+use Rattle.codec_steps.specs.StateSets.{along, back}
+use Rattle.codec_steps.specs.Reading.{markAhead, block}
 use Rattle.codec.specs.Answers.{encodeUnder, decodeUnder}
 use Rattle.codec.specs.Follows.{Follows}
 use Rattle.codec.specs.Damage.{StandsClear, SameOutside, differences}
-use Rattle.finish.specs.TableOf.{tableOf}
-use Rattle.labels.specs.Labels.{relabelledRow, relabelled, Rearranged}
-use Rattle.job.specs.Jobs.{Job, Allowed, readJoined, Joins}
-use Rattle.compiler.specs.Compile.{ways, componentOf, finishedOf, compile, compileJoined}
-use Rattle.packing.specs.Streams.{limit, packed, unpacked, goodStream}
+use Rattle.compile_table.specs.TableOf.{tableOf}
+use Rattle.compile_labels.specs.Labels.{relabelledRow, relabelled, Rearranged}
+use Rattle.compile_job.specs.Jobs.{Job, Allowed, readJoined, Joins}
+use Rattle.compile.specs.Compile.{ways, componentOf, finishedOf, compile, compileJoined}
+use Rattle.stream_pack.specs.Streams.{limit, packed, unpacked, goodStream}
 use Rattle.weaving.specs.Weaving.{woven, unwoven, part, goodDepth}
-use Rattle.streams.specs.Recorded.{encodeStream, decodeStream}
-use Rattle.damage.specs.declared.BitNo.{BitNo}
-use Rattle.damage.specs.declared.BlockNo.{BlockNo}
-use Rattle.damage.specs.BitReach.{firstBlock, lastBlock}
-use Rattle.closing.specs.Closing.{closedWith}
+use Rattle.stream.specs.Recorded.{encodeStream, decodeStream}
+use Rattle.stream_damage.specs.declared.BitNo.{BitNo}
+use Rattle.stream_damage.specs.declared.BlockNo.{BlockNo}
+use Rattle.stream_damage.specs.BitReach.{firstBlock, lastBlock}
+use Rattle.record_tail.specs.Closing.{closedWith}
 
 -- ---- (a) Two constraints on one medium. What the main page says of a `Kind` of job holds of this kind too: its record
 -- passes the checker (`compiled-passes`), and 3 to 6 and 13 come exactly where they are due.
@@ -72,19 +72,19 @@ numbered = Rattle.joining.proofs.Numbered.numbered
 pub too-many-pairs : (xs : List ℕ) (room : ℕ) → (compileJoined xs room ≡ refused TooManyPairs)
     ↔ ((c : Constraint) × (d : Constraint) × Joins xs c d
     × ((zs : List ℕ) × Once zs × Each (λ z. Reachable c d (z / 16) (z % 16)) zs × (16 < length zs)))
-too-many-pairs = Rattle.compiler.proofs.Joined.too-many-pairs
+too-many-pairs = Rattle.compile.proofs.Joined.too-many-pairs
 
 -- The job that is read has the two constraints of its bytes, joined: what is said above holds of every call.
 pub joined-job : (xs : List ℕ) (j : Job) → readJoined xs ≡ done j → (c : Constraint) × (d : Constraint) × Joins xs c d
     × Lawful c × Lawful d × (length (pairs c d) ≤ 16) × (j .constraint ≡ joined c d)
-joined-job = Rattle.job.proofs.Joining.joined-job
+joined-job = Rattle.compile_job.proofs.Joining.joined-job
 
 -- Every recording under the record obeys both constraints, each from its state of the pair that is the record's start.
 pub both-obeyed : (xs : List ℕ) (room : ℕ) (r : List ℕ) → compileJoined xs room ≡ done r → (k : Code)
     → parse r ≡ done k → (c : Constraint) × (d : Constraint) × Joins xs c d
     × (let z = getD (pairs c d) (k .start) 0 in Reachable c d (z / 16) (z % 16) × ((ds : List ℕ) → Blocks k ds
     → let bs = channel (k .q) (recording k ds) in Finds c (z / 16) bs × Finds d (z % 16) bs))
-both-obeyed = Rattle.compiler.proofs.Joined.both-obeyed
+both-obeyed = Rattle.compile.proofs.Joined.both-obeyed
 
 -- ---- (b) Recordings as the head sees them: words of q bits as a bit stream. Bits and blocks have numbers of their own
 -- types, `BitNo` and `BlockNo`.
@@ -93,12 +93,12 @@ both-obeyed = Rattle.compiler.proofs.Joined.both-obeyed
 pub streams : (q : ℕ) → ((ws : List ℕ) → Below (2 ^ q) ws → length ws ≤ limit
     → (unpacked q (length ws) (packed q ws) ≡ ws) × T (goodStream q (length ws) (packed q ws)))
     × ((count : ℕ) (xs : List ℕ) → Below 256 xs → T (goodStream q count xs) → packed q (unpacked q count xs) ≡ xs)
-streams q = (Rattle.packing.proofs.Streams.unpacked-packed q, Rattle.packing.proofs.Streams.packed-unpacked q)
+streams q = (Rattle.stream_pack.proofs.Streams.unpacked-packed q, Rattle.stream_pack.proofs.Streams.packed-unpacked q)
 
 -- The check of 15 passes exactly the streams that packing makes of as many words, within the limit.
 pub good-streams : (q count : ℕ) (xs : List ℕ) → Below 256 xs → T (goodStream q count xs)
     ↔ ((count ≤ limit) × ((ws : List ℕ) × Below (2 ^ q) ws × (length ws ≡ count) × (packed q ws ≡ xs)))
-good-streams = Rattle.packing.proofs.Streams.good-streams
+good-streams = Rattle.stream_pack.proofs.Streams.good-streams
 
 -- A stream is recorded as the recording's words, packed, and read as its words are: all that Main says of words holds.
 pub stream-words : (rec : List ℕ) (c : Code) → parse rec ≡ done c → ((room : ℕ) (ds xs : List ℕ)
@@ -107,13 +107,13 @@ pub stream-words : (rec : List ℕ) (c : Code) → parse rec ≡ done c → ((ro
     × ((count room : ℕ) (xs : List ℕ) → T (goodStream (c .q) count xs)
     → decodeStream rec count room xs ≡ decodeUnder rec room (unpacked (c .q) count xs))
 stream-words rec c e =
-    (Rattle.streams.proofs.Written.stream-encodes rec c e, Rattle.streams.proofs.Decoded.stream-decodes rec c e)
+    (Rattle.stream.proofs.Written.stream-encodes rec c e, Rattle.stream.proofs.Decoded.stream-decodes rec c e)
 
 -- Decoding a recorded stream returns its data.
 pub stream-returns : (rec : List ℕ) → Below 256 rec → (c : Code) → parse rec ≡ done c → (room room′ : ℕ)
     → (ds xs : List ℕ) → length ds ≤ room′ → encodeStream rec room ds ≡ done xs
     → decodeStream rec (length ds + c .window .lookahead) room′ xs ≡ done ds
-stream-returns = Rattle.streams.proofs.Returns.stream-returns
+stream-returns = Rattle.stream.proofs.Returns.stream-returns
 
 -- Overwriting channel bits f to l: only blocks f / q − a to l / q + m can differ from the data written.
 pub bits-reach : (rec : List ℕ) → Below 256 rec → (c : Code) → parse rec ≡ done c → (ds xs : List ℕ) → Blocks c ds
@@ -122,7 +122,7 @@ pub bits-reach : (rec : List ℕ) → Below 256 rec → (c : Code) → parse rec
     → (room : ℕ) → length ds ≤ room → (out : List ℕ) × (decodeStream rec count room xs ≡ done out)
     × ((j : BlockNo) → j .0 < length ds → (j .0 < firstBlock (c .q) (c .window .lookahead) (f .0))
     ⊎ (lastBlock (c .q) (c .window .memory) (l .0) < j .0) → getD out (j .0) markAhead ≡ getD ds (j .0) 0)
-bits-reach = Rattle.damage.proofs.BitReach.bits-reach
+bits-reach = Rattle.stream_damage.proofs.BitReach.bits-reach
 
 -- ---- (c) One word, one datum where it can be: `relabelled` gives the data of a table afresh. Main's `tableFor` is the
 -- table of the finished graph, relabelled, so what Main says of tables, windows and records is said of the new data.
@@ -131,17 +131,17 @@ bits-reach = Rattle.damage.proofs.BitReach.bits-reach
 pub labels : (n : ℕ) (t : Rows) → Full n t → (edges (relabelled n t) 0 ≡ edges t 0)
     × (length (relabelled n t) ≡ length t)
     × ((s : ℕ) → s < length t → Rearranged n (edges t s) (edges (relabelled n t) s))
-labels = Rattle.labels.proofs.Labels.labels
+labels = Rattle.compile_labels.proofs.Labels.labels
 
 -- Edges take the lowest free datum that the lowest earlier state with their word gave it; others the free data, rising.
 pub labels-rule : (n : ℕ) (t : Rows) → Full n t → (s : ℕ) → 0 < s → s < length t
     → edges (relabelled n t) s ≡ relabelledRow n (take s (relabelled n t)) (edges t s)
-labels-rule = Rattle.labels.proofs.Labels.labels-rule
+labels-rule = Rattle.compile_labels.proofs.Labels.labels-rule
 
 -- Both hold of every table that is compiled: it has n edges a state when its data are given.
 pub labels-hold : (j : Job) → Allowed j → 0 < sum (componentOf j .weights) → length (finishedOf j .arcs) ≤ 2048
     → Full (ways j) (tableOf (ways j) (finishedOf j))
-labels-hold = Rattle.compiler.proofs.Accepted.labelled-full
+labels-hold = Rattle.compile.proofs.Accepted.labelled-full
 
 -- ---- (d) Two marks: a block that cannot be read shows whether what went before is at fault, 254, or the words ahead,
 -- 255. What is said of `block c L j` is said of byte j of every decoding, and by `stream-words` of that of a stream.
@@ -178,11 +178,11 @@ clear-unmarked = Rattle.codec.proofs.Marked.clear-unmarked
 pub closes : ((c : Code) (ds : List ℕ)
     → recording c ds ≡ spells (c .table) 0 (ds ++ replicate (c .window .lookahead) (c .tail)))
     × ((j : Job) (c : Code) → compile j ≡ done c → c .tail ≡ 0)
-closes = (Rattle.table.proofs.Paths.closes, Rattle.compiler.proofs.Accepted.compiled-tail)
+closes = (Rattle.table.proofs.Paths.closes, Rattle.compile.proofs.Accepted.compiled-tail)
 
 -- What is refused does not depend on the tail datum once it is below 2^p.
 pub tail-free : (c : Code) (k : ℕ) → T (formed c) → k < 2 ^ c .p → Accepted c ↔ Accepted (withTail c k)
-tail-free = Rattle.checker.proofs.Tail.tail-free
+tail-free = Rattle.record_check.proofs.Tail.tail-free
 
 -- The tail datum stands in the 4 bits straight after the constraint start, which are bits 30 to 33 of the record.
 pub tail-place : (c : Code) → T (formed c)
@@ -193,7 +193,7 @@ tail-place = Rattle.record.proofs.RecordWrite.tail-place
 pub closes-record : (rec : List ℕ) → Below 256 rec → (c : Code) → parse rec ≡ done c → (k room : ℕ) → k < 2 ^ c .p
     → length rec ≤ room → (out : List ℕ) × (closedWith rec k room ≡ done out) × (length out ≡ length rec)
     × (parse out ≡ done (withTail c k))
-closes-record = Rattle.closing.proofs.Closed.closes-record
+closes-record = Rattle.record_tail.proofs.Closed.closes-record
 
 -- ---- (f) Spreading a scratch: D recordings of equally many words, one after the other, are woven. `part k r ws` is
 -- recording r of those that stand one after the other, k words each.
@@ -212,7 +212,7 @@ weaving = Rattle.weaving.proofs.Weaving.weaving
 pub one-word-each : (D : ℕ) (ws W : List ℕ) → T (goodDepth D (length ws)) → (x : ℕ)
     → SameOutside x (x + D - 1) W (woven D ws) → (r : ℕ) → r < D → let k = length ws / D in
     (y : ℕ) × SameOutside y y (part k r (unwoven D W)) (part k r ws)
-one-word-each = Rattle.damage.proofs.Scratch.one-word-each
+one-word-each = Rattle.stream_damage.proofs.Scratch.one-word-each
 
 -- Fewer places overwritten are a special case: damage from x to y is damage from x to z, where y is at most z.
 pub fewer-places : (x y z : ℕ) (L R : List ℕ) → y ≤ z → SameOutside x y L R → SameOutside x z L R
@@ -225,7 +225,7 @@ pub scratch : (rec : List ℕ) → Below 256 rec → (c : Code) → parse rec �
     → (room : ℕ) → length ds ≤ room
     → (out : List ℕ) × (decodeUnder rec room (part (length ws / D) r (unwoven D W)) ≡ done out)
     × (differences out ds ≤ c .window .memory + c .window .lookahead + 1)
-scratch = Rattle.damage.proofs.Scratch.scratch
+scratch = Rattle.stream_damage.proofs.Scratch.scratch
 
 -- ---- (g) State sets in machine words: `holds s i` is bit i of the two words of s, and `yesNo n s` the list of yes and
 -- no, one a state, for the first n states. What Main says of windows and decoding is said of such lists, and stays.
@@ -245,10 +245,10 @@ state-sets =
 pub step-bits : (t : Arrays) (start edge low high : List ℕ) → Grouped t start edge low high → (S R : BitSet) (w : ℕ)
     → w < 256 → ((u : ℕ) → holds R u ≡ between (stepsTo edge low high S u) (getD start w 0) (getD start (w + 1) 0))
     → yesNo (t .states) R ≡ along (rowsOf t) (yesNo (t .states) S) w
-step-bits = Rattle.stepping.proofs.SetSteps.step-bits
+step-bits = Rattle.codec_steps.proofs.SetSteps.step-bits
 
 -- Stepping back: the set of those states whose group of the word leads into S is the list stepped back.
 pub back-bits : (t : Arrays) (start edge low high : List ℕ) → Grouped t start edge low high → (S R : BitSet) (w : ℕ)
     → w < 256 → ((s : ℕ) → holds R s ≡ between (leadsInto edge low high S s) (getD start w 0) (getD start (w + 1) 0))
     → yesNo (t .states) R ≡ back (rowsOf t) (yesNo (t .states) S) w
-back-bits = Rattle.stepping.proofs.SetSteps.back-bits
+back-bits = Rattle.codec_steps.proofs.SetSteps.back-bits

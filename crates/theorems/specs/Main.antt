@@ -21,72 +21,72 @@ use Rattle.table.specs.Rows.{Size, Code}
 use Rattle.table.specs.Paths.{Blocks, recording}
 use Rattle.table.specs.Value.{codeIn}
 use Rattle.table.specs.Formed.{formed, Formed}
-use Rattle.windows.specs.Window.{Window, NoLater}
-use Rattle.obeying.specs.Obeys.{Obeys, Breaks}
+use Rattle.window.specs.Window.{Window, NoLater}
+use Rattle.record_obeys.specs.Obeys.{Obeys, Breaks}
 use Rattle.record.specs.Layout.{pack}
-use Rattle.checker.specs.Parse.{parse, judged, checkedOnly}
-use Rattle.stepping.specs.Reading.{markAhead, block, decode}
+use Rattle.record_check.specs.Parse.{parse, judged, checkedOnly}
+use Rattle.codec_steps.specs.Reading.{markAhead, block, decode}
 use Rattle.codec.specs.Answers.{encodeUnder, decodeUnder, encodeChecked, decodeChecked}
 use Rattle.codec.specs.With.{encodedWith, decodedWith}
 use Rattle.codec.specs.Found.{found}
 use Rattle.codec.specs.Damage.{StandsClear, Recording, SameOutside}
-use Rattle.graph.specs.Arcs.{Arc, out}
-use Rattle.graph.specs.Weights.{AtMost}
-use Rattle.graph.specs.Component.{within, live, componentStates}
-use Rattle.graph.specs.Reachable.{Reachable, ReachedBack}
-use Rattle.graph.specs.Splitting.{sort, chosen, candidates, stretch, divisible, kept, split, goesOn, splits}
-use Rattle.job.specs.Jobs.{Job, Allowed}
-use Rattle.compiler.specs.Compile.{ways, graphOf, Vector, weightsOf, componentOf, finishedOf, tableFor, code, compile}
-use Rattle.compiler.specs.Kinds.{Kind, readAs, compileAs}
-use Rattle.listings.specs.Listings.{listInto}
-use Rattle.sets.specs.Sets.{codes, readSet, writeSet, Readable}
+use Rattle.compile_graph.specs.Arcs.{Arc, out}
+use Rattle.compile_graph.specs.Weights.{AtMost}
+use Rattle.compile_graph.specs.Component.{within, live, componentStates}
+use Rattle.compile_graph.specs.Reachable.{Reachable, ReachedBack}
+use Rattle.compile_graph.specs.Splitting.{sort, chosen, candidates, stretch, divisible, kept, split, goesOn, splits}
+use Rattle.compile_job.specs.Jobs.{Job, Allowed}
+use Rattle.compile.specs.Compile.{ways, graphOf, Vector, weightsOf, componentOf, finishedOf, tableFor, code, compile}
+use Rattle.compile.specs.Kinds.{Kind, readAs, compileAs}
+use Rattle.view_job.specs.Listings.{listInto}
+use Rattle.set_check.specs.Sets.{codes, readSet, writeSet, Readable}
 use Rattle.word.specs.Words.{held, joined}
 
 -- A job that is read from bytes is allowed: what is said below of allowed jobs holds of every call.
 pub allowed : (k : Kind) (xs : List ℕ) (j : Job) → readAs k xs ≡ done j → Allowed j
-allowed = Rattle.compiler.proofs.Written.as-allowed
+allowed = Rattle.compile.proofs.Written.as-allowed
 
 -- "No code" is said exactly when no vector of numbers from 0 to cap, not all 0, meets the inequality; from bytes too.
 pub no-code : ((j : Job) → Allowed j → (compile j ≡ refused NoCode) ↔ ((u : List ℕ) → Vector j u → (s : ℕ)
     → getD u s 0 ≡ 0)) × ((k : Kind) (xs : List ℕ) (room : ℕ) → (compileAs k xs room ≡ refused NoCode)
     ↔ ((j : Job) × (readAs k xs ≡ done j) × ((u : List ℕ) → Vector j u → (s : ℕ) → getD u s 0 ≡ 0)))
-no-code = (Rattle.compiler.proofs.Compile.no-code-exact, Rattle.compiler.proofs.Written.none)
+no-code = (Rattle.compile.proofs.Compile.no-code-exact, Rattle.compile.proofs.Written.none)
 
 -- Otherwise it uses the greatest one: the weights meet the inequality, and every other vector is at most the weights.
 pub greatest : (j : Job) → Vector j (weightsOf j) × ((u : List ℕ) → Vector j u → AtMost u (weightsOf j))
-greatest j = (Rattle.compiler.proofs.Compile.weights-vector j, Rattle.compiler.proofs.Compile.greatest-vector j)
+greatest j = (Rattle.compile.proofs.Compile.weights-vector j, Rattle.compile.proofs.Compile.greatest-vector j)
 
 -- The component is what its first state reaches: the lowest, of weight above 0, that all states it reaches reach back.
 pub component : (j : Job) → Allowed j → 0 < sum (componentOf j .weights)
     → let v = weightsOf j in let g = within (live v) (graphOf j) in let C = componentStates v (graphOf j) in
     let s = getD C 0 0 in (0 < getD v s 0) × ReachedBack g s
     × ((u : ℕ) → u < s → 0 < getD v u 0 → ReachedBack g u → ⊥) × ((t : ℕ) → T (elem t C) ↔ Reachable g s t)
-component j a h = let c = Rattle.compiler.proofs.ByRule.component j a h in (c .live, c .back, c .lowest, c .states)
+component j a h = let c = Rattle.compile.proofs.ByRule.component j a h in (c .live, c .back, c .lowest, c .states)
 
 -- Each graph that splitting passes through is split by the rule's state, list and run; the last is the finished one.
 pub each-split : (j : Job) → Allowed j → 0 < sum (componentOf j .weights) → (k : ℕ) → let n = ways j in
     let x = splits k n (componentOf j) in let s = chosen (x .weights) (x .arcs) in (T (goesOn n x)
-    → (splits (suc k) n (componentOf j) ≡ split n x) × Rattle.graph.specs.Rule.Rule n x s
+    → (splits (suc k) n (componentOf j) ≡ split n x) × Rattle.compile_graph.specs.Rule.Rule n x s
     (candidates n (x .weights) (getD (x .weights) s 0) (sort (out (x .arcs) s))) (kept n (x .weights) (x .arcs) s))
     × ((T (goesOn n x) → ⊥) → finishedOf j ≡ x)
-each-split = Rattle.compiler.proofs.ByRule.splits-by-rule
+each-split = Rattle.compile.proofs.ByRule.splits-by-rule
 
 -- Splitting ends, with no more states than the component's weights sum to, and n edges a state or refusal 5.
 pub splits-end : (j : Job) → Allowed j → 0 < sum (componentOf j .weights)
     → (length (finishedOf j .weights) ≤ sum (componentOf j .weights)) × (length (finishedOf j .arcs) ≤ 2048
     → (s : ℕ) → s < length (finishedOf j .weights) → ways j ≤ length (out (finishedOf j .arcs) s))
-splits-end = Rattle.compiler.proofs.Promises.split-ends
+splits-end = Rattle.compile.proofs.Promises.split-ends
 
 -- "And of those the shortest" never decides: of the runs that end first there is one only.
 pub shortest-idle : (n : ℕ) (v : List ℕ) (es : List Arc) (j i i′ : ℕ)
     → ((k d : ℕ) → k < j → d ≤ k → T (divisible n v (stretch es k d)) → ⊥)
     → i ≤ j → i′ ≤ j → T (divisible n v (stretch es j i)) → T (divisible n v (stretch es j i′)) → i ≡ i′
-shortest-idle = Rattle.graph.proofs.RunUnique.shortest-idle
+shortest-idle = Rattle.compile_graph.proofs.RunUnique.shortest-idle
 
 -- The window written does what a window must, and is the first of all that do: least m + a, then least a.
 pub least-window : (j : Job) → Allowed j → (c : Code) → compile j ≡ done c → Window (c .table) (c .window)
     × ((y : Size) → y .memory ≤ 15 → y .lookahead ≤ 15 → Window (c .table) y → NoLater (c .window) y)
-least-window = Rattle.compiler.proofs.Promises.least-window
+least-window = Rattle.compile.proofs.Promises.least-window
 
 -- Refusals 4 (weight over 128), 5 (over 2,048 edges) and 6 (no window) come exactly where due and none before is.
 pub refusals : (j : Job) → Allowed j → let w = sum (componentOf j .weights) in let e = length (finishedOf j .arcs) in
@@ -94,49 +94,49 @@ pub refusals : (j : Job) → Allowed j → let w = sum (componentOf j .weights) 
     × ((compile j ≡ refused TooManyEdges) ↔ ((0 < w) × (w ≤ 128) × (2048 < e)))
     × ((compile j ≡ refused NoWindow) ↔ ((0 < w) × (w ≤ 128) × (e ≤ 2048)
     × ((y : Size) → y .memory ≤ 15 → y .lookahead ≤ 15 → Window (tableFor j) y → ⊥)))
-refusals = Rattle.compiler.proofs.Exact.refusals
+refusals = Rattle.compile.proofs.Exact.refusals
 
 -- From bytes, 3 to 6 come exactly when the job's compiling is refused so, 13 when its record is longer than the room.
 pub calls : (k : Kind) (xs : List ℕ) (room : ℕ) → ((r : Refusal) → 3 ≤ numberOf r → numberOf r ≤ 6
     → (compileAs k xs room ≡ refused r) ↔ ((j : Job) × (readAs k xs ≡ done j) × (compile j ≡ refused r)))
     × ((compileAs k xs room ≡ refused ShortOutput)
     ↔ ((j : Job) × (c : Code) × (readAs k xs ≡ done j) × (compile j ≡ done c) × (room < length (pack c))))
-calls k xs room = (Rattle.compiler.proofs.Written.calls k xs room, Rattle.compiler.proofs.Written.short k xs room)
+calls k xs room = (Rattle.compile.proofs.Written.calls k xs room, Rattle.compile.proofs.Written.short k xs room)
 
 -- With a vector not all 0, within the limits, with some window up to 15 and 15 and room, the job's record is written.
 pub written : (k : Kind) (xs : List ℕ) (room : ℕ) (j : Job) → readAs k xs ≡ done j
     → (u : List ℕ) → Vector j u → (s : ℕ) → 0 < getD u s 0 → sum (componentOf j .weights) ≤ 128
     → length (finishedOf j .arcs) ≤ 2048 → (y : Size) → y .memory ≤ 15 → y .lookahead ≤ 15 → Window (tableFor j) y
     → length (pack (code j (tableFor j))) ≤ room → compileAs k xs room ≡ done (pack (code j (tableFor j)))
-written = Rattle.compiler.proofs.Written.written
+written = Rattle.compile.proofs.Written.written
 
 -- A record has at most 3,865 bytes and a listing at most 43,028, so with that room 13 never comes.
 pub max-record : ((c : Code) → Formed c → length (pack c) ≤ 3865) × ((k : Kind) (xs : List ℕ) (room : ℕ)
     → (3865 ≤ room → compileAs k xs room ≡ refused ShortOutput → ⊥)
     × (43028 ≤ room → listInto xs room ≡ refused ShortOutput → ⊥))
-max-record = (Rattle.record.proofs.RecordBytes.pack-short, Rattle.listings.proofs.Lengths.room-enough)
+max-record = (Rattle.record.proofs.RecordBytes.pack-short, Rattle.view_job.proofs.Lengths.room-enough)
 
 -- The compiler's record always passes the checker, and is read as the code that was compiled: from bytes to bytes.
 pub compiled-passes : (k : Kind) (xs : List ℕ) (room : ℕ) (r : List ℕ) → compileAs k xs room ≡ done r
     → (j : Job) × (c : Code) × (readAs k xs ≡ done j) × (compile j ≡ done c) × (pack c ≡ r) × (parse r ≡ done c)
-compiled-passes = Rattle.compiler.proofs.Written.passes
+compiled-passes = Rattle.compile.proofs.Written.passes
 
 -- The checker accepts exactly the tables whose every recording obeys and whose every window settles its block.
 pub checker-exact : (xs : List ℕ) → Below 256 xs → (checkedOnly xs ≡ done [])
-    ↔ ((c : Code) × T (formed c) × (pack c ≡ xs) × Rattle.checker.specs.Accepted.Accepted c)
-checker-exact = Rattle.checker.proofs.Accepted.check-exact
+    ↔ ((c : Code) × T (formed c) × (pack c ≡ xs) × Rattle.record_check.specs.Accepted.Accepted c)
+checker-exact = Rattle.record_check.proofs.Accepted.check-exact
 
 -- A record's refusals: 8 below five bytes, 7, 8, 7; 9 exactly if a recording disobeys, 10 exactly if the window fails.
-pub record-order : (xs : List ℕ) → Below 256 xs → Rattle.checker.specs.Reasons.Reason xs (parse xs)
+pub record-order : (xs : List ℕ) → Below 256 xs → Rattle.record_check.specs.Reasons.Reason xs (parse xs)
     × ((parse xs ≡ refused Disobeys) ↔ ((c : Code) × T (formed c) × (pack c ≡ xs) × Breaks c))
     × ((parse xs ≡ refused WindowFails)
     ↔ ((c : Code) × T (formed c) × (pack c ≡ xs) × Obeys c × (Window (c .table) (c .window) → ⊥)))
-record-order = Rattle.checker.proofs.Meanings.order
+record-order = Rattle.record_check.proofs.Meanings.order
 
 -- A record is read as it was written, up to refusals 9 and 10, and written as it was read.
 pub records : ((c : Code) → T (formed c) → parse (pack c) ≡ judged c)
     × ((xs : List ℕ) → Below 256 xs → (c : Code) → parse xs ≡ done c → pack c ≡ xs)
-records = (Rattle.checker.proofs.Parse.parse-pack, Rattle.checker.proofs.Accepted.parse-canonical)
+records = (Rattle.record_check.proofs.Parse.parse-pack, Rattle.record_check.proofs.Accepted.parse-canonical)
 
 -- Under an accepted record good blocks and room give their recording, N + a words for N blocks.
 pub encodes : (rec : List ℕ) (c : Code) → parse rec ≡ done c → (room : ℕ) (ds : List ℕ) → Blocks c ds
@@ -206,14 +206,14 @@ checked = Rattle.codec.proofs.Done.checked
 pub sets : ((cs : List Code) → length cs ≤ 255 → Readable cs → Below 256 (writeSet cs)
     × (readSet (writeSet cs) ≡ codes cs)) × ((xs : List ℕ) (cs : List Code) → Below 256 xs → readSet xs ≡ codes cs
     → (length cs ≤ 255) × (writeSet cs ≡ xs) × Readable cs)
-sets = (Rattle.sets.proofs.Counts.set-written, Rattle.sets.proofs.Counts.set-walked)
+sets = (Rattle.set_check.proofs.Counts.set-written, Rattle.set_check.proofs.Counts.set-walked)
 
 -- In a good set record i stands at the place of number i, and its bytes hold code i.
 pub good-places : (s : List ℕ) (cs : List Code) → readSet s ≡ codes cs → (length cs ≡ getD s 0 0)
     × ((i : ℕ) (d : Code) → i < length cs → (start : ℕ) × (len : ℕ)
-    × (Rattle.places.specs.Offsets.recordPlace s i ≡ Rattle.places.specs.declared.Place.the-variants.At start len)
+    × (Rattle.set_places.specs.Offsets.recordPlace s i ≡ Rattle.set_places.specs.declared.Place.the-variants.At start len)
     × (parse (take len (drop start s)) ≡ done (getD cs i d)))
-good-places = Rattle.sets.proofs.Records.good-places
+good-places = Rattle.set_check.proofs.Records.good-places
 
 -- The word that a call for C answers gives back its number by / 2^56 and its value, held to 2^56 − 1, by % 2^56.
 pub words : (number value : ℕ) → (joined number value / 2 ^ 56 ≡ number) × (joined number value % 2 ^ 56 ≡ held value)

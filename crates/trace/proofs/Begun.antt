@@ -3,18 +3,18 @@
 -- Assumes nothing.
 use Rattle.laws.proofs.All.{_≡_, sym, ap, subst, subst₂, _∙_, Bool, false, List, ℕ, _*_, _/_, _%_, _≤_, _<_, arith}
 use Rattle.laws.proofs.All.{length, getD, take, length-take-le, sum, filter, first}
-use Rattle.graph.specs.Weights.{weights}
-use Rattle.graph.specs.declared.Graph.{Graph}
-use Rattle.graph.specs.Arcs.{Arc}
-use Rattle.graph.specs.Component.{within, reachings, reaches, returning, live, componentStates}
-use Rattle.reach.specs.ReachSets.{rowsOf, Linked, liveEdge}
-use Rattle.weights.specs.PowerTable.{tabled, Powers, wordCount}
-use Rattle.component.proofs.LiveArcs.{linked-is}
-use Rattle.job.specs.Jobs.{Job, Allowed}
-use Rattle.compiler.specs.Compile.{ways}
-use Rattle.compiler.specs.Stages.{Begun}
-use Rattle.compiler.proofs.CompileSteps.{begun-splits}
-use Rattle.splitlines.specs.ChoiceParts.{Begins}
+use Rattle.compile_graph.specs.Weights.{weights}
+use Rattle.compile_graph.specs.declared.Graph.{Graph}
+use Rattle.compile_graph.specs.Arcs.{Arc}
+use Rattle.compile_graph.specs.Component.{within, reachings, reaches, returning, live, componentStates}
+use Rattle.compile_reach.specs.ReachSets.{rowsOf, Linked, liveEdge}
+use Rattle.compile_weights.specs.PowerTable.{tabled, Powers, wordCount}
+use Rattle.compile_component.proofs.LiveArcs.{linked-is}
+use Rattle.compile_job.specs.Jobs.{Job, Allowed}
+use Rattle.compile.specs.Compile.{ways}
+use Rattle.compile.specs.Stages.{Begun}
+use Rattle.compile.proofs.CompileSteps.{begun-splits}
+use Rattle.trace_splits.specs.ChoiceParts.{Begins}
 use Rattle.trace.specs.declared.beginnings.Beginning.{Beginning}
 use Rattle.trace.specs.Beginnings.{FoundOf}
 

@@ -3,17 +3,17 @@
 -- Assumes nothing.
 use Rattle.laws.proofs.All.{_≡_, refl, sym, ap, ap₂, subst, _∙_, true, false, _||_, List, _++_, append-assoc}
 use Rattle.laws.proofs.All.{append-nil, ℕ, _≤_, _<_, eq-eqb, ne-eqb, lt-ltb, le-ltb, ltb, eqb, take, sum}
-use Rattle.graph.specs.Component.{componentStates}
-use Rattle.graph.specs.Splitting.{crowded}
-use Rattle.graph.specs.Value.{workIn}
-use Rattle.job.specs.Jobs.{Job}
-use Rattle.compiler.specs.Compile.{ways, graphOf, weightsOf, componentOf}
-use Rattle.splitlines.specs.SplitText.{splitText}
+use Rattle.compile_graph.specs.Component.{componentStates}
+use Rattle.compile_graph.specs.Splitting.{crowded}
+use Rattle.compile_graph.specs.Value.{workIn}
+use Rattle.compile_job.specs.Jobs.{Job}
+use Rattle.compile.specs.Compile.{ways, graphOf, weightsOf, componentOf}
+use Rattle.trace_splits.specs.SplitText.{splitText}
 use Rattle.text.specs.Texts.{Added}
 use Rattle.text.proofs.Adding.{added-same, _then_}
 use Rattle.trace.specs.declared.beginnings.Beginning.{Beginning}
 use Rattle.trace.specs.Beginnings.{FoundOf}
-use Rattle.stagelines.specs.StageText.{weightsLine, componentLine}
+use Rattle.trace_stages.specs.StageText.{weightsLine, componentLine}
 use Rattle.trace.specs.Traced.{stages}
 
 -- ---- the text at each return

@@ -4,10 +4,10 @@
 use mathlib.Core.Path.{_≡_}
 use Prim.Native.Nat.{ℕ, _≤_}
 use lib.ListN.{getD, take}
-use Rattle.graph.specs.Component.{componentStates}
-use Rattle.component.specs.ComponentParts.{FoundIn}
-use Rattle.job.specs.Jobs.{Job}
-use Rattle.compiler.specs.Compile.{graphOf, weightsOf}
+use Rattle.compile_graph.specs.Component.{componentStates}
+use Rattle.compile_component.specs.ComponentParts.{FoundIn}
+use Rattle.compile_job.specs.Jobs.{Job}
+use Rattle.compile.specs.Compile.{graphOf, weightsOf}
 use Rattle.trace.specs.declared.beginnings.Beginning.{Beginning}
 
 -- the weights of k states, the states of the component, the first of which is its start, and the component are those

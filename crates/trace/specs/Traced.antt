@@ -9,14 +9,14 @@ use lib.Dec.{ltb, eqb}
 use Rattle.laws.specs.Lists.{if_then_else_, sum}
 use Rattle.answer.specs.Outcomes.{Outcome, done, refused}
 use Rattle.table.specs.Rows.{Code}
-use Rattle.graph.specs.Component.{componentStates}
-use Rattle.graph.specs.Splitting.{crowded}
-use Rattle.job.specs.Jobs.{Job, readJob, readRunLength}
-use Rattle.compiler.specs.Compile.{ways, graphOf, weightsOf, componentOf, compile}
+use Rattle.compile_graph.specs.Component.{componentStates}
+use Rattle.compile_graph.specs.Splitting.{crowded}
+use Rattle.compile_job.specs.Jobs.{Job, readJob, readRunLength}
+use Rattle.compile.specs.Compile.{ways, graphOf, weightsOf, componentOf, compile}
 use Rattle.sentences.specs.Sentences.{said}
-use Rattle.refusals.specs.Phrases.{refusalLine}
-use Rattle.splitlines.specs.SplitText.{splitText}
-use Rattle.stagelines.specs.StageText.{weightsLine, componentLine}
+use Rattle.view_refusals.specs.Phrases.{refusalLine}
+use Rattle.trace_splits.specs.SplitText.{splitText}
+use Rattle.trace_stages.specs.StageText.{weightsLine, componentLine}
 
 -- weights, component, and, if it weighs from 1 to 128 and has at most 2,048 edges, all that comes of it
 unfoldable pub stages : Job → List ℕ

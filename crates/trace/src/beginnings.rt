@@ -2,22 +2,22 @@
 ghost use mathlib.Core.Path.{_≡_};
 ghost use Prim.Native.Nat.{_≤_, _<_};
 ghost use lib.ListN.{take};
-ghost use Rattle.graph.specs.Component.{componentStates};
-ghost use Rattle.weights.specs.PowerTable.{tabled, Powers};
-ghost use Rattle.compiler.specs.Compile.{ways};
-ghost use Rattle.job.specs.JobValues.{jobIn, JobReady};
+ghost use Rattle.compile_graph.specs.Component.{componentStates};
+ghost use Rattle.compile_weights.specs.PowerTable.{tabled, Powers};
+ghost use Rattle.compile.specs.Compile.{ways};
+ghost use Rattle.compile_job.specs.JobValues.{jobIn, JobReady};
 ghost use Rattle.trace.specs.Beginnings.{FoundOf};
-use component::component_graph::ComponentAnswer;
-use component::component_graph::find_component;
+use compile_component::component_graph::ComponentAnswer;
+use compile_component::component_graph::find_component;
+use compile_job::JobValue;
+use compile_reach::reaching::Members;
+use compile_reach::reaching::first_returning;
+use compile_reach::reaching::list_members;
+use compile_reach::reaching::live_edges;
+use compile_reach::reaching::reach_all;
+use compile_weights::state_weights::state_weights;
+use compile_weights::state_weights::word_counts;
 use constraint::power::power_codes;
-use job::JobValue;
-use reach::reaching::Members;
-use reach::reaching::first_returning;
-use reach::reaching::list_members;
-use reach::reaching::live_edges;
-use reach::reaching::reach_all;
-use weights::state_weights::state_weights;
-use weights::state_weights::word_counts;
 
 // The weights, the states of the component in the constraint's numbers and how many there are, and the component.
 pub struct Beginning {

@@ -4,8 +4,8 @@ ghost use Rattle.record.specs.Checks.{outcomeIn};
 ghost use Rattle.trace.specs.Traced.{ending};
 use answer::Verdict;
 use record::TableAnswer;
-use refusals::put_refusal_line;
 use sentences::put_sentence;
+use view_refusals::put_refusal_line;
 
 // What compiling came to.
 pub fn put_ending(r: TableAnswer, out: &mut [u8], at: usize) -> usize

@@ -1,14 +1,14 @@
 // All steps of a job: weights, component, splits, table.
 ghost use mathlib.Core.Path.{_≡_};
 ghost use Rattle.text.specs.Texts.{Added};
-ghost use Rattle.compiler.specs.Compile.{ways};
-ghost use Rattle.job.specs.JobValues.{jobIn, JobReady};
+ghost use Rattle.compile.specs.Compile.{ways};
+ghost use Rattle.compile_job.specs.JobValues.{jobIn, JobReady};
 ghost use Rattle.trace.specs.Traced.{stages};
 use crate::beginnings::begin;
-use job::JobValue;
-use splitlines::put_splitting;
-use stagelines::put_component;
-use stagelines::put_weights;
+use compile_job::JobValue;
+use trace_splits::put_splitting;
+use trace_stages::put_component;
+use trace_stages::put_weights;
 
 // All steps, with n ways out of each state to come.
 pub fn put_stages(j: JobValue, out: &mut [u8], at: usize, n: usize) -> usize

@@ -2,18 +2,18 @@
 ghost use mathlib.Core.Path.{_≡_};
 ghost use Rattle.text.specs.Texts.{Added};
 ghost use Rattle.answer.specs.declared.Verdict.the-variants.{Good};
-ghost use Rattle.job.specs.JobValues.{jobOutcome, JobReady};
+ghost use Rattle.compile_job.specs.JobValues.{jobOutcome, JobReady};
 ghost use Rattle.trace.specs.Traced.{tracing, tracedJob, tracedRunLength};
 use crate::endings::put_ending;
 use crate::stages::put_stages;
 use answer::Verdict;
-use compiler::compiling::begin;
-use compiler::compiling::compile;
-use job::JobAnswer;
-use job::reading::read_job;
-use job::reading::read_run_length;
-use refusals::put_refusal_line;
+use compile::compiling::begin;
+use compile::compiling::compile;
+use compile_job::JobAnswer;
+use compile_job::reading::read_job;
+use compile_job::reading::read_run_length;
 use table::chains::ways;
+use view_refusals::put_refusal_line;
 
 // The steps of a job that was read, and then what compiling it comes to.
 fn trace(r: JobAnswer, out: &mut [u8], at: usize) -> usize

@@ -5,7 +5,7 @@ use Rattle.answer.specs.Outcomes.{fitting}
 use Rattle.answer.proofs.Answered.{ends-onward, goes-onward}
 use Rattle.answer.proofs.Outcomes.{said-good, said-bad}
 use Rattle.table.specs.Value.{codeIn}
-use Rattle.checker.specs.Parse.{parse}
+use Rattle.record_check.specs.Parse.{parse}
 use Rattle.info.specs.Info.{numbersOf, infoUnder}
 use Rattle.info.proofs.info.Statement.{statement}
 use Rattle.info.proofs.info.Tie as tie

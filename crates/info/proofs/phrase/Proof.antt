@@ -2,8 +2,8 @@
 -- Assumes nothing.
 use Rattle.laws.proofs.All.{now, needs}
 use Rattle.text.proofs.Adding.{added-whole}
-use Rattle.views.proofs.Filled.{fill-same}
-use Rattle.refusals.proofs.Rows.{words-short}
+use Rattle.view_listing.proofs.Filled.{fill-same}
+use Rattle.view_refusals.proofs.Rows.{words-short}
 use Rattle.info.specs.Info.{phraseInto}
 use Rattle.info.proofs.phrase.Statement.{statement}
 use Rattle.info.proofs.phrase.Tie as tie

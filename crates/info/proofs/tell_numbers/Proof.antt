@@ -4,7 +4,7 @@ use Rattle.laws.proofs.All.{arith, now, needs}
 use Rattle.table.specs.Value.{tableHead}
 use Rattle.table.specs.Formed.{Ranges}
 use Rattle.table.proofs.RowsOf.{ways-small}
-use Rattle.views.proofs.Filled.{fill-same}
+use Rattle.view_listing.proofs.Filled.{fill-same}
 use Rattle.info.proofs.Numbers.{in-range, numbers-are}
 use Rattle.info.proofs.tell_numbers.Statement.{statement}
 use Rattle.info.proofs.tell_numbers.Tie as tie

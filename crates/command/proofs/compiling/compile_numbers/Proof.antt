@@ -1,8 +1,8 @@
 -- `compile_numbers` is safe: the result lies within the bytes that are lent for it, and goes where the action writes.
 -- Assumes nothing.
 use Rattle.laws.proofs.All.{now, length, needs}
-use Rattle.compiler.specs.Compile.{compileRunLength}
-use Rattle.outputs.proofs.Results.{result-within}
+use Rattle.compile.specs.Compile.{compileRunLength}
+use Rattle.command_outputs.proofs.Results.{result-within}
 use Rattle.command.proofs.compiling.compile_numbers.Statement.{statement}
 use Rattle.command.proofs.compiling.compile_numbers.Tie as tie
 

@@ -1,7 +1,7 @@
 -- `traced` meets its contract, by the answer of the call.
 -- Assumes nothing.
 use Rattle.laws.proofs.All.{sym, _∙_, now, length, needs}
-use Rattle.compiler.specs.Compile.{compileRunLength}
+use Rattle.compile.specs.Compile.{compileRunLength}
 use Rattle.command.proofs.Ending.{end-refused, end-done}
 use Rattle.command.proofs.compiling.traced.Statement.{statement}
 use Rattle.command.proofs.compiling.traced.Tie as tie

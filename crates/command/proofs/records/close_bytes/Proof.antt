@@ -2,8 +2,8 @@
 -- action writes.
 -- Assumes nothing.
 use Rattle.laws.proofs.All.{needs}
-use Rattle.closing.specs.Closing.{closedWith}
-use Rattle.outputs.proofs.Results.{result-within, fails-outcome}
+use Rattle.record_tail.specs.Closing.{closedWith}
+use Rattle.command_outputs.proofs.Results.{result-within, fails-outcome}
 use Rattle.command.proofs.records.close_bytes.Statement.{statement}
 use Rattle.command.proofs.records.close_bytes.Tie as tie
 

@@ -2,11 +2,11 @@
 -- the job's.
 -- Assumes nothing.
 use Rattle.laws.proofs.All.{sym, ap, ap₂, _∙_, arith, getD, needs}
-use Rattle.graph.specs.Component.{componentStates}
-use Rattle.weights.specs.PowerTable.{Powers}
-use Rattle.job.specs.JobValues.{jobIn}
-use Rattle.compiler.proofs.Compile.{ways-pos}
-use Rattle.compiler.proofs.CompileSteps.{has-states, held-powers, held-tabled, held-weights, held-component}
+use Rattle.compile_graph.specs.Component.{componentStates}
+use Rattle.compile_weights.specs.PowerTable.{Powers}
+use Rattle.compile_job.specs.JobValues.{jobIn}
+use Rattle.compile.proofs.Compile.{ways-pos}
+use Rattle.compile.proofs.CompileSteps.{has-states, held-powers, held-tabled, held-weights, held-component}
 use Rattle.trace.proofs.beginnings.begin.Statement.{statement}
 use Rattle.trace.proofs.beginnings.begin.Tie as tie
 

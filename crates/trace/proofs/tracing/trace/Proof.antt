@@ -2,7 +2,7 @@
 -- Assumes nothing.
 use Rattle.laws.proofs.All.{needs}
 use Rattle.text.proofs.Adding.{added-more}
-use Rattle.job.specs.JobValues.{JobReady}
+use Rattle.compile_job.specs.JobValues.{JobReady}
 use Rattle.trace.specs.Traced.{traced, tracing}
 use Rattle.trace.proofs.tracing.trace.Statement.{statement}
 use Rattle.trace.proofs.tracing.trace.Tie as tie

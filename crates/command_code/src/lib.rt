@@ -1,0 +1,80 @@
+// The actions that encode and decode.
+ghost use mathlib.Core.Path.{_≡_};
+ghost use lib.ListN.{length};
+ghost use Rattle.answer.specs.Outcomes.{answerOf, outputOf};
+ghost use Rattle.command_outputs.specs.Results.{Fails};
+ghost use Rattle.command_code.specs.Coding.{coded};
+use answer::Answer;
+use codec_record::decoding::decode;
+use codec_record::encoding::encode;
+use command_arguments::Action;
+use command_arguments::Status;
+use command_arguments::Way;
+use command_arguments::read_place;
+use command_arguments::under_place;
+use command_inputs::is_twice;
+use command_inputs::load;
+use command_inputs::load_whole;
+use command_inputs::recording;
+use command_marks::finish_code;
+use command_messages::usage::misused_word;
+
+// The words of blocks, or the blocks of words, under a record, in the output.
+fn code(w: Way, under: &[u8], bytes: &[u8], out: &mut [u8]) -> Answer
+    ensures answer { λ r. ⌜
+        r ≡ answerOf (coded w (now (under .entry)) (length (now (out .entry))) (now (bytes .entry))) ⌝ }
+    ensures written { λ r. ⌜
+        now (out .exit)
+        ≡ outputOf (coded w (now (under .entry)) (length (now (out .entry))) (now (bytes .entry)))
+        (now (out .entry)) ⌝ }
+{
+    match w {
+        Way::Encode => encode(under, bytes, out),
+        Way::Decode => decode(under, bytes, out),
+    }
+}
+
+// The most bytes that are taken: 1,000,000 blocks, and the words of as many.
+fn longest(w: Way) -> usize {
+    match w {
+        Way::Encode => 1000000,
+        Way::Decode => 1000015,
+    }
+}
+
+// The words of blocks, or the blocks of words, under a record; the run fails where they are refused.
+fn code_bytes(w: Way, under: &[u8], bytes: &[u8], out: &mut [u8]) -> Status
+    ensures answer { λ s. ⌜
+        Fails (answerOf (coded w (now (under .entry)) (length (now (out .entry))) (now (bytes .entry)))) s ⌝ }
+    ensures written { λ s. ⌜
+        now (out .exit)
+        ≡ outputOf (coded w (now (under .entry)) (length (now (out .entry))) (now (bytes .entry)))
+        (now (out .entry)) ⌝ }
+{
+    let r = code(w, under, bytes, out);
+    finish_code(Action::Coding(w), w, r, out)
+}
+
+// encode RECORD DATA OUT, decode RECORD WORDS OUT
+pub fn code_files(w: Way) -> Status {
+    let a = Action::Coding(w);
+    let i = under_place(a);
+    let j = read_place(a);
+    if is_twice(i, j) {
+        return misused_word(a, b"-", b": only one file can be standard input");
+    }
+    let mut under = [0u8; 3866];
+    let u = load(i, &mut under);
+    if !u.good {
+        return Status::Failed;
+    }
+    let n = u.size;
+    let mut bytes = recording();
+    let b = load_whole(j, &mut bytes, longest(w));
+    if !b.good {
+        return Status::Failed;
+    }
+    let k = b.size;
+    let mut out = recording();
+    code_bytes(w, &under[..n], &bytes[..k], &mut out)
+}

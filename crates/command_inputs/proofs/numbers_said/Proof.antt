@@ -1,0 +1,19 @@
+-- `numbers_said` is safe and ends. The measure is how many numbers are left.
+-- Assumes nothing.
+use Rattle.laws.proofs.All.{_-_, _≤_, needs}
+use Rattle.command_inputs.proofs.numbers_said.Statement.{statement}
+use Rattle.command_inputs.proofs.numbers_said.Tie as tie
+
+abbrev Inv-loop : tie.InvT-loop
+Inv-loop a job₀ i₀ job i = i ≤ 5
+
+abbrev μ-loop : tie.MeasureT-loop
+μ-loop a job₀ i₀ job i = 5 - i
+
+pub numbers-said-spec : {M : Type 1} → statement M
+numbers-said-spec =
+    tie.close
+    (tie.spec
+    Inv-loop μ-loop (λ c. search needs) (λ c. search needs) (λ c κs. search needs) (λ c. search needs)
+    (λ c κs. search needs) (λ c. search needs) (λ c. search needs) (λ c. search needs) (λ c. search needs)
+    (λ c. search needs))

@@ -1,0 +1,169 @@
+// How the command is used.
+ghost use mathlib.Core.Path.{_≡_};
+ghost use Prim.Native.Nat.{_≤_};
+ghost use Rattle.command_arguments.specs.Shapes.{statusOf};
+ghost use Rattle.command_arguments.specs.declared.Status.the-variants.{Misused};
+use crate::recorded::tell_coding;
+use crate::recorded::tell_recordings;
+use crate::recorded::tell_stream;
+use crate::say;
+use crate::system::complain;
+use crate::system::print;
+use command_arguments::Action;
+use command_arguments::Status;
+use command_arguments::View;
+use libc::STDERR_FILENO;
+use libc::STDOUT_FILENO;
+
+// All actions.
+fn tell_all(file: i32) -> bool {
+    io::write_all(
+        file,
+        b"usage: sbc ACTION [ARGUMENT]...
+  compile d k p q cap [OUT]              compile a run-length job to a record
+  compile-job FILE [OUT]                 compile a job to a record
+  compile-joined FILE [OUT]              compile a job with two constraints to a record for both
+  trace d k p q cap                      print how a run-length job is compiled
+  check FILE                             say whether a record is accepted
+  show FILE                              print the code of a record
+  draw FILE                              print the code of a record as a Graphviz digraph or an SVG matrix
+  with-tail RECORD DATUM OUT             write a record with another tail datum
+  encode RECORD DATA OUT                 record data blocks as words
+  decode RECORD WORDS OUT                read words as data blocks
+  pack q WORDS OUT                       pack words of q bits into a bit stream
+  unpack q COUNT STREAM OUT              unpack the words of a bit stream
+  encode-stream RECORD DATA OUT          record data blocks as a bit stream
+  decode-stream RECORD COUNT STREAM OUT  read a bit stream as data blocks
+  reach RECORD FIRST LAST                print the blocks that overwritten channel bits can spoil
+  weave D IN OUT                         weave D recordings that stand one after the other
+  unweave D IN OUT                       take woven recordings apart again
+  set FILE                               list the records of a set
+  help [ACTION]                          print this, or more about an action; --help and -h too
+  --version                              print the version
+A file named - is standard input or standard output.
+",
+    )
+}
+
+// The actions that compile bytes and trace compiling.
+fn tell_compiling(file: i32, a: Action) -> bool {
+    match a {
+        Action::CompileJob => io::write_all(
+            file,
+            b"usage: sbc compile-job FILE [OUT]
+Compiles the job in FILE to a code, and writes its record to OUT, or to standard output. A job is the bytes p, q, cap,
+K, then for each of K states the next states for channel bits 0 and 1, with 255 for none.
+",
+        ),
+        Action::CompileJoined => io::write_all(
+            file,
+            b"usage: sbc compile-joined FILE [OUT]
+Compiles the job in FILE to a code that obeys two constraints at once, and writes its record to OUT, or to standard
+output. The job is the bytes p, q, cap, then each constraint: K, and for each of its K states the next states for
+channel bits 0 and 1, with 255 for none. A bit is allowed when both constraints allow it; both start in state 0.
+",
+        ),
+        Action::Trace => io::write_all(
+            file,
+            b"usage: sbc trace d k p q cap
+Prints how the run-length job is compiled, step by step. The last line of a job that is refused is its refusal.
+",
+        ),
+        _ => io::write_all(
+            file,
+            b"usage: sbc compile d k p q cap [OUT]
+Compiles the run-length constraint (d, k) to a code of p data bits to q channel bits, with weights up to cap, and
+writes its record to OUT, or to standard output. d and k: 0 to 15, d at most k; p: 1 to 4; q: 1 to 8; cap: 1 to 16.
+",
+        ),
+    }
+}
+
+// The actions on a record.
+fn tell_record(file: i32, v: View) -> bool {
+    match v {
+        View::Check => io::write_all(
+            file,
+            b"usage: sbc check FILE
+Says whether the record in FILE is accepted.
+",
+        ),
+        View::Show => io::write_all(
+            file,
+            b"usage: sbc show FILE
+Prints the code of the record in FILE: its rate, its window, its constraint, its closing datum and its table.
+",
+        ),
+        View::Draw => io::write_all(
+            file,
+            b"usage: sbc draw FILE
+Prints the states and edges of the record in FILE as a Graphviz digraph, or as an SVG matrix of states by words
+if there are more than 24 states.
+",
+        ),
+    }
+}
+
+// An action; the answer is whether all was written.
+fn tell(file: i32, a: Action) -> bool {
+    match a {
+        Action::Compile => tell_compiling(file, a),
+        Action::CompileJob => tell_compiling(file, a),
+        Action::CompileJoined => tell_compiling(file, a),
+        Action::Trace => tell_compiling(file, a),
+        Action::Viewing(v) => tell_record(file, v),
+        Action::WithTail => io::write_all(
+            file,
+            b"usage: sbc with-tail RECORD DATUM OUT
+Writes the record in RECORD with another tail datum to OUT. DATUM is a number below 2^p. Nothing else of the record
+changes. Recordings under OUT close with DATUM; a record that compile writes closes with 0.
+",
+        ),
+        Action::Coding(w) => tell_coding(file, w),
+        Action::Stream(s) => tell_stream(file, s),
+        Action::Recordings(r) => tell_recordings(file, r),
+        Action::Collection => io::write_all(
+            file,
+            b"usage: sbc set FILE
+Lists the records of the set in FILE: the number of each, its first byte, its length, p, q, states, m and a. A set is
+a count byte, then each record behind a two-byte length, most significant byte first. At most 1,000,000 bytes.
+",
+        ),
+        Action::Help => tell_all(file),
+        Action::Version => tell_all(file),
+        Action::Unknown => tell_all(file),
+    }
+}
+
+// Says how an action is used.
+pub fn misused(a: Action) -> Status
+    ensures answer { λ s. ⌜ s ≡ Misused ⌝ }
+{
+    tell(STDERR_FILENO, a);
+    Status::Misused
+}
+
+// Says what is wrong with a word, and how an action is used.
+pub fn misused_word(a: Action, word: &[u8], what: &[u8]) -> Status
+    ensures answer { λ s. ⌜ s ≡ Misused ⌝ }
+{
+    say(word, what);
+    misused(a)
+}
+
+// Prints how an action is used.
+pub fn print_use(a: Action) -> Status
+    ensures past { λ s. ⌜ statusOf s ≤ 1 ⌝ }
+{
+    if tell(STDOUT_FILENO, a) {
+        return Status::Done;
+    }
+    complain(b"standard output")
+}
+
+// Prints the version.
+pub fn print_version() -> Status
+    ensures past { λ s. ⌜ statusOf s ≤ 1 ⌝ }
+{
+    print(b"sbc 2.1\n")
+}

@@ -1,0 +1,31 @@
+-- A result lies within the bytes that were lent for it; a run that a call refuses fails.
+-- In order: result-within, front-long; fails-refused, fails-done, fails-outcome.
+-- Assumes nothing.
+use Rattle.laws.proofs.All.{_≡_, sym, ap, subst, _∙_, List, ℕ, _≤_, arith, length, drop, length-append}
+use Rattle.answer.specs.declared.Answer.{Answer}
+use Rattle.answer.specs.declared.Answer.the-variants.{Done, Refused}
+use Rattle.answer.specs.declared.Refusal.{Refusal}
+use Rattle.answer.specs.Outcomes.{Outcome, done, refused, answerOf, outputOf}
+use Rattle.command_arguments.specs.declared.Status.{Status}
+use Rattle.command_arguments.specs.declared.Status.the-variants.{Failed}
+use Rattle.command_outputs.specs.Results.{Within, Fails}
+
+pub result-within : (o : Outcome (List ℕ)) (a : Answer) (B C : List ℕ) → a ≡ answerOf o → C ≡ outputOf o B → Within a C
+result-within o a B C e w = subst (λ a. Within a C) (sym e) (go o w)
+  where
+    go : (o : Outcome (List ℕ)) → C ≡ outputOf o B → Within (answerOf o) C
+    go (done xs) w = let l = ap length w ∙ length-append xs (drop (length xs) B) in omega arith
+    go (refused r) w = tt
+
+pub front-long : (a : Answer) (xs : List ℕ) (n : ℕ) → Within a xs → a ≡ Done n → n ≤ length xs
+front-long a xs n h e = subst (λ a. Within a xs) e h
+
+pub fails-refused : (a : Answer) (r : Refusal) (s : Status) → a ≡ Refused r → s ≡ Failed → Fails a s
+fails-refused a r s e h = subst (λ a. Fails a s) (sym e) h
+
+pub fails-done : (a : Answer) (n : ℕ) (s : Status) → a ≡ Done n → Fails a s
+fails-done a n s e = subst (λ a. Fails a s) (sym e) tt
+
+-- how a run ends is said of the call's outcome
+pub fails-outcome : (o : Outcome (List ℕ)) (a : Answer) (s : Status) → a ≡ answerOf o → Fails a s → Fails (answerOf o) s
+fails-outcome o a s e = subst (λ a. Fails a s) e

@@ -1,0 +1,71 @@
+// The action that tells how far damage to channel bits reaches.
+ghost use mathlib.Core.Path.{_≡_};
+ghost use Rattle.text.specs.Texts.{Added};
+ghost use Rattle.stream_damage.specs.BitReach.{reachUnder, reachAnswer};
+ghost use Rattle.command_stream.specs.Reaching.{bitsFrom, reachLine};
+use command_arguments::Action;
+use command_arguments::OnStream;
+use command_arguments::Status;
+use command_arguments::under_place;
+use command_inputs::load;
+use command_inputs::number_at;
+use command_messages::refuse;
+use command_messages::system::print;
+use sentences::put_sentence;
+use stream_damage::BitNo;
+use stream_damage::BitRange;
+use stream_damage::BlockRange;
+use stream_damage::ReachAnswer;
+use stream_damage::reach;
+
+// The line of blocks from the first to the last.
+fn put_reach(out: &mut [u8], b: BlockRange) -> usize
+    ensures written { λ e. ⌜ Added (reachLine b) 0 (now (out .entry)) (now (out .exit)) e ⌝ }
+{
+    let f = b.first;
+    let l = b.last;
+    put_sentence(out, 0, b"blocks # to #\n", &[f.0, l.0])
+}
+
+// Prints the line of blocks.
+fn print_reach(b: BlockRange) -> Status {
+    let mut line = [0u8; 64];
+    let n = put_reach(&mut line, b);
+    print(&line[..n])
+}
+
+// The blocks that overwriting channel bits can spoil, under a record.
+fn reach_of(under: &[u8], first: usize, last: usize) -> ReachAnswer
+    ensures answer { λ r. ⌜ r ≡ reachAnswer (reachUnder (now (under .entry)) (bitsFrom first last)) ⌝ }
+{
+    reach(
+        under,
+        BitRange {
+            first: BitNo(first),
+            last: BitNo(last),
+        },
+    )
+}
+
+// reach RECORD FIRST LAST
+pub fn reach_bits() -> Status {
+    let a = Action::Stream(OnStream::Reach);
+    let first = number_at(a, 3);
+    if !first.good {
+        return Status::Misused;
+    }
+    let last = number_at(a, 4);
+    if !last.good {
+        return Status::Misused;
+    }
+    let mut under = [0u8; 3866];
+    let u = load(under_place(a), &mut under);
+    if !u.good {
+        return Status::Failed;
+    }
+    let n = u.size;
+    match reach_of(&under[..n], first.value, last.value) {
+        ReachAnswer::Refused(x) => refuse(x),
+        ReachAnswer::Blocks(b) => print_reach(b),
+    }
+}

@@ -1,0 +1,207 @@
+-- Compiling stage by stage: what each stage of the code needs, and what compiling comes to at each of its returns.
+-- In order: compile-heavy, compile-crowded, compile-table; crowded-stays; weighed-bad, weighed-good; has-states,
+-- held-powers, held-tabled, held-weights, held-component; begun-splits, begun-crowded, begun-room, begun-short,
+-- begun-work, begun-finished.
+-- Assumes nothing.
+use Rattle.laws.proofs.All.{_≡_, sym, ap, ap₂, subst, _∙_, Bool, true, false, not, _&&_, List, ℕ, zero, suc, _+_}
+use Rattle.laws.proofs.All.{_*_, _^_, _≤_, _<_, arith, lt-ltb, le-leb, lt-leb, ltb-false, leb, length, getD}
+use Rattle.laws.proofs.All.{length-map, pow-mono, sum, inl}
+use Rattle.answer.specs.declared.Refusal.{Refusal}
+use Rattle.answer.specs.declared.Refusal.the-variants.{NoCode, TooHeavy, TooManyEdges, NoWindow}
+use Rattle.answer.specs.Outcomes.{done, refused, unless}
+use Rattle.answer.proofs.Outcomes.{unless-false, refused-not}
+use Rattle.answer.proofs.RefusedOutcomes.{refused-inj}
+use Rattle.compile_limits.specs.Weighed.{weighed}
+use Rattle.compile_limits.proofs.Weighed.{weighed-by}
+use Rattle.constraint.specs.Walking.{Target, walk}
+use Rattle.constraint.specs.Value.{constraintOf}
+use Rattle.constraint.specs.PowerTable.{powerCodes, codeOf, powerTable}
+use Rattle.constraint.proofs.Walking.{walk-target}
+use Rattle.constraint.proofs.Values.{length-constraintOf}
+use Rattle.constraint.proofs.PowerTable.{codes-at, length-power}
+use Rattle.table.specs.Rows.{at}
+use Rattle.window.specs.Search.{window}
+use Rattle.compile_graph.specs.declared.Graph.{Graph}
+use Rattle.compile_graph.specs.declared.NextGraph.{NextGraph}
+use Rattle.compile_component.specs.declared.component_graph.ComponentAnswer.{ComponentAnswer}
+use Rattle.compile_graph.specs.Weights.{weights}
+use Rattle.compile_component.specs.ComponentParts.{FoundIn}
+use Rattle.compile_graph.specs.Arcs.{Work}
+use Rattle.compile_graph.specs.Splitting.{crowded, unfinished, splits, splitAll}
+use Rattle.compile_graph.specs.Invariant.{Inv}
+use Rattle.compile_graph.specs.Value.{weightsIn, workIn}
+use Rattle.compile_weights.specs.PowerTable.{tabled, Powers}
+use Rattle.compile_split.specs.SplitParts.{Splits, SplitAllInto}
+use Rattle.compile_table.specs.Finishing.{Finished}
+use Rattle.compile_table.proofs.Finishing.{split-finished}
+use Rattle.compile_weights.proofs.TabledWords.{tabled-power}
+use Rattle.compile_graph.proofs.Loop.{splits-off}
+use Rattle.compile_job.specs.declared.JobValue.{JobValue}
+use Rattle.compile_job.specs.Jobs.{Job, Allowed}
+use Rattle.compile_job.proofs.JobSteps.{unless-yes}
+use Rattle.compile.specs.Compile.{ways, graphOf, weightsOf, componentOf, finishedOf, tableFor, code, compile}
+use Rattle.compile_job.specs.JobValues.{jobIn, JobReady}
+use Rattle.compile.specs.Stages.{Begun}
+use Rattle.compile.proofs.Compiled.{live-some, first-inv}
+use Rattle.compile.proofs.Compile.{ways-pos, compile-none}
+
+-- ---- the outcome at each return
+module _ (j : Job) where
+  module _ (h : 0 < sum (componentOf j .weights)) where
+    pub compile-heavy : 128 < sum (componentOf j .weights) → compile j ≡ refused TooHeavy
+    unfolding compile
+    compile-heavy g = unless-yes NoCode _ _ (lt-ltb _ _ h) ∙ unless-false TooHeavy _ _ (lt-leb _ _ g)
+
+    module _ (l : sum (componentOf j .weights) ≤ 128) where
+      pub compile-crowded : crowded (finishedOf j) ≡ true → compile j ≡ refused TooManyEdges
+      unfolding compile
+      compile-crowded e =
+          unless-yes NoCode _ _ (lt-ltb _ _ h) ∙ unless-yes TooHeavy _ _ (le-leb _ _ l)
+          ∙ unless-false TooManyEdges _ _ (ap not e)
+
+      pub compile-table : crowded (finishedOf j) ≡ false
+          → compile j ≡ unless NoWindow (leb (window (tableFor j) .memory) 15) (done (code j (tableFor j)))
+      unfolding compile
+      compile-table e =
+          unless-yes NoCode _ _ (lt-ltb _ _ h) ∙ unless-yes TooHeavy _ _ (le-leb _ _ l)
+          ∙ unless-yes TooManyEdges _ _ (ap not e)
+
+-- a graph with too many edges is not split
+stays : (k n : ℕ) (x : Work) → crowded x ≡ true → crowded (splits k n x) ≡ true
+unfolding splits
+stays zero n x e = e
+stays (suc k) n x e = ap crowded (splits-off k n x (ap (λ b. not b && unfinished n x) e)) ∙ e
+
+pub crowded-stays : (n : ℕ) (x : Work) → crowded x ≡ true → crowded (splitAll n x) ≡ true
+unfolding splitAll
+crowded-stays n x e = stays (sum (x .weights)) n x e
+
+-- ---- the component's weight and edges
+module _ (j : Job) (total : ℕ) (b : Bool) (e : total ≡ sum (componentOf j .weights)) (q : b ≡ crowded (componentOf j))
+  where
+    pub weighed-bad : (r : Refusal) → weighed total b ≡ refused r → compile j ≡ refused r
+    weighed-bad r =
+        weighed-by total b (λ o. o ≡ refused r → compile j ≡ refused r)
+        (λ z x. compile-none j (sym e ∙ z) ∙ ap refused (refused-inj NoCode r x))
+        (λ h l x. compile-heavy j (omega arith) (omega arith) ∙ ap refused (refused-inj TooHeavy r x))
+        (λ h l c x.
+        compile-crowded j (omega arith) (omega arith) (crowded-stays (ways j) (componentOf j) (sym q ∙ c))
+        ∙ ap refused (refused-inj TooManyEdges r x))
+        (λ h l c x. absurd (refused-not r total (sym x)))
+
+    pub weighed-good : weighed total b ≡ done total
+        → (0 < sum (componentOf j .weights)) × (sum (componentOf j .weights) ≤ 128) × (b ≡ false)
+    weighed-good =
+        weighed-by total b
+        (λ o. o ≡ done total → (0 < sum (componentOf j .weights)) × (sum (componentOf j .weights) ≤ 128) × (b ≡ false))
+        (λ z x. absurd (refused-not NoCode total x))
+        (λ h l x. absurd (refused-not TooHeavy total x))
+        (λ h l c x. absurd (refused-not TooManyEdges total x))
+        (λ h l c x. (omega arith, omega arith, c))
+
+-- ---- the power table of a job
+module _ (j : JobValue) (r : JobReady j) where
+  pub has-states : 0 < j .constraint .states
+  has-states = let k = r .allowed .k₁ in let l = length-constraintOf (j .constraint) in omega arith
+
+  words-few : 2 ^ j .q ≤ 256
+  words-few = let h : 2 ^ j .q ≤ 2 ^ 8 = pow-mono (r .allowed .q₂) in omega arith
+
+  leads : (s w : ℕ) → s < j .constraint .states → w < 2 ^ j .q
+      → getD (powerCodes (constraintOf (j .constraint)) (j .q)) (s * 256 + w) 0
+      ≡ walk (constraintOf (j .constraint)) (j .q) w s
+  leads s w h l =
+      let k = r .limits in
+      codes-at (constraintOf (j .constraint)) (j .q) s w words-few (rw (length-constraintOf (j .constraint)) h)
+      (omega arith) l
+
+  job-powers : Powers (powerCodes (constraintOf (j .constraint)) (j .q)) (2 ^ j .q) (j .constraint .states)
+  job-powers = record {
+    long = length-map (powerTable (constraintOf (j .constraint)) (j .q)) codeOf
+        ∙ length-power (constraintOf (j .constraint)) (j .q);
+    states = r .limits;
+    few = words-few;
+    leads = λ s w h l.
+        let K = length-constraintOf (j .constraint) in
+        let h' : s < length (constraintOf (j .constraint)) = rw K h in
+        subst (λ k. Target k (getD (powerCodes (constraintOf (j .constraint)) (j .q)) (s * 256 + w) 0)) K
+        (subst (Target (length (constraintOf (j .constraint)))) (sym (leads s w h l))
+        (walk-target (constraintOf (j .constraint)) (r .allowed .well) (j .q) w s (inl h')));
+  }
+
+  job-tabled : tabled (powerCodes (constraintOf (j .constraint)) (j .q)) (2 ^ j .q) (j .constraint .states)
+      ≡ graphOf (jobIn j)
+  job-tabled =
+      let c = constraintOf (j .constraint) in
+      let K = length-constraintOf (j .constraint) in
+      ap (tabled (powerCodes c (j .q)) (2 ^ j .q)) (sym K)
+      ∙ tabled-power c (j .q) (powerCodes c (j .q)) (λ s w h l. leads s w (rw K at h) l)
+
+  -- the same of the table that the code holds
+  module _ (P : List ℕ) (words : ℕ) (e : P ≡ powerCodes (constraintOf (j .constraint)) (j .q)) (f : words ≡ 2 ^ j .q)
+    where
+      pub held-powers : Powers P words (j .constraint .states)
+      held-powers =
+          subst (λ X. Powers X words (j .constraint .states)) (sym e)
+          (subst (λ w. Powers (powerCodes (constraintOf (j .constraint)) (j .q)) w (j .constraint .states)) (sym f)
+          job-powers)
+
+      pub held-tabled : tabled P words (j .constraint .states) ≡ graphOf (jobIn j)
+      held-tabled = ap₂ (λ X w. tabled X w (j .constraint .states)) e f ∙ job-tabled
+
+      module _ (n : ℕ) (v : List ℕ) (p : n ≡ ways (jobIn j))
+          (q : v ≡ weights n (j .cap) (j .constraint .states) (tabled P words (j .constraint .states))) where
+        pub held-weights : v ≡ weightsOf (jobIn j)
+        held-weights =
+            q ∙ ap₂ (λ m k. weights m (j .cap) k (tabled P words (j .constraint .states))) p
+            (sym (length-constraintOf (j .constraint)))
+            ∙ ap (weights (ways (jobIn j)) (j .cap) (length (jobIn j .constraint))) held-tabled
+
+        -- THEOREM: the component that the code finds is the job's
+        pub held-component : (x : ComponentAnswer) → FoundIn v (tabled P words (j .constraint .states)) x
+            → FoundIn (weightsOf (jobIn j)) (graphOf (jobIn j)) x
+        held-component x h =
+            subst (λ y. FoundIn y (graphOf (jobIn j)) x) held-weights (subst (λ y. FoundIn v y x) held-tabled h)
+
+-- ---- the component, split to the end
+module _ (j : Job) (a : Allowed j) (n : ℕ) (g : Graph) (start : ℕ) (b : Begun j n g start) where
+  inv : Inv (ways j) (sum (componentOf j .weights)) (componentOf j)
+  inv =
+      let (z, ez) = live-some (j .constraint) (a .well) (ways j) (j .q) (j .cap) (ways-pos j) (b .some) in
+      first-inv (j .constraint) (a .well) (ways j) (j .q) (j .cap) (ways-pos j) z ez
+
+  few : n ≤ 16
+  few = let e = b .count in let h : 2 ^ j .p ≤ 2 ^ 4 = pow-mono (a .p₂) in omega arith
+
+  same : splitAll n (workIn g) ≡ finishedOf j
+  same = ap₂ splitAll (b .count) (b .work)
+
+  pub begun-splits : Splits n g
+  begun-splits = record {
+    fits = b .fits;
+    some = let e = b .count in let h = ways-pos j in omega arith;
+    few = few;
+    inv = subst (λ x. Inv n (sum (x .weights)) x) (sym (b .work))
+        (subst (λ m. Inv m (sum (componentOf j .weights)) (componentOf j)) (sym (b .count)) inv);
+    weighs = subst (λ x. sum (x .weights) ≤ 128) (sym (b .work)) (b .light);
+  }
+
+  module _ (r : NextGraph) (s : SplitAllInto n g r) where
+    pub begun-crowded : r .crowded ≡ true → crowded (finishedOf j) ≡ true
+    begun-crowded e = ap crowded (sym same) ∙ sym (s .crowds) ∙ e
+
+    module _ (e : r .crowded ≡ false) where
+      pub begun-room : crowded (finishedOf j) ≡ false
+      begun-room = ap crowded (sym same) ∙ sym (s .crowds) ∙ e
+
+      pub begun-short : length (finishedOf j .arcs) ≤ 2048
+      begun-short = ltb-false 2048 (length (finishedOf j .arcs)) begun-room
+
+      pub begun-work : workIn (r .graph) ≡ finishedOf j
+      begun-work = s .work e ∙ same
+
+      pub begun-finished : Finished n (r .graph)
+      begun-finished =
+          let p = begun-splits in
+          split-finished n (sum (weightsIn g)) (workIn g) (p .some) few (p .inv)
+          (subst (λ x. 0 < sum (x .weights)) (sym (b .work)) (b .some)) (r .graph) (s .fits e) (s .work e)

@@ -1,0 +1,165 @@
+-- A job read check by check: what reading comes to at each return of the code, and what holds of what is read.
+-- In order: in-range, sized-fits; unless-yes; onward-bad, onward-good; jobOf; missing-count, bad-count, bad-size,
+-- bad-states, good-constraint; lawful-kept; run-length-size, run-length-parameters, run-length-range,
+-- run-length-good; ready-kept.
+-- Assumes nothing.
+use Rattle.laws.proofs.All.{_≡_, refl, sym, ap, ap₂, subst, _∙_, Bool, true, false, _&&_, List, _∷_, map, ℕ, zero}
+use Rattle.laws.proofs.All.{suc, _+_, _*_, _≤_, arith, T, leb, eqb, leb→le, leb-true, eqb-true, length, getD, drop}
+use Rattle.laws.proofs.All.{getD-drop, drop-drop, all, from, range, and→}
+use Rattle.answer.specs.declared.Refusal.{Refusal}
+use Rattle.answer.specs.declared.Refusal.the-variants.{Parameters, States, Length}
+use Rattle.answer.specs.declared.Verdict.{Verdict}
+use Rattle.answer.specs.declared.Verdict.the-variants.{Good, Bad}
+use Rattle.answer.specs.Outcomes.{Outcome, done, refused, unless, onward, verdictOn}
+use Rattle.answer.proofs.Outcomes.{unless-false, said-good}
+use Rattle.constraint.specs.Walking.{NextStates, runLength, Lawful}
+use Rattle.constraint.specs.declared.Constraint.{Constraint}
+use Rattle.constraint.specs.Value.{constraintOf}
+use Rattle.constraint.proofs.Values.{length-constraintOf}
+use Rattle.table.specs.Formed.{goodNext}
+use Rattle.table.proofs.ReadyTables.{all-map}
+use Rattle.compile_job.specs.declared.JobValue.{JobValue}
+use Rattle.compile_job.specs.declared.JobAnswer.{JobAnswer}
+use Rattle.compile_job.specs.declared.ConstraintAnswer.{ConstraintAnswer}
+use Rattle.compile_job.specs.Jobs.{Job, goodParameters, statesOf, constraintFrom, readRunLength, Allowed}
+use Rattle.compile_job.specs.JobValues.{jobIn, JobReady, jobOutcome, stateAt, goodStateAt, sized}
+use Rattle.compile_job.specs.JobValues.{constraintOutcome}
+use Rattle.compile_job.proofs.Constraints.{checked, from-checked, constraintFrom-lawful}
+
+pub in-range : (low x high : ℕ) → (leb low x && leb x high) ≡ true → (low ≤ x) × (x ≤ high)
+in-range low x high e =
+    let (a, b) = and→ (leb low x) (leb x high) (subst T (sym e) tt) in
+    (leb→le low x a, leb→le x high b)
+
+pub sized-fits : (whole : Bool) (m n : ℕ) → sized whole m n ≡ true → m ≤ n
+sized-fits true m n e = omega (arith, eqb-true m n e)
+sized-fits false m n e = leb-true m n e
+
+-- ---- one check
+pub unless-yes : {A : Type 0} (r : Refusal) (b : Bool) (x : Outcome A) → b ≡ true → unless r b x ≡ x
+unless-yes r b x e = ap (λ c. unless r c x) e
+
+-- ---- a value that goes on with what was said of it
+module _ {A B : Type 0} (v : Verdict) (a : A) (f : A → Outcome B) where
+  pub onward-bad : (r : Refusal) → v ≡ Bad r → onward (verdictOn v a) f ≡ refused r
+  onward-bad r q = ap (λ v. onward (verdictOn v a) f) q
+
+  pub onward-good : v ≡ Good → onward (verdictOn v a) f ≡ f a
+  onward-good q = ap (λ v. onward (verdictOn v a) f) q
+
+-- the job with these fields
+abbrev pub jobOf : ℕ → ℕ → ℕ → Constraint → JobValue
+jobOf p q cap k = record { p = p; q = q; cap = cap; constraint = k }
+
+-- ---- the states in a constraint's bytes
+states-from : (K i : ℕ) (ys : List ℕ) → statesOf K (drop (1 + i * 2) ys) ≡ map (stateAt ys) (from i K)
+states-from zero i ys = refl
+states-from (suc K) i ys =
+    let one : 1 + i * 2 + 1 ≡ 2 + i * 2 = omega arith in
+    let zero' : 1 + i * 2 + 0 ≡ 1 + i * 2 = omega arith in
+    let more : 1 + i * 2 + 2 ≡ 1 + suc i * 2 = omega arith in
+    let ys' = drop (1 + i * 2) ys in
+    let state : _≡_ {A = NextStates} (record { zero = getD ys' 0 0; one = getD ys' 1 0 }) (stateAt ys i) =
+    ap₂ {C = NextStates} (λ z o. record { zero = z; one = o })
+    (getD-drop (1 + i * 2) ys 0 0 ∙ ap (λ k. getD ys k 0) zero')
+    (getD-drop (1 + i * 2) ys 1 0 ∙ ap (λ k. getD ys k 0) one) in
+    ap₂ _∷_ state (ap (statesOf K) (drop-drop 2 (1 + i * 2) ys ∙ ap (λ k. drop k ys) more) ∙ states-from K (suc i) ys)
+
+statesOf-is : (K : ℕ) (ys : List ℕ) → statesOf K (drop 1 ys) ≡ map (stateAt ys) (range K)
+statesOf-is K ys = states-from K 0 ys
+
+states-test : (K : ℕ) (ys : List ℕ) → all (goodNext K) (statesOf K (drop 1 ys)) ≡ all (goodStateAt ys K) (range K)
+states-test K ys = ap (all (goodNext K)) (statesOf-is K ys) ∙ all-map (goodNext K) (stateAt ys) (range K)
+
+-- ---- a constraint
+module _ (fits : ℕ → ℕ → Bool) (ys : List ℕ) where
+  pub missing-count : leb 1 (length ys) ≡ false → constraintFrom fits ys ≡ refused Length
+  missing-count e = from-checked fits ys ∙ unless-false Length (leb 1 (length ys)) _ e
+
+  module _ (e₀ : leb 1 (length ys) ≡ true) where
+    counted : constraintFrom fits ys
+        ≡ checked (fits (1 + 2 * getD ys 0 0) (length ys)) (getD ys 0 0) (statesOf (getD ys 0 0) (drop 1 ys))
+    counted = from-checked fits ys ∙ unless-yes Length (leb 1 (length ys)) _ e₀
+
+    pub bad-count : (leb 1 (getD ys 0 0) && leb (getD ys 0 0) 16) ≡ false → constraintFrom fits ys ≡ refused States
+    bad-count e = counted ∙ unless-false States _ _ e
+
+    module _ (e₁ : (leb 1 (getD ys 0 0) && leb (getD ys 0 0) 16) ≡ true) where
+      pub bad-size : fits (1 + 2 * getD ys 0 0) (length ys) ≡ false → constraintFrom fits ys ≡ refused Length
+      bad-size e = counted ∙ unless-yes States _ _ e₁ ∙ unless-false Length _ _ e
+
+      module _ (e₂ : fits (1 + 2 * getD ys 0 0) (length ys) ≡ true) where
+        fitted : constraintFrom fits ys
+            ≡ unless States (all (goodNext (getD ys 0 0)) (statesOf (getD ys 0 0) (drop 1 ys)))
+            (done (statesOf (getD ys 0 0) (drop 1 ys)))
+        fitted = counted ∙ unless-yes States _ _ e₁ ∙ unless-yes Length _ _ e₂
+
+        pub bad-states : all (goodStateAt ys (getD ys 0 0)) (range (getD ys 0 0)) ≡ false
+            → constraintFrom fits ys ≡ refused States
+        bad-states e = fitted ∙ unless-false States _ _ (states-test (getD ys 0 0) ys ∙ e)
+
+        -- THEOREM: the constraint that is read
+        pub good-constraint : all (goodStateAt ys (getD ys 0 0)) (range (getD ys 0 0)) ≡ true
+            → (k : Constraint) → constraintOf k ≡ map (stateAt ys) (range (getD ys 0 0))
+            → constraintFrom fits ys ≡ done (constraintOf k)
+        good-constraint e k s =
+            fitted ∙ unless-yes States _ _ (states-test (getD ys 0 0) ys ∙ e)
+            ∙ ap done (statesOf-is (getD ys 0 0) ys ∙ sym s)
+
+-- a constraint beside the verdict `Good` is lawful
+pub lawful-kept : (fits : ℕ → ℕ → Bool) (ys : List ℕ) (r : ConstraintAnswer)
+    → constraintOutcome r ≡ constraintFrom fits ys
+    → (constraintOutcome r ≡ constraintFrom fits ys) × (r .verdict ≡ Good → Lawful (constraintOf (r .constraint)))
+lawful-kept fits ys r e = (
+  e,
+  λ g. constraintFrom-lawful fits ys (constraintOf (r .constraint))
+      (said-good (r .verdict) (constraintOf (r .constraint)) (constraintFrom fits ys) e g),
+)
+
+-- ---- a run-length job
+module _ (xs : List ℕ) where
+  pub run-length-size : eqb (length xs) 5 ≡ false → readRunLength xs ≡ refused Length
+  unfolding readRunLength
+  run-length-size e = unless-false Length _ _ e
+
+  module _ (e₀ : eqb (length xs) 5 ≡ true) where
+    five : readRunLength xs ≡ unless Parameters (goodParameters (getD xs 2 0) (getD xs 3 0) (getD xs 4 0))
+        (unless States (leb (getD xs 0 0) (getD xs 1 0) && leb (getD xs 1 0) 15)
+        (done (record {
+          p = getD xs 2 0;
+          q = getD xs 3 0;
+          cap = getD xs 4 0;
+          constraint = runLength (getD xs 0 0) (getD xs 1 0);
+        })))
+    unfolding readRunLength
+    five = unless-yes Length _ _ e₀
+
+    pub run-length-parameters : goodParameters (getD xs 2 0) (getD xs 3 0) (getD xs 4 0) ≡ false
+        → readRunLength xs ≡ refused Parameters
+    run-length-parameters e = five ∙ unless-false Parameters _ _ e
+
+    module _ (e₁ : goodParameters (getD xs 2 0) (getD xs 3 0) (getD xs 4 0) ≡ true) where
+      pub run-length-range : (leb (getD xs 0 0) (getD xs 1 0) && leb (getD xs 1 0) 15) ≡ false
+          → readRunLength xs ≡ refused States
+      run-length-range e = five ∙ unless-yes Parameters _ _ e₁ ∙ unless-false States _ _ e
+
+      -- THEOREM: the run-length job that is read
+      pub run-length-good : (leb (getD xs 0 0) (getD xs 1 0) && leb (getD xs 1 0) 15) ≡ true
+          → (k : Constraint) → constraintOf k ≡ runLength (getD xs 0 0) (getD xs 1 0)
+          → readRunLength xs ≡ done (jobIn (jobOf (getD xs 2 0) (getD xs 3 0) (getD xs 4 0) k))
+      run-length-good e k s =
+          five ∙ unless-yes Parameters _ _ e₁ ∙ unless-yes States _ _ e
+          ∙ ap (λ c. done (record { p = getD xs 2 0; q = getD xs 3 0; cap = getD xs 4 0; constraint = c })) (sym s)
+
+-- ---- a job that is read
+-- a job beside the verdict `Good` is ready to be compiled, where those that are read are allowed
+pub ready-kept : (r : JobAnswer) (o : Outcome Job) → jobOutcome r ≡ o → ((j : Job) → o ≡ done j → Allowed j)
+    → (jobOutcome r ≡ o) × (r .verdict ≡ Good → JobReady (r .job))
+ready-kept r o e f = (e, ready)
+  where
+    ready : r .verdict ≡ Good → JobReady (r .job)
+    ready g =
+        let j = r .job in
+        let a = f (jobIn j) (said-good (r .verdict) (jobIn j) o e g) in
+        let l : length (jobIn j .constraint) ≡ j .constraint .states = length-constraintOf (j .constraint) in
+        record { allowed = a; limits = rw l at (a .k₂) }

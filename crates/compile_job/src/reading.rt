@@ -1,0 +1,205 @@
+// Jobs of all kinds, read from bytes with their refusals.
+ghost use mathlib.Core.Path.{_≡_};
+ghost use Prim.Native.Nat.{_+_, _*_, _≤_, min};
+ghost use lib.ListN.{length, getD};
+ghost use Rattle.answer.specs.Outcomes.{refused, done, onward, verdictOn};
+ghost use Rattle.answer.specs.declared.Verdict.the-variants.{Good};
+ghost use Rattle.constraint.specs.Walking.{Lawful};
+ghost use Rattle.constraint.specs.Value.{constraintOf};
+ghost use Rattle.compile_job.specs.Jobs.{goodParameters, readJob, readRunLength, readJoined};
+ghost use Rattle.compile_job.specs.Jobs.{fronted, jobWith, joinedJob};
+ghost use Rattle.compile_job.specs.JobValues.{jobOutcome, constraintOutcome, JobReady};
+use crate::ConstraintAnswer;
+use crate::JobAnswer;
+use crate::JobValue;
+use crate::rules::between;
+use crate::rules::read_constraint;
+use answer::Refusal;
+use answer::Verdict;
+use constraint::Constraint;
+use constraint::runs::run_length;
+use joining::join;
+
+// A refusal, beside a job that asks for nothing.
+fn declined(r: Refusal) -> JobAnswer
+    ensures answer { λ x. ⌜ jobOutcome x ≡ refused r ⌝ }
+{
+    let constraint = Constraint {
+        states: 0,
+        zero: [0u8; 16],
+        one: [0u8; 16],
+    };
+    let job = JobValue {
+        p: 0,
+        q: 0,
+        cap: 0,
+        constraint: constraint,
+    };
+    JobAnswer {
+        verdict: Verdict::Bad(r),
+        job: job,
+    }
+}
+
+// Whether p, q and cap are in range: otherwise refusal 1.
+fn good_parameters(p: usize, q: usize, cap: usize) -> bool
+    ensures answer { λ r. ⌜ r ≡ goodParameters p q cap ⌝ }
+{
+    if !between(p, 1, 4) {
+        return false;
+    }
+    if !between(q, 1, 8) {
+        return false;
+    }
+    between(cap, 1, 16)
+}
+
+// The front of a job that holds p, q and cap: "8 below four bytes, 1".
+fn front_verdict(bytes: &[u8]) -> Verdict
+    ensures answer { λ r. ⌜
+        verdictOn r (now (bytes .entry)) ≡ fronted (now (bytes .entry)) (done (now (bytes .entry))) ⌝ }
+{
+    if bytes.len() < 4 {
+        return Verdict::Bad(Refusal::Length);
+    }
+    if !good_parameters(bytes[0] as usize, bytes[1] as usize, bytes[2] as usize) {
+        return Verdict::Bad(Refusal::Parameters);
+    }
+    Verdict::Good
+}
+
+// The job with p, q and cap in front of its bytes.
+fn job_with(bytes: &[u8], c: Constraint) -> JobAnswer
+    requires { ⌜ 4 ≤ length (now bytes) ⌝ }
+    ensures answer { λ r. ⌜ jobOutcome r ≡ done (jobWith (now (bytes .entry)) (constraintOf c)) ⌝ }
+{
+    let job = JobValue {
+        p: bytes[0] as usize,
+        q: bytes[1] as usize,
+        cap: bytes[2] as usize,
+        constraint: c,
+    };
+    JobAnswer {
+        verdict: Verdict::Good,
+        job: job,
+    }
+}
+
+// The job of a constraint that was read.
+fn job_of(bytes: &[u8], r: ConstraintAnswer) -> JobAnswer
+    requires { ⌜ 4 ≤ length (now bytes) ⌝ }
+    ensures answer { λ x. ⌜ jobOutcome x
+        ≡ onward (constraintOutcome r) (λ c. done (jobWith (now (bytes .entry)) c)) ⌝ }
+{
+    let v = r.verdict;
+    let c = r.constraint;
+    match v {
+        Verdict::Bad(x) => declined(x),
+        Verdict::Good => job_with(bytes, c),
+    }
+}
+
+// The job that bytes hold, or the refusal: "8 below four bytes, 1, K by 2, 8, next states by 2".
+pub fn read_job(bytes: &[u8]) -> JobAnswer
+    ensures answer { λ r. ⌜ jobOutcome r ≡ readJob (now (bytes .entry)) ⌝ }
+    ensures kept { λ r. ⌜ (r .verdict ≡ Good → JobReady (r .job)) ⌝ }
+{
+    match front_verdict(bytes) {
+        Verdict::Bad(r) => declined(r),
+        Verdict::Good => job_of(bytes, read_constraint(&bytes[3..], true)),
+    }
+}
+
+// Where the second constraint of a joined job starts: behind as many states as the first says, within the bytes.
+fn second_start(bytes: &[u8]) -> usize
+    requires { ⌜ 4 ≤ length (now bytes) ⌝ }
+    ensures answer { λ r. ⌜
+        r ≡ min (4 + 2 * getD (now (bytes .entry)) 3 0) (length (now (bytes .entry))) ⌝ }
+{
+    let start = 4 + 2 * (bytes[3] as usize);
+    if start < bytes.len() {
+        return start;
+    }
+    bytes.len()
+}
+
+// The job of two lawful constraints, or 14.
+fn join_job(bytes: &[u8], c: Constraint, d: Constraint) -> JobAnswer
+    requires { ⌜ (4 ≤ length (now bytes)) × Lawful (constraintOf c) × Lawful (constraintOf d) ⌝ }
+    ensures answer { λ r. ⌜ jobOutcome r ≡ joinedJob (now (bytes .entry)) (constraintOf c) (constraintOf d) ⌝ }
+{
+    let j = join(c, d);
+    if !j.few {
+        return declined(Refusal::TooManyPairs);
+    }
+    let both = j.constraint;
+    job_with(bytes, both)
+}
+
+// The job of the two constraints that were read: the first one's refusal comes before the second's.
+fn join_read(bytes: &[u8], first: ConstraintAnswer, second: ConstraintAnswer) -> JobAnswer
+    requires { ⌜ (4 ≤ length (now bytes)) × (first .verdict ≡ Good → Lawful (constraintOf (first .constraint)))
+        × (second .verdict ≡ Good → Lawful (constraintOf (second .constraint))) ⌝ }
+    ensures answer { λ r. ⌜ jobOutcome r ≡ onward (constraintOutcome first)
+        (λ c. onward (constraintOutcome second) (joinedJob (now (bytes .entry)) c)) ⌝ }
+{
+    let v = first.verdict;
+    let w = second.verdict;
+    let c = first.constraint;
+    let d = second.constraint;
+    match v {
+        Verdict::Bad(r) => declined(r),
+        Verdict::Good => match w {
+            Verdict::Bad(r) => declined(r),
+            Verdict::Good => join_job(bytes, c, d),
+        },
+    }
+}
+
+// The job of two constraints that bytes hold, or the refusal: "8 below four bytes, 1, then for each constraint 8 for a
+// missing K, K by 2, 8, next states by 2", and 14.
+pub fn read_joined(bytes: &[u8]) -> JobAnswer
+    ensures answer { λ r. ⌜ jobOutcome r ≡ readJoined (now (bytes .entry)) ⌝ }
+    ensures kept { λ r. ⌜ (r .verdict ≡ Good → JobReady (r .job)) ⌝ }
+{
+    match front_verdict(bytes) {
+        Verdict::Bad(r) => declined(r),
+        Verdict::Good => {
+            let first = read_constraint(&bytes[3..], false);
+            let start = second_start(bytes);
+            let second = read_constraint(&bytes[start..], true);
+            join_read(bytes, first, second)
+        }
+    }
+}
+
+// The job that the bytes d, k, p, q, cap hold, or the refusal: "8, 1, 2".
+pub fn read_run_length(bytes: &[u8]) -> JobAnswer
+    ensures answer { λ r. ⌜ jobOutcome r ≡ readRunLength (now (bytes .entry)) ⌝ }
+    ensures kept { λ r. ⌜ (r .verdict ≡ Good → JobReady (r .job)) ⌝ }
+{
+    if bytes.len() != 5 {
+        return declined(Refusal::Length);
+    }
+    let p = bytes[2] as usize;
+    let q = bytes[3] as usize;
+    let cap = bytes[4] as usize;
+    if !good_parameters(p, q, cap) {
+        return declined(Refusal::Parameters);
+    }
+    let d = bytes[0] as usize;
+    let k = bytes[1] as usize;
+    if !between(k, d, 15) {
+        return declined(Refusal::States);
+    }
+    let job = JobValue {
+        p: p,
+        q: q,
+        cap: cap,
+        constraint: run_length(d, k),
+    };
+    JobAnswer {
+        verdict: Verdict::Good,
+        job: job,
+    }
+}
