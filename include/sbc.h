@@ -4,7 +4,7 @@
  * the number is 0 the pointer may be NULL: no byte is read or written there. The bytes of `out` lie apart from those
  * that the call reads: no byte is in both. Nothing is kept after a call and nothing is allocated, so calls may run at
  * the same time on different outputs. A call takes less than 128 KB of stack (measured on x86-64 by `bench/run stack`;
- * compiling takes most).
+ * the listing takes most, then reading streams).
  *
  * Every call but sbc_version answers one number, the refusal times 2^56 plus a value; take it apart by `sbc_refusal`
  * and `sbc_value`. Refusal 0 is a result. The value of a result is written at each call. The value of a refusal is 0,
@@ -58,9 +58,9 @@ enum {
     SBC_INFO = 8,
     /* Room for the words of every refusal. */
     SBC_PHRASE_MAX = 60,
-    /* The blocks that stand where no edge reads the words; no datum has these values. The first: the words up to and
-     * with the block's own are no path through the code, so this word or one before it is bad. The second: they are
-     * one, but not with the a words ahead, so one of all these is bad. With lookahead 0 the second never comes. */
+    /* The blocks that stand where no edge reads the words; no datum has these values. The first: no path through
+     * the code has the words up to and with the block's own, so this word or one before it is bad. The second: one has,
+     * but none has the a words ahead too, so one of all these is bad. With lookahead 0 the second never comes. */
     SBC_MARK_BEFORE = 254,
     SBC_MARK_AHEAD = 255,
     /* The longest job: p, q, cap, K, and two bytes for each of 16 states. */
@@ -74,7 +74,7 @@ enum {
     SBC_RECORD_MAX = (34 + 16 * 2 * (1 + 4) + 128 * 16 * (8 + 7) + 7) / 8,
     /* The most words that a recording has beyond its blocks: N blocks give N + a words, and a is at most 15. */
     SBC_LOOKAHEAD_MAX = 15,
-    /* The longest set: the count, and 255 of the longest records behind their lengths. */
+    /* The longest set: the count, and 255 of the longest records, each after its length. */
     SBC_SET_MAX = 1 + 255 * (2 + SBC_RECORD_MAX),
     /* Room for every listing, by the theorem `max-record`: 20 bytes for the first line and 21 for each of 128 * 16
      * others. */
@@ -95,7 +95,7 @@ static inline uint64_t sbc_value(uint64_t answer)
 
 /* Compiles a job to a record. Since version 1.1.0 the tables of all three calls that compile carry other data than
  * before, and since version 2.0.0 a record states its tail datum: the compiler writes 0, and sbc_with_tail another. A
- * record of an older version is no longer read: it lacks the 4 bits behind the constraint start.
+ * record of an older version is no longer read: it lacks the 4 bits after the constraint start.
  * job: p (1 to 4), q (1 to 8), cap (1 to 16), K (1 to 16), then for each of K states the next states for channel bits
  * 0 and 1, with 255 for none.
  * out: the packed record; SBC_RECORD_MAX bytes are always enough. It lies apart from job.
@@ -145,6 +145,8 @@ uint64_t sbc_encode(const uint8_t *record, uint64_t record_length, const uint8_t
  * A bad word at i can spoil blocks i - a to i + m and no others: that is what is promised. Blocks out of this reach show
  * neither mark. A spoiled block may be wrong without a mark: marks are a hint, and no mark is no promise. Put a checksum
  * over the data.
+ * A recording can be read in pieces. To get blocks x to y, x at least m, hand over words x - m to y + a and drop the
+ * first m blocks of the result; the others are those that the whole recording gives.
  * Answers how many blocks were written.
  * Refusals in order: those of sbc_check; 12; 13; 11 with the place of the first bad word. */
 uint64_t sbc_decode(const uint8_t *record, uint64_t record_length, const uint8_t *words, uint64_t words_length,
@@ -200,8 +202,7 @@ uint64_t sbc_decode_stream(const uint8_t *record, uint64_t record_length, uint64
  * out: word j of recording r at place j x depth + r, all counted from 0; words_length bytes are enough. It lies apart
  * from words.
  * Overwriting at most depth neighbouring places of woven recordings with words below 2^q touches at most one word of
- * each recording, so in each at most m + a + 1 blocks can come out otherwise than written when it is unwoven and
- * decoded. Lost or added words are outside this, since they shift every recording: nothing is promised of them.
+ * each recording, so in each at most m + a + 1 blocks can be wrong when it is unwoven and decoded. Lost or added words are outside this, since they shift every recording: nothing is promised of them.
  * Answers how many words were written: words_length.
  * Refusals in order: 16 for a depth that is not 2 to 16, or does not divide words_length; 13. */
 uint64_t sbc_weave(uint64_t depth, const uint8_t *words, uint64_t words_length, uint8_t *out, uint64_t out_length);
@@ -212,7 +213,7 @@ uint64_t sbc_weave(uint64_t depth, const uint8_t *words, uint64_t words_length, 
  * out: the recordings one after the other, words_length / depth words each: word j of recording r is the one at place
  * j x depth + r; words_length bytes are enough. It lies apart from words.
  * Where at most depth neighbouring places were overwritten with words below 2^q, at most one word of each recording is
- * not as it was woven, and sbc_decode gives each with at most m + a + 1 blocks otherwise than written.
+ * not as it was woven, and sbc_decode gives each with at most m + a + 1 wrong blocks.
  * Answers how many words were written: words_length.
  * Refusals in order: 16 for a depth that is not 2 to 16, or does not divide words_length; 13. */
 uint64_t sbc_unweave(uint64_t depth, const uint8_t *words, uint64_t words_length, uint8_t *out, uint64_t out_length);
@@ -251,7 +252,7 @@ uint64_t sbc_with_tail(const uint8_t *record, uint64_t record_length, uint64_t d
                        uint64_t out_length);
 
 /* Checks a set of records.
- * set: one count byte, then each record behind a two-byte length, most significant byte first.
+ * set: one count byte, then each record after a two-byte length, most significant byte first.
  * Answers how many records the set has.
  * Refusals in order, the value being the record's number: 8 with 0 for no bytes at all; then, record by record, 8 if
  * its length or bytes are cut off, else those of sbc_check; last 8, with the count, for bytes left over. */
@@ -268,7 +269,7 @@ uint64_t sbc_listing(const uint8_t *job, uint64_t job_length, uint8_t *out, uint
 /* Tells a refusal in words, one wording a refusal.
  * refusal: its number, as sbc_refusal gives it.
  * out: the words; SBC_PHRASE_MAX bytes are always enough. No zero byte ends them. The words of 11 end with "at place "
- * and the place, which is the answer's value, belongs behind them. There are none for 0 and for a number that is no
+ * and the place, which is the answer's value, belongs after them. There are none for 0 and for a number that is no
  * refusal.
  * Answers how many bytes were written.
  * Refusal: 13. */
