@@ -202,7 +202,8 @@ uint64_t sbc_decode_stream(const uint8_t *record, uint64_t record_length, uint64
  * out: word j of recording r at place j x depth + r, all counted from 0; words_length bytes are enough. It lies apart
  * from words.
  * Overwriting at most depth neighbouring places of woven recordings with words below 2^q touches at most one word of
- * each recording, so in each at most m + a + 1 blocks can be wrong when it is unwoven and decoded. Lost or added words are outside this, since they shift every recording: nothing is promised of them.
+ * each recording, so in each at most m + a + 1 blocks can be wrong when it is unwoven and decoded. Lost or added words
+ * are outside this, since they shift every recording: nothing is promised of them.
  * Answers how many words were written: words_length.
  * Refusals in order: 16 for a depth that is not 2 to 16, or does not divide words_length; 13. */
 uint64_t sbc_weave(uint64_t depth, const uint8_t *words, uint64_t words_length, uint8_t *out, uint64_t out_length);
