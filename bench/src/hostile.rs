@@ -39,7 +39,7 @@ fn telling(x: usize, d: usize) -> (usize, usize) {
 
 /// 97 states write word 255 for all data, and 16 then tell which datum it was: accepted. Word 255 stands on 1,567 of
 /// the 2,048 entries. States 1 to 15 are a chain that nothing else enters, so that the pairs of states with equal
-/// words behind them grow fewer for 15 words. State 31 enters the chain of states 16 to 30 at two places, for two
+/// words before them grow fewer for 15 words. State 31 enters the chain of states 16 to 30 at two places, for two
 /// data with one word, and which it was may show no sooner than 15 words later.
 pub fn late_words() -> Record {
     record(128, [4, 8, 16], |s, d| match (s, d) {
@@ -68,7 +68,7 @@ fn parts(s: usize) -> [usize; 3] {
 /// The slowest accepted record that was found for sets of pairs as bits. The place goes on by one with each block
 /// until it is 15, where the words are others; at 0 it goes on for half of the data, which does not show. So any two
 /// states with different places may have equal words before them, but 15 at the most. Nearly any two states have
-/// equal words behind them: the word says which bit comes at a place from 2 on; but word 0 leaves the bit of copy 0
+/// equal words after them: the word says which bit comes at a place from 2 on; but word 0 leaves the bit of copy 0
 /// from place 3 on, so that with each of 14 words one pair of states goes.
 pub fn long_pairs() -> Record {
     record(128, [4, 8, 16], |s, d| {
@@ -87,7 +87,7 @@ pub fn long_pairs() -> Record {
 }
 
 /// 64 times 2 states, each with all words from 0 to 15 for other data than its neighbour: refused with 10, as late as
-/// can be. The word says which of two states comes, so that nearly any two have equal words behind them and before
+/// can be. The word says which of two states comes, so that nearly any two have equal words after them and before
 /// them; but word 0 does not from 1 to 31, so that with each of 31 words one pair of states goes.
 pub fn turned_pairs() -> Record {
     record(128, [4, 8, 16], |s, d| {

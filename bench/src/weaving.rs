@@ -124,7 +124,7 @@ impl Scratches {
 
     /// Some recordings of random blocks under an accepted record, woven, and at most as many neighbouring places as
     /// there are recordings overwritten with words below 2^q: in each at most one word, and at most m + a + 1 blocks,
-    /// are otherwise than written.
+    /// differ from what was written.
     pub fn one(&mut self, numbers: &mut Numbers, record: &[u8]) -> u64 {
         let mut info = [0; 8];
         assert_eq!(library::info(record, &mut info), (0, 8));
@@ -148,7 +148,7 @@ impl Scratches {
         let recordings: u64 = self.tallies.iter().map(|tally| tally.recordings).sum();
         print!("{} scratches of up to D words across D woven recordings, {} of exactly D, ", self.tried, self.whole);
         println!("{} from the first place, {} to the last", self.first, self.last);
-        println!("{recordings} recordings decoded, in none more than m + a + 1 blocks otherwise than written:");
+        println!("{recordings} recordings decoded, in none do more than m + a + 1 blocks differ from the data written:");
         for (bound, tally) in self.tallies.iter().enumerate().filter(|(_, tally)| tally.recordings > 0) {
             let Tally { recordings, most, reached } = tally;
             println!("  m + a + 1 = {bound}: {recordings} recordings, most {most}, as many as the bound in {reached}");
