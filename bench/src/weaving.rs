@@ -148,7 +148,7 @@ impl Scratches {
         let recordings: u64 = self.tallies.iter().map(|tally| tally.recordings).sum();
         print!("{} scratches of up to D words across D woven recordings, {} of exactly D, ", self.tried, self.whole);
         println!("{} from the first place, {} to the last", self.first, self.last);
-        println!("{recordings} recordings decoded, in none do more than m + a + 1 blocks differ from the data written:");
+        println!("{recordings} recordings decoded, at most m + a + 1 blocks of each not as written:");
         for (bound, tally) in self.tallies.iter().enumerate().filter(|(_, tally)| tally.recordings > 0) {
             let Tally { recordings, most, reached } = tally;
             println!("  m + a + 1 = {bound}: {recordings} recordings, most {most}, as many as the bound in {reached}");
