@@ -1,5 +1,6 @@
 -- "Recording and decoding": the reading rule and decoding. What recording is stands with the table's paths.
--- In order: readings; someEdge, markBefore, markAhead, markFor, the marks; reading; past, block, decode.
+-- In order: readingsOf, readings, the data that the rule can read; someEdge, markBefore, markAhead, markFor, the
+-- marks; reading; past, block, decode.
 -- Assumes nothing.
 use mathlib.Core.Bool.{Bool, _&&_}
 use mathlib.Core.List.{List, map}

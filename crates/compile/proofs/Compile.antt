@@ -1,6 +1,6 @@
 -- The outcomes of compiling, each with its reason; and "no code" is said exactly when there is none.
--- In order: Reason, reason; ways-pos, job-inv; weighs-nothing, no-vector, vector-none; compile-none, no-code-exact;
--- greatest-vector.
+-- In order: Reason, reason; ways-pos, job-inv; weights-vector, the weights meet the inequality; greatest-vector;
+-- weighs-nothing, nothing-weighs, all weights 0 in the component and everywhere; compile-none, no-code-exact.
 -- Assumes nothing.
 use Rattle.laws.proofs.All.{le-ltb, lt-ltb, lt-leb, le-leb, _≡_, subst, _∙_, _↔_, List, ℕ, _≤_, _<_, arith, decLt}
 use Rattle.laws.proofs.All.{ltb, pow-pos, le-of-eq, length, getD, List·getD-eq-default, sum, tot-zero, tot-eq}

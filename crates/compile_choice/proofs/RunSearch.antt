@@ -1,6 +1,6 @@
 -- The search for a run: sums of stretches, from the last place back.
--- In order: Summed, what holds after i places; summed-more; run-found, run-none; first-found,
--- first-nowhere.
+-- In order: stretchSum; Summed, what holds after i places; total-is; stretch-more, stretch-small, summed-more, one
+-- place more; run-found, run-none; Without, without-more, no run so far; first-found, first-nowhere.
 -- Assumes nothing.
 use Rattle.laws.proofs.All.{_≡_, refl, sym, ap, _∙_, false, List, [], _∷_, map, ℕ, suc, _+_, _-_, _*_, _%_, _≤_}
 use Rattle.laws.proofs.All.{_<_, add-one, arith, below-more, eq-eqb, ne-eqb, length, getD, take, drop, length-map}

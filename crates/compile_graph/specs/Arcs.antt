@@ -1,7 +1,7 @@
 -- The graph in work, as a flat list of edges in the order in which they were made, and the graph of words of a
 -- constraint.
--- In order: Arc, an edge of the graph in work; Work; leaves, enters, out; wordFrom, wordsFrom, leadsOn, power; Reads,
--- what an edge of it says.
+-- In order: Arc, an edge of the graph in work, and arc, one by its parts; Work; leaves, enters, out; wordFrom,
+-- wordsFrom, leadsOn, power; Reads, what an edge of it says.
 -- Assumes nothing.
 use mathlib.Core.Path.{_≡_}
 use mathlib.Core.Bool.{Bool, not}

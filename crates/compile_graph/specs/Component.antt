@@ -1,6 +1,6 @@
 -- "Component" (in the field: an irreducible sink component of the graph on the states of weight above 0).
--- In order: leadsInto, withSources, reaching, reachings, reaches; both, within, renamed, renumbered; returns,
--- returning, component; weighs, live; componentStates, componentGraph.
+-- In order: leadsInto, reachesInto, withSources, reaching, reachings, reaches; both, within, renamed, renumbered;
+-- returns, returning, component; weighs, live; componentStates, weightOf, componentGraph.
 -- Assumes nothing.
 use mathlib.Core.Bool.{Bool, not, _&&_, _||_}
 use mathlib.Core.List.{List, [], map}

@@ -1,7 +1,7 @@
 -- "Splitting, while some state has fewer than n edges out."
 -- In order: earlier, insert, sort; same, among; greatest, lighter, splittable, chosen; other, candidates; stretch,
--- runs, divisible, firstRun, kept; moved, redirected, doubled, parted; split; fewEdges, unfinished, crowded, goesOn,
--- splits, splitAll.
+-- runsTo, runs, divisible, firstRun, kept; moved, redirected, doubled, parted; split; fewEdges, unfinished, crowded,
+-- goesOn, splits, splitAll.
 -- Assumes nothing.
 use mathlib.Core.Bool.{Bool, true, false, not, _&&_, _||_}
 use mathlib.Core.List.{List, [], _∷_, _++_, map}

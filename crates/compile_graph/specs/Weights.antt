@@ -1,6 +1,6 @@
 -- "Weights" (in the field: an approximate eigenvector of the graph of words).
--- In order: wordsBetween, A(s, t); product, A v; Enough, the inequality; AtMost, the order of vectors; lower, lowered,
--- weights; weight and total, the weights to which edges lead.
+-- In order: wordsBetween, A(s, t); term, product, A v; Enough, the inequality; AtMost, the order of vectors; lower,
+-- lowered, weights; weight and total, the weights to which edges lead.
 -- Assumes nothing.
 use mathlib.Core.List.{List, map}
 use Prim.Native.Nat.{ℕ, _*_, _/_, _≤_, min}

@@ -1,7 +1,8 @@
 -- The three kinds of job, from bytes: "Job: 8 below four bytes, 1, K by 2, 8, next states by 2 [..] Run-length job: 8,
 -- 1, 2"; and two constraints in one job, joined.
 -- In order: Job; goodParameters; statesOf, readJob; readRunLength; constraintFrom, one constraint in a row of bytes;
--- fronted, jobWith, readJoined; Joins, the two constraints of a joined job; Allowed, the jobs that pass these checks.
+-- fronted, jobWith, joinedJob, readJoined; Joins, the two constraints of a joined job; Allowed, the jobs that pass
+-- these checks.
 -- Assumes nothing.
 use mathlib.Core.Path.{_≡_}
 use mathlib.Core.Bool.{Bool, _&&_}

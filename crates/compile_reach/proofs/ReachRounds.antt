@@ -1,5 +1,6 @@
 -- Which states can reach which: rounds over all states at once.
--- In order: step-row; Rounds, rounds-start, rounds-more, rounds-still, rounds-end.
+-- In order: Rounds, what holds after i rounds; rounds-start; step-row, one round of one state; rounds-more,
+-- rounds-still, rounds-end; same-bool, two tests that do not differ.
 -- Assumes nothing.
 use Rattle.laws.proofs.All.{_≡_, refl, sym, ap, ap₂, _∙_, Bool, true, false, not, _&&_, _||_, Bool·beq, List, map}
 use Rattle.laws.proofs.All.{ℕ, suc, _+_, _-_, _*_, _/_, _%_, _≤_, _<_, arith, eqb, length, getD, range, any}

@@ -1,7 +1,7 @@
 -- Sets of at most 16 states, one beside the other in a list of 256 places: place t * 16 + s says whether s can reach
 -- t.
--- In order: rowOf, rowsOf; linksInto, Linked, edges as such a list; Members, the states of the component and their
--- numbers.
+-- In order: reachAt, rowOf, rowsOf; linksInto, Linked, edges as such a list; passesOn, one round; liveEdge, edges
+-- among states of weight above 0; Listed, the states of the component and their numbers.
 -- Assumes nothing.
 use mathlib.Core.Path.{_≡_}
 use mathlib.Core.Bool.{Bool, false, _&&_}

@@ -1,5 +1,6 @@
 -- One split of the graph in work: the state that the rule names, and the count of edges before anything is written.
--- In order: split-count, split-crowded, split-fits; chosen-heavy, chosen-light; crowded-into, parted-into.
+-- In order: split-count, count-at, how many edges a split makes; crowded-into, too many; parted-into, the split;
+-- chosen-passes, chosen-heavy, chosen-light, the state that is chosen.
 -- Assumes nothing.
 use Rattle.laws.proofs.All.{_≡_, sym, ap, subst, _∙_, true, false, List, ℕ, _+_, _/_, _≤_, _<_, arith, lt-ltb}
 use Rattle.laws.proofs.All.{le-ltb, T, eqb, eqb→eq, length, getD, range, any, and→, first-passes, each-range}

@@ -1,5 +1,5 @@
 -- How many states of a set are below a state.
--- In order: rank-none, rank-yes, rank-no, rank-le.
+-- In order: rank-none, rank-yes, rank-no, rank-le, by the states passed; rank-small, at most t.
 -- Assumes nothing.
 use Rattle.laws.proofs.All.{_≡_, refl, ap, _∙_, Bool, true, false, List, [], _∷_, ℕ, zero, suc, _+_, _-_, _≤_}
 use Rattle.laws.proofs.All.{arith, length, length-append, member}

@@ -1,6 +1,6 @@
 -- Rounds of weights by the counts of words.
--- In order: count-yes, count-no; lower-is; lowered-is; Round, round-start, round-more, round-still,
--- round-end.
+-- In order: count-none, count-yes, count-no, words counted; term-small; lower-is, lowered-is, one round; lower-le;
+-- Round, round-start, round-more, round-still, round-end; count-le.
 -- Assumes nothing.
 use Rattle.laws.proofs.All.{_≡_, refl, sym, ap, ap₂, _∙_, Bool, true, false, List, [], _∷_, _++_, append-nil, ℕ}
 use Rattle.laws.proofs.All.{suc, _+_, _-_, _*_, _/_, _%_, _≤_, _<_, min, le-trans, mul-le-mul, arith, eq-eqb}

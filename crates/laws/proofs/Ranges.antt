@@ -1,8 +1,8 @@
 -- Lists made from the numbers below a bound, and tests and sums over them.
 -- In order: from-append, range-more, map-from-append, length-map-from, map-range-more, length-map-range,
 -- drop-map-range, map-from-same, is-map, map-range-same, map-places; concat-more, length-run; any-range-more,
--- any-range-no, any-range-same, all-range-true, all-range-false, first-range-none, tot-more; any-false, any-true, tests
--- over a list by its places.
+-- any-range-no, any-each-same, any-range-same, all-range-true, all-range-false, first-range-none, tot-more;
+-- any-false, any-true, tests over a list by its places.
 -- Assumes nothing.
 use mathlib.Core.Path.{_≡_, refl, sym, ap, ap₂, _∙_}
 use mathlib.Core.Bool.{Bool, true, false, _&&_, _||_, and-false, or-false}

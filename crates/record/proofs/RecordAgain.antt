@@ -1,5 +1,6 @@
 -- Fields that are read and written again, and the code that they name.
--- In order: nexts-again, nexts-good, rows-good, length-nextsOf, length-rowsOf, tail-again, head-again.
+-- In order: nexts-again, edges-again, rows-again, fields written again; nexts-good, edges-good, fields in range;
+-- length-edgesOf; rows-good; length-nextsOf, length-rowsOf; tail-again, head-again.
 -- Assumes nothing.
 use Rattle.laws.proofs.All.{eqb-is, so, nay, _≡_, refl, sym, ap, _∙_, _&&_, List, [], _∷_, _++_, append-assoc, ℕ}
 use Rattle.laws.proofs.All.{zero, suc, _+_, _*_, _^_, _<_, suc-mul, zero-mul, arith, T, ltb, eqb, eqb→eq, eqb-refl}

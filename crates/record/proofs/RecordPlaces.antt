@@ -1,5 +1,6 @@
 -- Where each field of a record stands: the code that is read, entry by entry, by bit places.
--- In order: nextAt, edgeAt, constraint-at, table-at.
+-- In order: field-drop, drop-read, behind, fields after others; nextAt, next-at, a constraint state by its place;
+-- edgeAt, edge-at, row-at, an edge by its place; fields, behind-head, constraint-at, table-at.
 -- Assumes nothing.
 use Rattle.laws.proofs.All.{_≡_, refl, ap, ap₂, _∙_, List, [], _∷_, _++_, append-assoc, ℕ, zero, suc, _+_, _*_, _^_}
 use Rattle.laws.proofs.All.{_<_, not-suc-le-zero, le-of-suc-le-suc, zero-mul, suc-mul, zero-add, arith, length}

@@ -1,7 +1,7 @@
 -- "The packed record": its fields as two lists, widths and values; a record written, and the code of fields that are
 -- read.
--- In order: header, headOf, frontValues; headerFields, headerBits, headerBytes, stateSize; size, fill, widths; present,
--- shown, nexts, pairs, rows, values, pack; opened, nextsOf, edgesOf, rowsOf, codeOf.
+-- In order: header, headOf, frontValues; headerFields, headerBits, headerBytes, stateSize; bitCount, size, fill,
+-- widths; present, shown, nexts, pairs, rows, values, pack; opened, nextsOf, edgesOf, rowsOf, codeOf.
 -- Assumes nothing.
 use mathlib.Core.List.{List, [], _∷_, _++_}
 use Prim.Native.Nat.{ℕ, zero, suc, _+_, _*_, _-_, _/_, _^_}

@@ -1,5 +1,5 @@
 -- Why a record's bytes come to an outcome: each refusal with the check that fails and those before it that pass.
--- In order: headerOf, codeFrom, restOf; Reason.
+-- In order: headerOf, codeFrom; Sized, a header in range and the length that it says; Reason.
 -- Assumes nothing.
 use mathlib.Core.Path.{_≡_}
 use mathlib.Core.Logic.{_≢_}

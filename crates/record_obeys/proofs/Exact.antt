@@ -1,6 +1,6 @@
 -- Every recording, followed bit by bit from the constraint start, always finds a next state exactly when `obeys`
 -- passes.
--- In order: finds→obey, front-obey; obeys-exact.
+-- In order: obey→finds, finds→obey, words and their bits; obeys-exact.
 -- Assumes nothing.
 use Rattle.laws.proofs.All.{_≡_, sym, ap, subst, _∙_, _↔_, List, [], _∷_, _++_, ℕ, _^_, _≤_, _<_, arith, T, length}
 use Rattle.constraint.specs.Walking.{none, walk}

@@ -1,5 +1,6 @@
 -- A sentence grows by what stands for the next byte of its pattern.
--- In order: used; sentence-more, used-more; sentence-next, used-next, along the pattern; used-le, used-fits.
+-- In order: used; sentence-more, used-more; takes-le, used-le; sentence-next, used-next, used-fits, along the
+-- pattern.
 -- Assumes nothing.
 use Rattle.laws.proofs.All.{_≡_, sym, ap, _∙_, Bool, true, false, List, [], _∷_, _++_, append-assoc, append-nil}
 use Rattle.laws.proofs.All.{ℕ, suc, _+_, _≤_, _<_, arith, eqb, length, take, drop, getD, length-take-le, getD-drop}

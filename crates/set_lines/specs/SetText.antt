@@ -1,5 +1,5 @@
 -- What is printed of a good set: a line for each record, and how many there are.
--- In order: goodLine, recordLine; recordText, linesTo, setText.
+-- In order: goodLine, recordLine, placedLine; recordText, linesTo, setText.
 -- Assumes nothing.
 use mathlib.Core.List.{List, [], _∷_, _++_, map}
 use Prim.Native.Nat.{ℕ}

@@ -1,6 +1,7 @@
 -- E1 to E10 as one statement, proved by computing: from bytes where the documents give bytes.
--- In order: compiled, weighed, what run-length jobs come to; the tables and the records that the examples speak of;
--- Examples, the statement; examples, its proof.
+-- In order: compiled, weighed, what run-length jobs come to; codeAt; code1, record1; code2, record2, oldRecord2;
+-- code7, record7; code8; job9, ladder, ladderRows, code9; code10, record10; Examples, the statement; examples, its
+-- proof.
 -- Assumes nothing.
 use mathlib.Core.Path.{_≡_, refl}
 use mathlib.Core.List.{List, [], _∷_}

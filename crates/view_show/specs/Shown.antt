@@ -1,6 +1,7 @@
 -- A code as `show` prints it: its rate, its window with the reach of damage, its constraint, the datum with which its
 -- recordings close, and the listing.
--- In order: rateLine, windowLine, closingLine; shown; showText, of a table by value.
+-- In order: rateLine, windowLine, closingLine; shown; whole, a table that a record can give; showText, of a table by
+-- value.
 -- Assumes nothing.
 use mathlib.Core.Bool.{Bool, _&&_}
 use mathlib.Core.List.{List, [], _∷_, _++_}

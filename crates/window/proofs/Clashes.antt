@@ -1,6 +1,6 @@
 -- The search's own way to the test `clear`: follow the pairs that a clash leads to; after a steps none is left exactly
 -- when lookahead a is enough.
--- In order: Hit, clear-by-hits.
+-- In order: Hit, hits→, →hits, the pairs that a clash leads to; clear-empty, empty-clear, each way; clear-by-hits.
 -- Assumes nothing.
 use Rattle.laws.proofs.All.{_≡_, sym, subst, subst₂, _↔_, not, _&&_, List, ℕ, _<_, T, T-not, not-T, eqb, eqb→eq}
 use Rattle.laws.proofs.All.{eqb-refl, length, range, any, iterate, and→, →and, →imp, any-below→, →any-below}

@@ -1,5 +1,6 @@
 -- The other way round: where no two paths disagree, the test `works` passes.
--- In order: Step, AheadSame, ahead-same, Back, past-same, →works.
+-- In order: same-join; Step, into→, AheadSame, ahead-same, words ahead; reversed→, Back, back-one, past-same, words
+-- before; no-clash, →clear, start-is, →works.
 -- Assumes nothing.
 use Rattle.laws.proofs.All.{_≡_, refl, sym, ap, subst, subst₂, _∙_, Bool, false, not, _&&_, List, [], _∷_, _++_}
 use Rattle.laws.proofs.All.{map, ℕ, zero, suc, _<_, T, T-not, not-T, eqb, eqb→eq, eqb-refl, length, getD, range}

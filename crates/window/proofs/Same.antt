@@ -1,6 +1,6 @@
 -- Two paths with equal words, step by step, and where the sets of pairs lead them.
--- In order: has-into, any-reversed, Same, same-append, has-all, same-ahead, same-past, clear-at, AgreeSame,
--- WindowSame, end-lt, works→.
+-- In order: has-into, any-reversed; Same, same-append, two paths with equal words; has-all, same-ahead, ahead;
+-- onward, same-past, the past; clear-at; AgreeSame, WindowSame, end-lt, works→, the window.
 -- Assumes nothing.
 use Rattle.laws.proofs.All.{_≡_, refl, sym, ap, subst, _∙_, Bool, true, false, not, _&&_, List, [], _∷_, _++_, map}
 use Rattle.laws.proofs.All.{ℕ, zero, suc, _<_, not-suc-le-zero, arith, T, T-not, eqb, eqb→eq, eqb-refl, length}

@@ -1,6 +1,7 @@
 -- "Window. Memory m and lookahead a, each 0 to 15: the working pair with least m + a, then least a."
--- In order: sizes, all windows in the order of preference; noSize, the mark for none; window; then the search's own
--- way: hits, the pairs that a clash leads to; union, pasts, the pairs that must not clash; empty.
+-- In order: inBounds, sized, diagonal, sizes, all windows in the order of preference; noSize, the mark for none;
+-- window; then the search's own way: hit, hitFrom, hits, the pairs that a clash leads to; union, starts, pasts, the
+-- pairs that must not clash; empty.
 -- Assumes nothing.
 use mathlib.Core.Bool.{Bool, false, not, _&&_, _||_}
 use mathlib.Core.List.{List, map}
