@@ -5,7 +5,7 @@ ghost use Rattle.answer.specs.Answers.{answerNumber, answerValue};
 
 pub mod bytes;
 
-// Why a call declines, with a case for each number of document 01's table, and behind them those of document 02.
+// Why a call declines, with a case for each number of document 01's table, and after them those of document 02.
 pub enum Refusal {
     // 1: p, q or cap out of range.
     Parameters,

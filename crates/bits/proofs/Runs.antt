@@ -1,4 +1,4 @@
--- Parts put one behind the other among lent bits, and the bytes that they make.
+-- Parts put one after the other among lent bits, and the bytes that they make.
 -- In order: spliced-next, run-next; same-bytes, bytes-in-front; size-holds.
 -- Assumes nothing.
 use Rattle.laws.proofs.All.{_≡_, sym, ap, ap₂, _∙_, List, _++_, map, ℕ, _+_, _*_, _/_, _≤_, arith, length, drop}
@@ -10,7 +10,7 @@ use Rattle.bits.proofs.Fields.{read-back, fits-uniform, below-read, rea
 use Rattle.bits.proofs.Places.{drop-bytes}
 use Rattle.bits.proofs.Puts.{bitsOf-append, spliced-twice}
 
--- one part behind another
+-- one part after another
 pub spliced-next : (B B₁ B₂ F G : List ℕ) (at m : ℕ) → m ≡ at + length F → m + length G ≤ length B
     → B₁ ≡ spliced at F B → B₂ ≡ spliced m G B₁ → B₂ ≡ spliced at (F ++ G) B
 spliced-next B B₁ B₂ F G at m e h p q =
@@ -32,7 +32,7 @@ same-bytes xs ys b d l e =
     sym (read-back (replicate (length xs) 8) xs (fits-uniform 8 xs b))
     ∙ ap₂ (λ n t. read (replicate n 8) t) l e ∙ read-back (replicate (length ys) 8) ys (fits-uniform 8 ys d)
 
--- bytes with whole bytes of bits in front, and as lent behind them
+-- bytes with whole bytes of bits in front, and as lent after them
 pub bytes-in-front : (W : List ℕ) (k : ℕ) → Below 2 W → length W ≡ k * 8 → (out new : List ℕ) → Below 256 out
     → Below 256 new → k ≤ length out → length new ≡ length out → bitsOf new ≡ spliced 0 W (bitsOf out)
     → new ≡ read (replicate k 8) W ++ drop k out

@@ -15,7 +15,7 @@ use Rattle.bitsets.specs.BitSets.{bitAt, placesOf}
 use Rattle.bitsets.proofs.Digits.{bit}
 
 -- ---- bit by bit
--- the list, behind i where the test passed
+-- the list, with i before it where the test passed
 abbrev keep : Bool → ℕ → List ℕ → List ℕ
 keep b i l = if b then i ∷ l else l
 

@@ -1,4 +1,4 @@
--- How many blocks come out otherwise than written where one word is overwritten.
+-- How many blocks differ from the data written where one word is overwritten.
 -- In order: same-block; one-word.
 -- Assumes nothing.
 use Rattle.laws.proofs.All.{_≡_, ap, _⊎_, inl, inr, false, not, List, ℕ, _+_, _-_, _^_, _≤_, _<_, arith, eq-eqb}
@@ -17,7 +17,7 @@ same-block : (out ds : List ℕ) (i : ℕ) → getD out i markAhead ≡ getD ds 
 same-block out ds i e = ap not (eq-eqb (getD out i markAhead) (getD ds i 0) e)
 
 module _ (xs : List ℕ) (bytes : Below 256 xs) (c : Code) (read : parse xs ≡ done c) where
-  -- overwriting word y: at most m + a + 1 blocks come out otherwise than written, those from y − a to y + m
+  -- overwriting word y: at most m + a + 1 blocks differ from the data written, those from y − a to y + m
   pub one-word : (ds L : List ℕ) → Blocks c ds → Below (2 ^ c .q) L → (y room : ℕ)
       → SameOutside y y L (recording c ds) → length ds ≤ room → (out : List ℕ) × (decodeUnder xs room L ≡ done out)
       × (differences out ds ≤ c .window .memory + c .window .lookahead + 1)

@@ -8,15 +8,15 @@ use Rattle.table.specs.Rows.{Rows, Code}
 use Rattle.codec_steps.specs.StateSets.{everyState, oneState, alongAll}
 use Rattle.codec_steps.specs.Reading.{reading, past, block}
 
--- the datum of the word w behind the words `pre` from the states of S, and before the words ws
+-- the datum of the word w after the words `pre` from the states of S, and before the words ws
 abbrev readBehind : Rows → List Bool → List ℕ → ℕ → List ℕ → ℕ
 readBehind t S pre w ws = reading t (alongAll t S pre) w ws
 
--- the datum behind k words of the window W, from the states of S
+-- the datum after k words of the window W, from the states of S
 abbrev pub readWindow : Rows → List Bool → ℕ → List ℕ → ℕ
 readWindow t S k W = readBehind t S (take k W) (getD W k 0) (drop (suc k) W)
 
--- the parts of words n to n + k + a: those before word n + k, the word, and those behind it
+-- the parts of words n to n + k + a: those before word n + k, the word, and those after it
 pub cut-window : {A : Type 0} (F : List ℕ → ℕ → List ℕ → A) (L : List ℕ) (n k a : ℕ)
     → let W = take (suc k + a) (drop n L) in
     F (take k W) (getD W k 0) (drop (suc k) W)

@@ -28,7 +28,7 @@ use Rattle.codec.proofs.Damage.{recovered}
 use Rattle.codec.proofs.Answers.{decoded→}
 use Rattle.codec.proofs.Promises.{facts}
 
--- words n to j + k: those before word j, which is i words behind word n, the word, and those behind it
+-- words n to j + k: those before word j, which is i words after word n, the word, and those after it
 window-parts : (L : List ℕ) (n i j k : ℕ) → n + i ≡ j → j + k < length L
     → take (i + 1 + k) (drop n L) ≡ take i (drop n L) ++ getD L j 0 ∷ take k (drop (j + 1) L)
 window-parts L n i j k e h =

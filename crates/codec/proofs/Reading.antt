@@ -148,7 +148,7 @@ first-or-none (x ∷ l) v = inl (→orL (eqb x x) (elem x l) (eqb-refl x))
 only : (l : List ℕ) (x v : ℕ) → T (elem x l) → ((d : ℕ) → T (elem d l) → d ≡ x) → getD l 0 v ≡ x
 only l x v h f = elim (first-or-none l v) [ inl k ↦ f (getD l 0 v) k | inr (none, _) ↦ absurd (none x h) ]
 
--- ---- words read behind the words before
+-- ---- words read after the words before
 module _ (g : Rows) (c : Closed g) (S : List Bool) (pre ws : List ℕ) (w : ℕ) where
   -- a datum that the rule can read lies on a path from S that reads all the words
   pub reading→path : (d : ℕ) → T (elem d (readings g (alongAll g S pre) w (able g ws)))
@@ -212,7 +212,7 @@ at-place g c S ds W k s n i r l agree =
         stretch g c S (take k ds) (drop (suc k) ds) (getD ds k 0) (take k W) (drop (suc k) W) (getD W k 0) s
         (reads-take k r) a b h (rw (length-take-le k W (omega arith), length-drop) agree) n i
 
--- two data that the rule can read behind the same words are one, if all paths from S agree there
+-- two data that the rule can read after the same words are one, if all paths from S agree there
 pub one-reading : (g : Rows) → Closed g → (S : List Bool) (pre ws : List ℕ) (w : ℕ)
     → ((t u : ℕ) → T (member S t) → T (member S u) → AgreeSame g (length pre) (length ws) t u)
     → (d e : ℕ) → T (elem d (readings g (alongAll g S pre) w (able g ws)))

@@ -23,7 +23,7 @@ goesTo t w s u e = bears t w e && (eqb (e / 16) s && eqb (nextOf t e) u)
 abbrev pub hasAt : List ℕ → ℕ → ℕ → Bool
 hasAt word w e = eqb (getD word e 0) w
 
--- the first of the n entries of the state s with the word w, or the place behind them
+-- the first of the n entries of the state s with the word w, or the place after them
 unfoldable pub firstEdge : ℕ → List ℕ → ℕ → ℕ → ℕ
 firstEdge n word w s = first (hasAt word w) (s * 16 + n) (from (s * 16) n)
 

@@ -16,7 +16,7 @@ use table::chains::chain;
 use table::chains::wide;
 use table_words::gather;
 
-// The first edge of the state s with the word w, or the place behind its edges.
+// The first edge of the state s with the word w, or the place after its edges.
 fn first_edge(n: usize, word: &[u8; 2048], w: usize, s: usize) -> usize
     requires { ⌜ (n ≤ 16) × (s < 128) ⌝ }
     ensures answer { λ r. ⌜ r ≡ firstEdge n (now (word .entry)) w s ⌝ }

@@ -1,4 +1,4 @@
--- The words of a path written byte by byte, and closing words behind those of blocks.
+-- The words of a path written byte by byte, and closing words after those of blocks.
 -- In order: Writes, the words of a path written so far, with writes-start, writes-more, writes-end; recorded,
 -- recorded-in, blocks and closing words.
 -- Assumes nothing.
@@ -15,7 +15,7 @@ use Rattle.table.proofs.Paths.{length-spells, spells-append}
 use Rattle.table.proofs.RowsOf.{place-next, next-state, next-words}
 
 -- ---- the words of a path
--- behind the front, out holds the words of the first k data of the path; i is the next place and s the state there
+-- after the front, out holds the words of the first k data of the path; i is the next place and s the state there
 pub record Writes (t : Arrays) (front : List ℕ) (first : ℕ) (ds out₀ : List ℕ) (k i s : ℕ) (out : List ℕ)
     : Type 0 where
   pub place : length front + k ≡ i
@@ -63,7 +63,7 @@ module _ (t : Arrays) (front : List ℕ) (first : ℕ) (ds out₀ : List ℕ) wh
   writes-end k i s out m j q h =
       let e : take k ds ≡ ds = take-all k ds h in (rw e at (m .state), rw (e, q) at (m .bytes))
 
--- ---- blocks, and closing words behind them
+-- ---- blocks, and closing words after them
 pub recorded : (t : Rows) (ds zs out₀ out₁ out₂ : List ℕ) (n s e : ℕ) → n ≡ length ds → s ≡ ends t 0 ds → n ≤ e
     → out₁ ≡ spells t 0 ds ++ drop n out₀ → out₂ ≡ (take n out₁ ++ spells t s zs) ++ drop e out₁
     → out₂ ≡ spells t 0 (ds ++ zs) ++ drop e out₀

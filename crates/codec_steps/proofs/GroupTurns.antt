@@ -9,7 +9,7 @@ use Rattle.bitsets.specs.BitSets.{holds}
 use Rattle.codec_groups.specs.Groups.{sourceAt, Within, Grouped, between}
 use Rattle.codec_groups.proofs.Between.{between-empty}
 
--- the first number of a stretch, or one behind it
+-- the first number of a stretch, or one after it
 pub between-first : (f : ℕ → Bool) (i j : ℕ) → i < j → between f i j ≡ (f i || between f (i + 1) j)
 unfolding between
 between-first f i j h =

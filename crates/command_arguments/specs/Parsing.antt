@@ -22,12 +22,12 @@ digitOf c = if ltb c 48 then 10 else min (c - 48) 10
 abbrev pub isDigit : ℕ → Bool
 isDigit c = ltb (digitOf c) 10
 
--- the value of digits behind the number n
+-- the value of digits after the number n
 unfoldable pub worth : ℕ → List ℕ → ℕ
 worth n [] = n
 worth n (c ∷ cs) = worth (n * 10 + digitOf c) cs
 
--- the number that the digits behind n make, if they are digits
+-- the number that the digits after n make, if they are digits
 unfoldable pub numberIn : ℕ → List ℕ → Parsed
 numberIn n cs = if all isDigit cs then Number (min (worth n cs) greatest) else Wrong
 

@@ -38,7 +38,7 @@ rowArcs P I s words = map (rowArc P I s) (filter (rowKeeps P I s) (range words))
 abbrev pub rowOfState : List ℕ → ℕ → List ℕ → ℕ → List Arc
 rowOfState P words I s = if ltb (getD I s 0) 16 then rowArcs P I s words else []
 
--- r is h with the edges l behind its own, or says that there would be "over 2,048 edges"
+-- r is h with the edges l after its own, or says that there would be "over 2,048 edges"
 pub record Added (h : Graph) (l : List Arc) (r : NextGraph) : Type 0 where
   pub crowds : r .crowded ≡ ltb 2048 (h .edges + length l)
   pub arcs : r .crowded ≡ false → arcsIn (r .graph) ≡ arcsIn h ++ l

@@ -71,7 +71,7 @@ one-more h m s w t ls lw lt =
     (cc (getD-set-same (h .source) m s 0 ls, getD-set-same (h .word) m w 0 lw, getD-set-same (h .target) m t 0 lt))
 
 -- ---- edges appended one after the other
--- the first m edges of h are those of g and behind them L
+-- the first m edges of h are those of g and after them L
 pub record Appended (g h : Graph) (m : ℕ) (L : List Arc) : Type 0 where
   pub arcs : map (arcAt h) (range m) ≡ arcsIn g ++ L
   pub source : length (h .source) ≡ 2048

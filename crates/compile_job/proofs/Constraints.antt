@@ -1,6 +1,6 @@
 -- A constraint that is read from a row of bytes is lawful: it has 1 to 16 states, and their next states are states or
 -- none.
--- In order: checked, from-checked, the checks behind K's; constraint-refused; states-well; length-statesOf;
+-- In order: checked, from-checked, the checks after K's; constraint-refused; states-well; length-statesOf;
 -- constraintFrom-lawful, constraintFrom-length.
 -- Assumes nothing.
 use Rattle.laws.proofs.All.{_≡_, refl, sym, ap, subst, _∙_, _⊎_, inl, inr, Bool, _&&_, List, ℕ, zero, suc, _+_, _*_}
@@ -15,7 +15,7 @@ use Rattle.constraint.specs.Walking.{NextStates, Constraint, none, Target, Well
 use Rattle.table.specs.Formed.{goodState, goodNext}
 use Rattle.compile_job.specs.Jobs.{statesOf, constraintFrom}
 
--- ---- the checks behind K's: "K by 2, 8, next states by 2"
+-- ---- the checks after K's: "K by 2, 8, next states by 2"
 abbrev pub checked : Bool → ℕ → Constraint → Outcome Constraint
 checked fit K c =
     unless States (leb 1 K && leb K 16) (unless Length fit (unless States (all (goodNext K) c) (done c)))

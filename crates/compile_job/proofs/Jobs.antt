@@ -20,14 +20,14 @@ use Rattle.compile_job.proofs.Fronts.{fronted→, allowed-of}
 use Rattle.compile_job.proofs.Joining.{joins-lawful, joins-exact}
 
 -- ---- a job is a front and one constraint
--- the length that K says, behind cap and of all bytes
+-- the length that K says, after cap and of all bytes
 same-size : (n m K : ℕ) → n ≡ m - 3 → 4 ≤ m → eqb (1 + 2 * K) n ≡ eqb m (4 + 2 * K)
 same-size n m K e h = elim (ℕ-discrete m (4 + 2 * K)) [
   | yes q ↦ eq-eqb _ n (omega arith) ∙ sym (eq-eqb m _ q)
   | no q ↦ ne-eqb _ n (λ k. q (omega arith)) ∙ sym (ne-eqb m _ q)
 ]
 
--- the constraint behind cap
+-- the constraint after cap
 behind : (xs : List ℕ) → 4 ≤ length xs → constraintFrom eqb (drop 3 xs)
     ≡ checked (eqb (length xs) (4 + 2 * getD xs 3 0)) (getD xs 3 0) (statesOf (getD xs 3 0) (drop 4 xs))
 behind xs h =

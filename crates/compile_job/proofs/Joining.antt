@@ -48,7 +48,7 @@ module _ (xs : List ℕ) where
       (c, d, s, lc, ld, few, ap (λ j. j .constraint) q)
 
 -- ---- 14
--- a refusal that comes from behind a check, or from behind a result
+-- a refusal that comes after a check, or after a result
 behind : {A : Type 0} (r s : Refusal) (b : Bool) (o : Outcome A) → (numberOf r ≡ numberOf s → ⊥)
     → unless r b o ≡ refused s → T b × (o ≡ refused s)
 behind r s true o h e = (tt, e)
@@ -106,7 +106,7 @@ onward-same : {A B : Type 0} (o : Outcome A) (f g : A → Outcome B) → ((x : A
 onward-same (done x) f g h = h x refl
 onward-same (refused r) f g h = refl
 
--- behind as many states as the first says
+-- after as many states as the first says
 pub joined-from : (xs : List ℕ) (start : ℕ) → start ≡ min (4 + 2 * getD xs 3 0) (length xs)
     → onward (constraintFrom leb (drop 3 xs)) (λ c. onward (constraintFrom eqb (drop start xs)) (joinedJob xs c))
     ≡ onward (constraintFrom leb (drop 3 xs))

@@ -30,7 +30,7 @@ pub record JobReady (j : JobValue) : Type 0 where
 abbrev pub jobOutcome : JobAnswer → Outcome Job
 jobOutcome r = verdictOn (r .verdict) (jobIn (r .job))
 
--- the next states of state s in the bytes of a constraint, behind K
+-- the next states of state s in the bytes of a constraint, after K
 abbrev pub stateAt : List ℕ → ℕ → NextStates
 stateAt ys s = record { zero = getD ys (1 + s * 2) 0; one = getD ys (2 + s * 2) 0 }
 

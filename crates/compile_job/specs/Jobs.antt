@@ -69,7 +69,7 @@ constraintFrom fits ys =
     (unless States (leb 1 K && leb K 16)
     (unless Length (fits (1 + 2 * K) (length ys)) (unless States (all (goodNext K) c) (done c))))
 
--- "8 below four bytes, 1", then what comes of the bytes behind cap
+-- "8 below four bytes, 1", then what comes of the bytes after cap
 abbrev pub fronted : {A : Type 0} → List ℕ → Outcome A → Outcome A
 fronted xs rest =
     unless Length (leb 4 (length xs))

@@ -110,7 +110,7 @@ pub fn read_job(bytes: &[u8]) -> JobAnswer
     }
 }
 
-// Where the second constraint of a joined job starts: behind as many states as the first says, within the bytes.
+// Where the second constraint of a joined job starts: after as many states as the first says, within the bytes.
 fn second_start(bytes: &[u8]) -> usize
     requires { ⌜ 4 ≤ length (now bytes) ⌝ }
     ensures answer { λ r. ⌜

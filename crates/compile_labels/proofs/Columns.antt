@@ -1,6 +1,6 @@
--- The rows of a table in its columns: the entries of a state read and otherwise placed.
+-- The rows of a table in its columns: the entries of a state read and put in another order.
 -- In order: row-entry, length-row, row-filled; worded-rows, words-row, the words of a state; reorder-none,
--- reorder-more; reordered-row, reordered-rows, the table whose columns are both otherwise placed.
+-- reorder-more; reordered-row, reordered-rows, the table whose columns both have another order.
 -- Assumes nothing.
 use Rattle.laws.proofs.All.{_≡_, refl, sym, ap, ap₂, _∙_, _⊎_, inl, inr, List, [], map, ℕ, _+_, _*_, _≤_, _<_, arith}
 use Rattle.laws.proofs.All.{decLt, T, length, getD, take, drop, set, length-take, length-take-le, length-drop}
@@ -54,7 +54,7 @@ module _ (t : Arrays) where
       (length-take-le (t .ways) (rowAt (t .word) s) (rw (length-row (t .word) s l h) few))
       (λ d k. getD-take (t .ways) (rowAt (t .word) s) d 0 k ∙ row-entry (t .word) s d (omega arith)))
 
--- ---- the entries of state i otherwise placed
+-- ---- the entries of state i in another order
 pub reorder-none : (i : ℕ) (ds old : List ℕ) → length old ≡ 2048 → Reordered 0 i ds old old
 reorder-none i ds old l = record { long = l; moved = λ d h. absurd (omega arith); kept = λ x h. refl }
 

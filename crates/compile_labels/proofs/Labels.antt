@@ -1,4 +1,4 @@
--- A table with its data given afresh has in each state the edges it had, otherwise placed.
+-- A table with its data given anew has in each state the edges it had, in another order.
 -- In order: rearranged-row, rearranged-same, rearranged-at, one state; relabelled-length, relabelled-first,
 -- labels-rule, labels, relabelled-full, relabelled-at, all states; tabled-relabelled, what holds of every edge.
 -- Assumes nothing.
@@ -111,7 +111,7 @@ module _ (n : ℕ) (t : Rows) (full : Full n t) where
       → (k : ℕ) × (k < n) × (at (relabelled n t) s d ≡ at t s k)
   relabelled-at s d h l = rearranged-at n (edges t s) (edges (relabelled n t) s) (labels .2 s h) d l
 
--- what holds of every edge of a table holds with its data given afresh
+-- what holds of every edge of a table holds with its data given anew
 pub tabled-relabelled : (P : ℕ → ℕ → ℕ → Type 0) (n : ℕ) (t : Rows) (root : ℕ → ℕ) → Tabled P n t root
     → Tabled P n (relabelled n t) root
 tabled-relabelled P n t root b =

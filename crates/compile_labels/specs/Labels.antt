@@ -3,7 +3,7 @@
 -- then take the free data, rising."
 -- In order: carries, gave, given, what an earlier state gave; free; asked, the first pass over a state's edges;
 -- answered, the second; dataOf, the data of a state's edges; bearer, relabelledRow, relabelled; Rearranged, the same
--- edges otherwise placed.
+-- edges in another order.
 -- Assumes nothing.
 use mathlib.Core.Path.{_≡_}
 use mathlib.Core.Bool.{Bool, not}
@@ -56,7 +56,7 @@ bearer es ds d = getD es (indexOf d ds) (edge 0 0)
 abbrev pub relabelledRow : ℕ → Rows → List Edge → List Edge
 relabelledRow n earlier es = map (bearer es (dataOf n earlier (wordsOf es))) (range n)
 
--- "State 0 stays. In each later state, in order": the table with its data given afresh
+-- "State 0 stays. In each later state, in order": the table with its data given anew
 unfoldable pub relabelled : ℕ → Rows → Rows
 relabelled n t = extend (relabelledRow n) (take 1 t) (drop 1 t)
 

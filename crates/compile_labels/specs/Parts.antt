@@ -1,7 +1,7 @@
 -- What the parts of giving the data answer, on the arrays that hold a table.
 -- In order: rowAt, the entries of a state in a column of the table; gaveAt, the data that it gave a word; Worded, a
 -- column that holds a table's words; Home, Homes, for each word the lowest state that has it; noted, its home when a
--- state is added; served, the second pass; Reordered, a column of which the entries of one state are otherwise placed.
+-- state is added; served, the second pass; Reordered, a column with the entries of one state in another order.
 -- Assumes nothing.
 use mathlib.Core.Path.{_≡_}
 use mathlib.Core.Bool.{true, false, _&&_}

@@ -180,7 +180,7 @@ fn note(words: [u8; 16], n: usize, i: usize, home: [u8; 256]) -> [u8; 256]
     r
 }
 
-// The table with its data given afresh.
+// The table with its data given anew.
 pub fn relabel(rows: TableRows, n: usize) -> TableRows
     requires { ⌜ (n ≤ 16) × (rows .states ≤ 128) ⌝ }
     ensures answer { λ r. ⌜ (rowsOfTable n r ≡ relabelled n (rowsOfTable n rows)) × (r .states ≡ rows .states) ⌝ }

@@ -52,7 +52,7 @@ module _ (g : Graph) (s : ℕ) where
     length-append (entered i) (filter (enters s) (arcAt g i ∷ [])),
   ))
 
--- the first m edges of h are those of g, and behind them those that the edges below i into s become
+-- the first m edges of h are those of g, and after them those that the edges below i into s become
 abbrev pub Grown : Graph → ℕ → Graph → ℕ → ℕ → Type 0
 Grown g s h m i = Appended g h m (map (redirected (g .states)) (entered g s i))
 

@@ -15,7 +15,7 @@ use Rattle.compile_graph.specs.Splitting.{moved, doubled}
 use Rattle.compile_graph.specs.Value.{arcsIn}
 use Rattle.compile_order.specs.EdgeKeys.{keysIn, arcOf}
 
--- the edges of s that k keys of the list keep, the first behind i others
+-- the edges of s that k keys of the list keep, the first after i others
 abbrev pub keptFrom : ℕ → Keys → ℕ → ℕ → List Arc
 keptFrom s l i k = map (arcOf s) (take k (drop i (keysIn l)))
 

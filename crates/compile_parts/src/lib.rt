@@ -85,7 +85,7 @@ fn wide(x: u8) -> usize
     x as usize
 }
 
-// Behind all edges, each edge into s once more, to the new state; there is room for them.
+// After all edges, each edge into s once more, to the new state; there is room for them.
 pub fn double_edges(g: Graph, s: usize) -> Graph
     requires { ⌜ (g .edges + entering (arcsIn g) s ≤ 2048) × (g .states < 128) ⌝ }
     ensures answer { λ r. ⌜ Doubled g s r ⌝ }

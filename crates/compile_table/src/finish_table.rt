@@ -1,5 +1,5 @@
 // "Table. Each state keeps its first n edges in order of word, then target; they carry data 0 to n − 1. States not
-// reachable from the start are removed, the others renumbered in order." The data are then given afresh in
+// reachable from the start are removed, the others renumbered in order." The data are then given anew in
 // `compile_labels`.
 use compile_graph::Graph;
 use compile_order::keys::Keys;

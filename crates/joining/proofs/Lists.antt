@@ -8,7 +8,7 @@ use Rattle.laws.proofs.All.{List·getD-append, if_then_else_, elem, any-append,
 use Rattle.laws.proofs.All.{one, tot-append, once-more}
 use Rattle.joining.specs.Joined.{adjoin}
 
--- qs is ps with more behind it
+-- qs is ps with more after it
 abbrev pub Grows : List ℕ → List ℕ → Type 0
 Grows ps qs = (es : List ℕ) × (qs ≡ ps ++ es)
 

@@ -59,7 +59,7 @@ module _ (c d : Constraint) (b z : ℕ) where
       let (p, q) = allowed-both c d b z (subst T (sym e) tt) in
       (after-small c lc (z / 16) b p, after-small d ld (z % 16) b q)
 
-  -- the list after the bit, and the number of the pair behind it, once it is known whether the bit is allowed
+  -- the list after the bit, and the number of the pair to which it leads, if it is known whether it is allowed
   pub met-when : (t : Bool) (l : List ℕ) → allowed c d b z ≡ t
       → met c d b z l ≡ if t then adjoin (leadsTo c d b z) l else l
   met-when t l e = ap (λ t. if t then adjoin (leadsTo c d b z) l else l) e

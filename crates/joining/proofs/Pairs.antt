@@ -61,7 +61,7 @@ module _ (c d : Constraint) where
     y-is = follow-append d (r .bits) (b ∷ []) 0 ∙ ap (λ k. after d k b) (r .y-is);
   }
 
--- the list after a bit has more behind it
+-- the list after a bit is the list before it, with more at its end or none
 pub met-grows : (c d : Constraint) (b z : ℕ) (ps : List ℕ) → Grows ps (met c d b z ps)
 met-grows c d b z ps = go (allowed c d b z)
   where

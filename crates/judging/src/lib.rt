@@ -16,7 +16,7 @@ pub struct Told {
     pub value: usize,
 }
 
-// The byte that is to stand at place i of the output: that of the expected output, and behind it 165, as lent.
+// The byte that is to stand at place i of the output: that of the expected output, and after it 165, as lent.
 fn expected(output: &[u8], i: usize) -> u8
     ensures answer { λ r. ⌜ r ≡ getD (now (output .entry)) i 165 ⌝ }
 {

@@ -1,6 +1,6 @@
 -- Arrays: their front as a list, and loops that fill them from the front.
 -- In order: take-is, take-same; Filled, fill-none, fill-more, an array filled from the front; put-at, put-more,
--- map-more, elements and bytes written behind one another; within-more, the same from a place on, and piece-more, which
+-- map-more, elements and bytes written one by one; within-more, the same from a place on, and piece-more, which
 -- puts what it gives together.
 -- Assumes nothing.
 use mathlib.Core.Path.{_≡_, sym, ap, ap₂, _∙_}
@@ -47,7 +47,7 @@ fill-more d f k i R v h e m = record {
       (getD-set-same R i v d (let n = m .long in omega arith) ∙ e);
 }
 
--- ---- bytes written behind one another
+-- ---- bytes written one after the other
 pub put-at : {A : Type 0} (d : A) (xs out : List A) (i : ℕ) (w : A) → length xs ≡ i → i < length out
     → set (xs ++ drop i out) i w ≡ (xs ++ w ∷ []) ++ drop (i + 1) out
 put-at d xs out i w e h =
@@ -81,7 +81,7 @@ within-more f at out₀ out i w b e h =
     (append-assoc (take at out₀) (map f (from at i)) (f (at + i) ∷ [])
     ∙ ap (λ x. take at out₀ ++ x) (sym (map-from-append f at i 1))) n
 
--- a piece more of them, behind those that were written
+-- a piece more of them, after those that were written
 pub piece-more : (f : ℕ → ℕ) (i end : ℕ) (out₀ out out′ : List ℕ) → i ≤ end → out ≡ map f (range i) ++ drop i out₀
     → out′ ≡ (take i out ++ map f (from i (end - i))) ++ drop end out → out′ ≡ map f (range end) ++ drop end out₀
 piece-more f i end out₀ out out′ h e g =

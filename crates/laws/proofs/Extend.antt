@@ -1,4 +1,4 @@
--- A list that grows by what it has: what `extend` puts behind a list, and at which place.
+-- A list that grows by what it has: what `extend` puts after a list, and at which place.
 -- In order: length-extend, extend-start, extend-more, extend-at.
 -- Assumes nothing.
 use mathlib.Core.Path.{_≡_, refl, sym, ap, _∙_}

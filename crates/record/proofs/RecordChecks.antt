@@ -113,7 +113,7 @@ module _ (bs : List ℕ) (q S : ℕ) where
       ∙ sym (ap (λ m. all (targetGood o) (range m)) e ∙ all-split (targetGood o) 0 n (s * n)
       ∙ ap (λ m. all (targetGood o) (range n) && all (targetGood o) (from m (s * n))) z)
 
--- behind the constraint's fields
+-- after the constraint's fields
 behind-states : (h : Head) (bs : List ℕ) → drop (h .count * 4) (drop headerFields (read (widths h) bs))
     ≡ read (repeat (h .states) (repeat (2 ^ h .p) (h .q ∷ 7 ∷ [])) ++ (fill h ∷ [])) (drop (edgesPlace h) bs)
 behind-states h bs =
@@ -138,7 +138,7 @@ fill-checked h bs =
     ∙ ap (λ m. value (take (fill h) (drop (h .states * m) (drop (edgesPlace h) bs)))) (sum-repeat n (h .q ∷ 7 ∷ []))
     ∙ ap (λ l. value (take (fill h) l)) (past bs (h .states * (n * (h .q + 7))) (edgesPlace h) (bitCount h) e)
 
--- the check of the fields behind the header, in the code's order: the answers a and b of the first two tests
+-- the check of the fields after the header, in the code's order: the answers a and b of the first two tests
 module _ (h : Head) (bs : List ℕ) (n : ℕ) (a b : Bool) (e : n ≡ 2 ^ h .p)
     (f : a ≡ all (goodAt bs (h .count)) (range (2 * h .count)))
     (g : b ≡ all (goodTargetAt bs h) (range (h .states * n))) where

@@ -1,4 +1,4 @@
--- The parts of a record one behind the other are its bits, and bytes with these bits in front are the record in lent
+-- The parts of a record one after the other are its bits, and bytes with these bits in front are the record in lent
 -- bytes.
 -- In order: length-front, length-states, length-table; parts-are, length-parts; bytes-are.
 -- Assumes nothing.
@@ -122,7 +122,7 @@ module _ (c : Code) (even : Each (λ es. length es ≡ 2 ^ c .p) (c .table)) whe
   length-parts = length-fields (widths (head c)) (values c) length-values ∙ sum-widths (head c)
       ∙ sum-replicate (size (head c)) 8
 
--- bytes that hold the record's bits in front, and are as lent behind them
+-- bytes that hold the record's bits in front, and are as lent after them
 pub bytes-are : (c : Code) → length (write (widths (head c)) (values c)) ≡ size (head c) * 8 → (out new : List ℕ)
     → Below 256 out → Below 256 new → size (head c) ≤ length out → length new ≡ length out
     → bitsOf new ≡ spliced 0 (write (widths (head c)) (values c)) (bitsOf out)

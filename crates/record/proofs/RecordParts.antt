@@ -1,4 +1,4 @@
--- Parts of a record put one behind the other among lent bits.
+-- Parts of a record put one after the other among lent bits.
 -- In order: put-low-is; put-absent, put-present; spliced-none; length-fields; Putting, front-spliced.
 -- Assumes nothing.
 use Rattle.laws.proofs.All.{_≡_, refl, sym, ap, ap₂, _∙_, false, List, [], _∷_, _++_, append-nil, ℕ}

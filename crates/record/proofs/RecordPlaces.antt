@@ -19,7 +19,7 @@ pub drop-read : (ws us bs : List ℕ) → drop (length ws) (read (ws ++ us) bs) 
 drop-read [] us bs = refl
 drop-read (w ∷ ws) us bs = drop-read ws us (drop w bs) ∙ ap (read us) (drop-drop (sum ws) w bs)
 
--- the fields behind n groups of widths
+-- the fields after n groups of widths
 pub behind : (n m : ℕ) (ws us bs : List ℕ) → n * length ws ≡ m
     → drop m (read (repeat n ws ++ us) bs) ≡ read us (drop (n * sum ws) bs)
 behind n m ws us bs e = cc (length-repeat n ws, drop-read (repeat n ws) us bs, sum-repeat n ws)

@@ -24,7 +24,7 @@ use Rattle.record.proofs.RecordFits.{sum-widths}
 use Rattle.record.proofs.RecordReading.{head-range}
 use Rattle.answer.proofs.Outcomes.{done-inj, unless→}
 
--- eight fields in front and the others behind
+-- eight fields in front and the others after them
 module _ (p q s m a k z e : ℕ) (t : List ℕ)
     (f : Fits (widths (headOf (p ∷ q ∷ s ∷ m ∷ a ∷ k ∷ z ∷ e ∷ t))) (p ∷ q ∷ s ∷ m ∷ a ∷ k ∷ z ∷ e ∷ t))
     (u : T (goodRest (headOf (p ∷ q ∷ s ∷ m ∷ a ∷ k ∷ z ∷ e ∷ t)) (p ∷ q ∷ s ∷ m ∷ a ∷ k ∷ z ∷ e ∷ t)

@@ -1,4 +1,4 @@
--- The constraint's states and the table's edges written one behind the other.
+-- The constraint's states and the table's edges written one after the other.
 -- In order: states-begin, states-next; edgeNo, edgesBits, edges-begin, edges-next, edges-all.
 -- Assumes nothing.
 use Rattle.laws.proofs.All.{_≡_, refl, sym, ap, ap₂, _∙_, List, _++_, map, ℕ, _+_, _*_, _/_, _%_, _^_, _≤_, arith}

@@ -36,7 +36,7 @@ even t =
     (each-always (λ s. length (rowIn t s) ≡ 2 ^ t .p) (λ s. length-map-range (edgeIn t s) (2 ^ t .p))
     (range (t .states)))
 
--- the four parts put one behind the other are the record
+-- the four parts put one after the other are the record
 module _ (c : Code) (each : Each (λ es. length es ≡ 2 ^ c .p) (c .table)) (out new B₁ B₂ B₃ : List ℕ) (a w m : ℕ) where
   abbrev B : List ℕ
   B = bitsOf out

@@ -1,4 +1,4 @@
--- Rows of n numbers each, one behind the other, are one range.
+-- Rows of n numbers each, one after the other, are one range.
 -- In order: map-range-add, flat.
 -- Assumes nothing.
 use Rattle.laws.proofs.All.{_≡_, sym, ap, _∙_, List, [], _∷_, _++_, map, append-assoc, append-nil, ℕ, zero, suc}

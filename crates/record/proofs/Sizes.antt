@@ -28,7 +28,7 @@ edges-le h r =
 pub bitCount-le : (h : Head) → Small h → bitCount h ≤ 30914
 bitCount-le h r = omega (arith, edges-le h r, r .k₂)
 
--- the numbers vs stand in fields of the widths ws, one behind the other from the place o on
+-- the numbers vs stand in fields of the widths ws, one after the other from the place o on
 abbrev pub Standing : List ℕ → ℕ → List ℕ → List ℕ → Type 0
 Standing bs o [] [] = Unit {0}
 Standing bs o [] (v ∷ vs) = ⊥

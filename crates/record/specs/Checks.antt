@@ -22,7 +22,7 @@ use Rattle.record.specs.Parse.{goodHead, goodRest, packInto}
 abbrev pub codeAt : Head → List ℕ → Code
 codeAt h bs = codeOf h (read (widths h) bs)
 
--- the fields behind the header h are in range
+-- the fields after the header h are in range
 abbrev pub restGood : Head → List ℕ → Bool
 restGood h bs = goodRest h (read (widths h) bs) (codeAt h bs)
 

@@ -37,7 +37,7 @@ goodTarget n e = ltb (e .next) n
 abbrev pub filler : Head → List ℕ → ℕ
 filler h vs = getD (drop (h .states * (2 ^ h .p * 2)) (drop (h .count * 4) (drop headerFields vs))) 0 0
 
--- the fields behind the header are in range, absent states are 0 and the fill is 0
+-- the fields after the header are in range, absent states are 0 and the fill is 0
 abbrev pub goodRest : Head → List ℕ → Code → Bool
 goodRest h vs c =
     goodFields (h .count) (h .count) (drop headerFields vs)

@@ -1,4 +1,4 @@
--- The bits of a record, part by part, as they are written one behind the other.
+-- The bits of a record, part by part, as they are written one after the other.
 -- In order: frontBits, the numbers in front; nextBits, stateBits, the constraint; edgeBits,
 -- the edges; statesBits, rowsBits, of all.
 -- Assumes nothing.

@@ -1,4 +1,4 @@
-// The fields behind the header, read into a table's arrays.
+// The fields after the header, read into a table's arrays.
 ghost use mathlib.Core.Path.{_≡_};
 ghost use mathlib.Core.List.{map};
 ghost use Prim.Native.Nat.{_+_, _*_, _≤_};
@@ -49,7 +49,7 @@ pub fn states_of(bytes: &[u8], count: usize) -> Constraint
 }
 
 // For each of `edges` edges, n a state, the field of `width` bits: the first at the bit place `first`, each of the
-// others `step` bits behind the one before.
+// others `step` bits after the one before.
 pub fn column(
     bytes: &[u8],
     n: usize,

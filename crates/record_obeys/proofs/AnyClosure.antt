@@ -10,7 +10,7 @@ use Rattle.table.specs.Rows.{edge, edges, at, Code}
 use Rattle.record_obeys.specs.Obeys.{carries, arrive, reachMore, reachedPairs, finds, obeys, reachedFrom}
 use Rattle.record_obeys.proofs.Reached.{Safe, found}
 
--- the constraint state behind datum x of table state s
+-- the constraint state after datum x of table state s
 abbrev pub then′ : Code → ℕ → ℕ → ℕ → ℕ
 then′ c s k x = walk (c .constraint) (c .q) (at (c .table) s x .word) k
 

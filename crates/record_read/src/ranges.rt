@@ -1,4 +1,4 @@
-// The fields behind the header are in range: "record field out of range, absent state not 0, or fill not 0" is
+// The fields after the header are in range: "record field out of range, absent state not 0, or fill not 0" is
 // refusal 7.
 ghost use mathlib.Core.Path.{_≡_};
 ghost use Prim.Native.Nat.{_+_, _*_, _≤_};
@@ -69,7 +69,7 @@ fn good_fill(bytes: &[u8], f: Head) -> bool
     bits::get(bytes, at, 8 * bytes.len() - at) == 0
 }
 
-// Whether all fields behind the header are in range: otherwise refusal 7.
+// Whether all fields after the header are in range: otherwise refusal 7.
 pub fn good_rest(bytes: &[u8], f: Head) -> bool
     requires { ⌜ Small f × (length (now bytes) ≡ size f) ⌝ }
     ensures answer { λ r. ⌜ r ≡ restGood f (bitsOf (now (bytes .entry))) ⌝ }

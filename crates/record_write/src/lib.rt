@@ -71,7 +71,7 @@ fn put_next(out: &mut [u8], at: usize, next: u8)
     bits::put(out, at, 5, 16 + bits::low_bits(next as usize, 4));
 }
 
-// The constraint, behind the numbers in front.
+// The constraint, after the numbers in front.
 fn put_states(out: &mut [u8], constraint: Constraint)
     requires { ⌜ (constraint .states ≤ 16) × (headerBits + constraint .states * stateSize ≤ 8 * length (now out)) ⌝ }
     ensures written { λ r. ⌜ bitsOf (now (out .exit)) ≡ spliced headerBits (statesBits (constraintOf constraint))
@@ -87,7 +87,7 @@ fn put_states(out: &mut [u8], constraint: Constraint)
     }
 }
 
-// The edges of all states, behind the constraint, the first at the bit place `first`.
+// The edges of all states, after the constraint, the first at the bit place `first`.
 fn put_edges(out: &mut [u8], t: Table, first: usize)
     requires { ⌜ Ready t × (first ≤ 256) × (first + t .states * 2 ^ t .p * (t .q + 7) ≤ 8 * length (now out)) ⌝ }
     ensures written { λ r. ⌜ bitsOf (now (out .exit))

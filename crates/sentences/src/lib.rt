@@ -7,7 +7,7 @@ ghost use Rattle.sentences.specs.Sentences.{plural, shown, takes, senten
 use text::put;
 use text::put_decimal;
 
-// Number k of a list, 0 behind its end.
+// Number k of a list, 0 past its end.
 fn number_at(numbers: &[usize], k: usize) -> usize
     ensures answer { λ r. ⌜ r ≡ getD (now (numbers .entry)) k 0 ⌝ }
 {
@@ -53,7 +53,7 @@ fn takes(b: u8) -> usize
     0
 }
 
-// A sentence behind the first `at` bytes; the answer is the place behind it.
+// A sentence after the first `at` bytes; the answer is the place after it.
 pub fn put_sentence(out: &mut [u8], at: usize, pattern: &[u8], numbers: &[usize]) -> usize
     ensures written { λ r. ⌜
         Added (sentence (now (pattern .entry)) (now (numbers .entry))) at (now (out .entry)) (now (out .exit)) r ⌝ }

@@ -66,7 +66,7 @@ pub walk-cut : (n i : ℕ) (s : List ℕ) (at : ℕ) → length s < endAt s at
 walk-cut n i s at h =
     cut-front n i (drop at s) (omega (arith, length-drop at s, length-at s at))
 
--- a record that is all there is read, and the walk goes on behind it
+-- a record that is all there is read, and the walk goes on after it
 pub walk-whole : (n i : ℕ) (s : List ℕ) (at : ℕ) → endAt s at ≤ length s
     → walked (suc n) i (drop at s)
     ≡ next i (parse (take (lengthAt s at) (drop (at + 2) s))) (walked n (suc i) (drop (endAt s at) s))

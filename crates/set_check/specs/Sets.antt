@@ -24,7 +24,7 @@ abbrev pub also : Code → Walk → Walk
 also c (codes cs) = codes (c ∷ cs)
 also c (stopped i r) = stopped i r
 
--- the outcome of record i, and the walk behind it if that is good
+-- the outcome of record i, and the walk after it if that is good
 abbrev pub next : ℕ → Outcome Code → Walk → Walk
 next i (done c) w = also c w
 next i (refused r) w = stopped i r
@@ -46,7 +46,7 @@ unfoldable pub readSet : List ℕ → Walk
 readSet [] = stopped 0 Length
 readSet (n ∷ xs) = walked n 0 xs
 
--- a record behind its length
+-- a record after its length
 abbrev pub framed : Code → List ℕ
 framed c = let b = pack c in (length b / 256) ∷ (length b % 256) ∷ b
 

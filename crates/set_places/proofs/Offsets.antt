@@ -36,7 +36,7 @@ nowhere→ s at e = go (leb (endAt s at) (length s)) refl e
     go true p e = never (cc)
     go false p e = leb-false (endAt s at) (length s) p
 
--- a record behind another stands further on
+-- a record after another stands further on
 pub offset-grows : (s : List ℕ) (i k : ℕ) → i ≤ k → offsetOf s i ≤ offsetOf s k
 offset-grows s i zero h = let e : i ≡ 0 = omega arith in subst (λ j. offsetOf s j ≤ 1) (sym e) (omega arith)
 offset-grows s i (suc k) h = go (eqb i (suc k)) refl (offset-grows s i k)
@@ -62,14 +62,14 @@ unfolding recordPlace
 record-at s i h =
     ap (λ b. if b then placeAt s (offsetOf s i) else Nowhere) (lt-ltb i (getD s 0 0) h)
 
--- behind a record that is cut off there is none
+-- after a record that is cut off there is none
 pub record-cut : (s : List ℕ) (k i : ℕ) → k < i → i < getD s 0 0 → placeAt s (offsetOf s k) ≡ Nowhere
     → recordPlace s i ≡ Nowhere
 record-cut s k i h b e =
     let g = offset-grows s (suc k) i h in
     record-at s i b ∙ place-cut s (offsetOf s i) (omega (arith, nowhere→ s (offsetOf s k) e))
 
--- the record behind record k
+-- the record after record k
 pub record-next : (s : List ℕ) (k start len : ℕ) → placeAt s (offsetOf s k) ≡ At start len
     → (start + len ≡ offsetOf s (k + 1)) × (start + len ≤ length s)
 record-next s k start len e =

@@ -21,7 +21,7 @@ endAt s at = at + 2 + lengthAt s at
 abbrev pub placeAt : List ℕ → ℕ → Place
 placeAt s at = if leb (endAt s at) (length s) then At (at + 2) (lengthAt s at) else Nowhere
 
--- the offset of record i's length: behind the count byte for record 0, behind record i − 1 for the others
+-- the offset of record i's length: after the count byte for record 0, after record i − 1 for the others
 abbrev pub offsetOf : List ℕ → ℕ → ℕ
 offsetOf s zero = 1
 offsetOf s (suc i) = endAt s (offsetOf s i)

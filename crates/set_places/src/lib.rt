@@ -1,4 +1,4 @@
-// Where the records of a set stand: one count byte, then each record behind a two-byte length, most significant first.
+// Where the records of a set stand: one count byte, then each record after a two-byte length, most significant first.
 // The records are walked one by one from the lent bytes.
 ghost use mathlib.Core.Path.{_≡_};
 ghost use Rattle.set_places.specs.Offsets.{placeAt, recordPlace};

@@ -25,7 +25,7 @@ use Rattle.stream_damage.specs.declared.BlockNo.{BlockNo}
 use Rattle.stream_damage.specs.BitReach.{firstBlock, lastBlock}
 
 module _ (q count f l : ℕ) (xs ys : List ℕ) (s : SameOutside f l (bitsOf xs) (bitsOf ys)) where
-  -- the fields before bit f and behind bit l are the same
+  -- the fields before bit f and after bit l are the same
   same-field : (o w : ℕ) → (o + w ≤ f) ⊎ (l < o) → field (bitsOf xs) o w ≡ field (bitsOf ys) o w
   same-field o w h = ap value (same-stretch f l (bitsOf xs) (bitsOf ys) s o w h)
 

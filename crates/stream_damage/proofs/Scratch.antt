@@ -40,7 +40,7 @@ module _ (D : ℕ) (ws W : List ℕ) (good : T (goodDepth D (length ws))) (long 
         | no l ↦ subst (λ v. v < n) (sym (part-past k r (unwoven D W) j (omega arith))) z
       ])
 
-  -- a word that was woven to a place before x or behind y
+  -- a word that was woven to a place before x or after y
   same-word : (x y : ℕ) → SameOutside x y W (woven D ws) → (j : ℕ) → (j * D + r < x) ⊎ (y < j * D + r)
       → getD (part k r (unwoven D W)) j 0 ≡ getD (part k r ws) j 0
   same-word x y s j o = elim (decLt j k) [

@@ -1,4 +1,4 @@
--- The words of a path put into bytes as a stream, edge by edge; copies of the tail datum stand behind the blocks.
+-- The words of a path put into bytes as a stream, edge by edge; copies of the tail datum stand after the blocks.
 -- In order: Puts, puts-none, puts-more, puts-room, puts-end; closed, length-closed, closed-datum, closed-below;
 -- recorded-size, recorded-in, a recording under a table by value.
 -- Assumes nothing.
@@ -53,7 +53,7 @@ module _ (t : Arrays) (q : ℕ) (ds lent : List ℕ) where
     pub puts-end : length ds ≤ k → Waits (uniform q (spells (rowsOf t) 0 ds)) p lent out
     puts-end h = subst (λ x. Waits (uniform q (spells (rowsOf t) 0 x)) p lent out) (take-all k ds h) (m .waits)
 
--- ---- blocks with copies of the datum d behind them, n in all
+-- ---- blocks with copies of the datum d after them, n in all
 abbrev pub closed : List ℕ → ℕ → ℕ → List ℕ
 closed ds d n = ds ++ replicate (n - length ds) d
 

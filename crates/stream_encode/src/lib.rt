@@ -1,4 +1,4 @@
-// Encoding to a bit stream under a table: each word of the recording is put behind the one before it as the blocks are
+// Encoding to a bit stream under a table: each word of the recording is put after the one before it as the blocks are
 // walked.
 ghost use mathlib.Core.Path.{_≡_};
 ghost use mathlib.Core.List.{_++_};
@@ -22,7 +22,7 @@ use table::Table;
 use table::chains::ways;
 use table::ready::is_ready;
 
-// Block i, and the tail datum behind the last block.
+// Block i, and the tail datum after the last block.
 fn datum_at(blocks: &[u8], i: usize, tail: usize) -> usize
     ensures answer { λ r. ⌜ r ≡ getD (now (blocks .entry)) i tail ⌝ }
 {
@@ -32,7 +32,7 @@ fn datum_at(blocks: &[u8], i: usize, tail: usize) -> usize
     tail
 }
 
-// The stream of the words of the blocks from state 0 and of copies of the tail datum behind them, `count` in all.
+// The stream of the words of the blocks from state 0 and of copies of the tail datum after them, `count` in all.
 fn put_recording(
     states: usize,
     n: usize,

@@ -116,7 +116,7 @@ unfolding goodStream
     (→and (eqb (length xs) (streamSize q count)) (eqb F 0) (rw b (eqb-refl (streamSize q count))) (rw d tt))
 
 -- ---- both ways
--- f bits 0 behind n bits
+-- f bits 0 after n bits
 zeros-behind : (B : List ℕ) (n f : ℕ) → length B ≡ n → field (B ++ bits f 0) n f ≡ 0
 zeros-behind B n f e =
     ap (λ l. value (take f l)) (drop-at B (bits f 0) n e)

@@ -40,7 +40,7 @@ module _ (B lent out : List ℕ) (p : Waiting) (w : Waits B p lent out) where
       ∙ ap₂ _+_ (length-bitsOf (take (p .at) out) ∙ ap (λ n. n * 8) (length-take-le (p .at) out (w .inside)))
       (length-bits (p .count) (p .held))
 
-  -- the bytes behind the next one
+  -- the bytes after the next one
   past : drop (p .at + 1) out ≡ drop (p .at + 1) lent
   past = sym (drop-drop 1 (p .at) out) ∙ ap (drop 1) (w .behind) ∙ drop-drop 1 (p .at) lent
 
@@ -129,7 +129,7 @@ module _ (q : ℕ) (ws lent out : List ℕ) (p : Waiting) (w : Waits (uniform q 
       (sym (take-append-drop (p .at) out)
       ∙ ap (λ l. take (p .at) out ++ l) (w .behind ∙ ap (λ n. drop n lent) (sym long-front)))
 
-  -- bits wait: bits 0 behind them make the last byte
+  -- bits wait: bits 0 after them make the last byte
   pub waits-filled : (x : ℕ) → x ≡ p .held * 2 ^ (8 - p .count) % 2 ^ 64 % 2 ^ 8 → 0 < p .count → p .at < length out
       → set out (p .at) x ≡ packed q ws ++ drop (streamSize q (length ws)) lent
   waits-filled x e h i =

@@ -39,7 +39,7 @@ fn is_width(q: usize) -> bool
     q <= 8
 }
 
-// Whether the bits of the bytes behind the place `at` are all 0; they are fewer than eight.
+// Whether the bits of the bytes after the place `at` are all 0; they are fewer than eight.
 fn is_filled(bytes: &[u8], at: usize) -> bool
     requires { ⌜
         (length (now bytes) ≤ limit) × (at ≤ 8 * length (now bytes)) × (8 * length (now bytes) ≤ at + 7) ⌝ }

@@ -1,4 +1,4 @@
-// Words put into bytes, one behind the other: a byte is written once, when it is full.
+// Words put into bytes, one after the other: a byte is written once, when it is full.
 ghost use mathlib.Core.Path.{_≡_};
 ghost use mathlib.Core.List.{List, _++_};
 ghost use Prim.Native.Nat.{ℕ, _+_, _*_, _^_, _≤_, _<_};
@@ -53,7 +53,7 @@ pub fn put_word(out: &mut [u8], p: Waiting, q: usize, word: u8) -> Waiting
     }
 }
 
-// The bits that wait, with bits 0 behind them, in the byte that they begin.
+// The bits that wait, with bits 0 after them, in the byte that they begin.
 pub fn put_fill(out: &mut [u8], p: Waiting)
     requires { ⌜ (p .count < 8) × (p .held < 2 ^ p .count) × (p .at * 8 + p .count ≤ 8 * length (now out)) ⌝ }
     ensures written { λ r. ⌜ ((q : ℕ) (ws lent : List ℕ)

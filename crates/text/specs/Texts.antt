@@ -1,5 +1,5 @@
 -- Text in lent bytes, and numbers as text.
--- In order: bytes, of a quoted text; size, how many digits a number has; decimal, hex; Added, a text put behind
+-- In order: bytes, of a quoted text; size, how many digits a number has; decimal, hex; Added, a text put after
 -- another.
 -- Assumes nothing.
 use mathlib.Core.Path.{_≡_}
@@ -31,7 +31,7 @@ decimal n = digits 10 (size 10 20 n) n
 unfoldable pub hex : ℕ → ℕ → List ℕ
 hex w n = digits 16 (max (min (max w 1) 16) (size 16 16 n)) n
 
--- the bytes B became C, as many: the first r of them are the first `at` of B and behind these the text, as far as
+-- the bytes B became C, as many: the first r of them are the first `at` of B and after these the text, as far as
 -- there is room, and the bytes from r on stay
 pub record Added (text : List ℕ) (at : ℕ) (B C : List ℕ) (r : ℕ) : Type 0 where
   pub written : take r C ≡ take (length B) (take at B ++ text)

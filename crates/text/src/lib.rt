@@ -1,4 +1,4 @@
-// Text put into lent bytes, one piece behind the other. What there is no room for is left out, so that no function has
+// Text put into lent bytes, one piece after the other. What there is no room for is left out, so that no function has
 // a premise.
 ghost use mathlib.Core.Path.{_≡_};
 ghost use mathlib.Core.List.{[], _∷_, _++_};
@@ -30,7 +30,7 @@ fn copy(out: &mut [u8], at: usize, text: &[u8], n: usize)
     }
 }
 
-// A text behind the first `at` bytes; the answer is the place behind it.
+// A text after the first `at` bytes; the answer is the place after it.
 pub fn put(out: &mut [u8], at: usize, text: &[u8]) -> usize
     ensures written { λ r. ⌜ Added (now (text .entry)) at (now (out .entry)) (now (out .exit)) r ⌝ }
 {
@@ -40,7 +40,7 @@ pub fn put(out: &mut [u8], at: usize, text: &[u8]) -> usize
     from + n
 }
 
-// A number in decimal behind the first `at` bytes; the answer is the place behind it.
+// A number in decimal after the first `at` bytes; the answer is the place after it.
 pub fn put_decimal(out: &mut [u8], at: usize, n: u64) -> usize
     ensures written { λ r. ⌜ Added (decimal n) at (now (out .entry)) (now (out .exit)) r ⌝ }
 {
@@ -49,8 +49,8 @@ pub fn put_decimal(out: &mut [u8], at: usize, n: u64) -> usize
     put(out, at, &digits[..k])
 }
 
-// A number in hexadecimal, in lower case, with zeros in front up to `width` digits (from 1 to 16), behind the first
-// `at` bytes; the answer is the place behind it.
+// A number in hexadecimal, in lower case, with zeros in front up to `width` digits (from 1 to 16), after the first
+// `at` bytes; the answer is the place after it.
 pub fn put_hex(out: &mut [u8], at: usize, n: u64, width: usize) -> usize
     ensures written { λ r. ⌜ Added (hex width n) at (now (out .entry)) (now (out .exit)) r ⌝ }
 {
@@ -59,7 +59,7 @@ pub fn put_hex(out: &mut [u8], at: usize, n: u64, width: usize) -> usize
     put(out, at, &digits[..k])
 }
 
-// A name and a number in decimal behind the first `at` bytes; the answer is the place behind them.
+// A name and a number in decimal after the first `at` bytes; the answer is the place after them.
 pub fn put_number(out: &mut [u8], at: usize, name: &[u8], n: u64) -> usize
     ensures written { λ r. ⌜ Added (now (name .entry) ++ decimal n) at (now (out .entry)) (now (out .exit)) r ⌝ }
 {
@@ -67,7 +67,7 @@ pub fn put_number(out: &mut [u8], at: usize, name: &[u8], n: u64) -> usize
     put_decimal(out, number, n)
 }
 
-// A name, a number in decimal and a newline behind the first `at` bytes; the answer is the place behind them.
+// A name, a number in decimal and a newline after the first `at` bytes; the answer is the place after them.
 pub fn put_line(out: &mut [u8], at: usize, name: &[u8], n: u64) -> usize
     ensures written { λ r. ⌜
         Added (now (name .entry) ++ decimal n ++ 10 ∷ []) at (now (out .entry)) (now (out .exit)) r ⌝ }
@@ -88,7 +88,7 @@ fn put_bit(out: &mut [u8], at: usize, w: usize, k: usize) -> usize
     put(out, at, b"1")
 }
 
-// A word as q binary digits behind the first `at` bytes; the answer is the place behind them.
+// A word as q binary digits after the first `at` bytes; the answer is the place after them.
 pub fn put_word(out: &mut [u8], at: usize, q: usize, w: usize) -> usize
     requires { ⌜ q ≤ 8 ⌝ }
     ensures written { λ r. ⌜ Added (binary q w) at (now (out .entry)) (now (out .exit)) r ⌝ }

@@ -106,7 +106,7 @@ code9 =
     let nexts : List ℕ = 1 ∷ 2 ∷ 3 ∷ 4 ∷ 5 ∷ 6 ∷ 7 ∷ 0 ∷ [] in
     codeAt 1 1 0 0 (ladder nexts) (ladderRows nexts)
 
--- the table of the listing, worked afresh: m 0, a 1
+-- the table of the listing, worked anew: m 0, a 1
 abbrev pub code10 : Code
 code10 =
     codeAt 2 3 0 1 (runLength 0 1)
@@ -119,7 +119,7 @@ record10 =
     0x46 ∷ 0x08 ∷ 0x04 ∷ 0x40 ∷ 0x23 ∷ 0x00 ∷ 0x41 ∷ 0x80 ∷ 0x60 ∷ 0xA8 ∷ 0x0A ∷ 0x0B ∷ 0x01 ∷ 0xE0 ∷ 0x28
     ∷ 0x0A ∷ 0x0B ∷ 0x01 ∷ 0xE0 ∷ 0x10 ∷ 0x1E ∷ 0x08 ∷ []
 
--- document 01's examples, as document 02 has worked them afresh
+-- document 01's examples, as document 02 has worked them anew
 pub record Examples : Type 0 where
   -- E1 (0,1), p 1, q 2, cap 1: weights 1, 1; the table; its record
   pub e1-weights : weighed 0 1 1 2 1 ≡ done (1 ∷ 1 ∷ [])

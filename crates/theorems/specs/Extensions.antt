@@ -124,10 +124,10 @@ pub bits-reach : (rec : List ℕ) → Below 256 rec → (c : Code) → parse rec
     ⊎ (lastBlock (c .q) (c .window .memory) (l .0) < j .0) → getD out (j .0) markAhead ≡ getD ds (j .0) 0)
 bits-reach = Rattle.stream_damage.proofs.BitReach.bits-reach
 
--- ---- (c) One word, one datum where it can be: `relabelled` gives the data of a table afresh. Main's `tableFor` is the
+-- ---- (c) One word, one datum where it can be: `relabelled` gives the data of a table anew. Main's `tableFor` is the
 -- table of the finished graph, relabelled, so what Main says of tables, windows and records is said of the new data.
 
--- Giving the data afresh keeps state 0, and in every other state each edge, with each datum once.
+-- Giving the data anew keeps state 0, and in every other state each edge, with each datum once.
 pub labels : (n : ℕ) (t : Rows) → Full n t → (edges (relabelled n t) 0 ≡ edges t 0)
     × (length (relabelled n t) ≡ length t)
     × ((s : ℕ) → s < length t → Rearranged n (edges t s) (edges (relabelled n t) s))
@@ -218,7 +218,7 @@ one-word-each = Rattle.stream_damage.proofs.Scratch.one-word-each
 pub fewer-places : (x y z : ℕ) (L R : List ℕ) → y ≤ z → SameOutside x y L R → SameOutside x z L R
 fewer-places = Rattle.codec.proofs.Reach.outside-wider
 
--- So in each recording at most m + a + 1 blocks come out otherwise than written.
+-- So in each recording at most m + a + 1 blocks differ from the data written.
 pub scratch : (rec : List ℕ) → Below 256 rec → (c : Code) → parse rec ≡ done c → (D : ℕ) (ws W : List ℕ)
     → T (goodDepth D (length ws)) → Below (2 ^ c .q) W → (x : ℕ) → SameOutside x (x + D - 1) W (woven D ws)
     → (r : ℕ) → r < D → (ds : List ℕ) → Blocks c ds → part (length ws / D) r ws ≡ recording c ds

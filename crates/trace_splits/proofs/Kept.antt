@@ -1,5 +1,5 @@
 -- The edges of a run of keys.
--- In order: kept-run, the run in the list; keysText, keys-more, kept-told, one behind the other.
+-- In order: kept-run, the run in the list; keysText, keys-more, kept-told, one after the other.
 -- Assumes nothing.
 use Rattle.laws.proofs.All.{_≡_, sym, ap, _∙_, List, map, ℕ, _+_, _-_, _≤_, arith, length, getD, take, drop}
 use Rattle.laws.proofs.All.{length-drop, length-take-le, getD-take, getD-drop, take-take, range, concat, drop-take}

@@ -17,7 +17,7 @@ items (suc n) = 32 ∷ 35 ∷ items n
 pub items-long : (k : ℕ) → k ≤ 16 → 2 * k ≡ length (take (2 * k) (items 16))
 items-long k h = sym (length-take-le (2 * k) (items 16) (omega arith))
 
--- the pattern cut behind its number k
+-- the pattern cut after its number k
 listed-items : (n k : ℕ) (l : List ℕ) → k ≤ n → k ≤ length l → sentence (take (2 * k) (items n)) l ≡ listed (take k l)
 unfolding listed
 listed-items n zero l h b = refl

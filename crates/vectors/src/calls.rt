@@ -75,7 +75,7 @@ fn number_at(bytes: &[u8], at: usize) -> usize
     n
 }
 
-// The blocks of a stream that stands behind its number of words.
+// The blocks of a stream that stands after its number of words.
 fn decode_counted(record: &[u8], counted: &[u8], out: &mut [u8]) -> Answer {
     let count = number_at(counted, 0);
     if counted.len() < 8 {

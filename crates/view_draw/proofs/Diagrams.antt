@@ -21,7 +21,7 @@ use Rattle.view_draw.specs.Drawn.{arrowOf, tableArrow, arrowsTo, opening
 use Rattle.view_matrix.specs.Matrix.{matrix}
 use Rattle.view_listing.proofs.Edges.{edges-are}
 
--- a text, where the bytes behind it and the place have other names
+-- a text, where the bytes after it and the place have other names
 pub added-here : {s B C D : List ℕ} {at m r : ℕ} → D ≡ C → m ≡ r → Added s at B C r → Added s at B D m
 added-here {s = s} {B = B} {C = C} {at = at} {m = m} e f p =
     subst (λ l. Added s at B l m) (sym e) (subst (λ k. Added s at B C k) (sym f) p)

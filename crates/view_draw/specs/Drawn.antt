@@ -27,7 +27,7 @@ joined next d j = eqb (next j) (next d)
 unfoldable pub opens : (ℕ → ℕ) → ℕ → Bool
 opens next d = not (some (joined next d) d)
 
--- what j adds to the label that d opens, if it is behind d and leads to the same state: `, 3/110`
+-- what j adds to the label that d opens, if it comes after d and leads to the same state: `, 3/110`
 unfoldable pub other : ℕ → (ℕ → ℕ) → (ℕ → ℕ) → ℕ → ℕ → List ℕ
 other q word next d j = if ltb d j && joined next d j then said ", #/" (j ∷ []) ++ binary q (word j) else []
 

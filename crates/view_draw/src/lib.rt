@@ -99,7 +99,7 @@ fn put_diagram(out: &mut [u8], first: usize, t: Table, n: usize) -> usize
     put(out, at, b"}\n")
 }
 
-// The diagram, or the matrix for more than 24 states, behind the first `at` bytes; the answer is the place behind it.
+// The diagram, or the matrix for more than 24 states, after the first `at` bytes; the answer is the place after it.
 pub fn draw(t: Table, out: &mut [u8], at: usize) -> usize
     ensures written { λ r. ⌜ Added (drawText t) at (now (out .entry)) (now (out .exit)) r ⌝ }
 {

@@ -51,7 +51,7 @@ fn put_entries(out: &mut [u8], first: usize, code: Table, n: usize) -> usize
     at
 }
 
-// The listing behind the first `at` bytes; the answer is the place behind it.
+// The listing after the first `at` bytes; the answer is the place after it.
 pub fn put_listing(out: &mut [u8], at: usize, t: Table) -> usize
     requires { ⌜ Ready t ⌝ }
     ensures written { λ r. ⌜ Added (listing (codeIn t)) at (now (out .entry)) (now (out .exit)) r ⌝ }

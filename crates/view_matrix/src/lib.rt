@@ -105,7 +105,7 @@ fn put_entry(out: &mut [u8], at: usize, code: Table, n: usize, s: usize, d: usiz
     )
 }
 
-// The matrix behind the place `first`, with n data a state; the answer is the place behind it.
+// The matrix after the place `first`, with n data a state; the answer is the place after it.
 pub fn put_matrix(out: &mut [u8], first: usize, t: Table, n: usize) -> usize
     requires { ⌜ Ready t × (n ≡ 2 ^ t .p) ⌝ }
     ensures written { λ r. ⌜ Added (matrix (codeIn t)) first (now (out .entry)) (now (out .exit)) r ⌝ }

@@ -11,7 +11,7 @@ abbrev joined : List (List ℕ) → List ℕ
 joined [] = []
 joined (p ∷ ps) = p ++ 10 ∷ joined ps
 
--- the phrases, each with a newline behind it
+-- the phrases, each with a newline after it
 unfoldable pub row : List ℕ
 unfolding phrases
 row = joined phrases

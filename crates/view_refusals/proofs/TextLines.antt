@@ -16,7 +16,7 @@ module _ (xs : List ℕ) (i : ℕ) where
   pub end-none : length xs ≤ i → lineEnd (drop i xs) ≡ 0
   end-none h = ap lineEnd (drop-of-length-le xs h)
 
--- the place behind the line at `from` is where the text without one line more starts
+-- the place after the line at `from` is where the text without one line more starts
 pub rest-next : (xs : List ℕ) (i from end to : ℕ) → drop from xs ≡ rest i xs → end ≡ from + lineEnd (drop from xs)
     → to ≡ min (end + 1) (length xs) → drop to xs ≡ rest (i + 1) xs
 rest-next xs i from end to p e f =

@@ -12,8 +12,8 @@ use text::put_number;
 
 mod lines;
 
-// The words of a number behind the first `at` bytes; the answer is the place behind them. Line 0 is empty, a number
-// that is no refusal has no words, and 11 has its place behind the words.
+// The words of a number after the first `at` bytes; the answer is the place after them. Line 0 is empty, a number
+// that is no refusal has no words, and 11 has its place after the words.
 pub fn put_words(out: &mut [u8], at: usize, number: u64) -> usize
     ensures written { λ e. ⌜ Added (wordsOf number) at (now (out .entry)) (now (out .exit)) e ⌝ }
 {
@@ -40,7 +40,7 @@ pub fn put_words(out: &mut [u8], at: usize, number: u64) -> usize
     put(out, at, line(words, number as usize))
 }
 
-// The condition of a refusal behind the first `at` bytes; the answer is the place behind it.
+// The condition of a refusal after the first `at` bytes; the answer is the place after it.
 pub fn put_phrase(out: &mut [u8], at: usize, r: Refusal) -> usize
     ensures written { λ e. ⌜ Added (phraseOf r) at (now (out .entry)) (now (out .exit)) e ⌝ }
 {
@@ -52,7 +52,7 @@ pub fn put_phrase(out: &mut [u8], at: usize, r: Refusal) -> usize
     end
 }
 
-// The number and the condition of a refusal behind the first `at` bytes; the answer is the place behind them.
+// The number and the condition of a refusal after the first `at` bytes; the answer is the place after them.
 pub fn put_refusal(out: &mut [u8], at: usize, r: Refusal) -> usize
     ensures written { λ e. ⌜ Added (refusalWords r) at (now (out .entry)) (now (out .exit)) e ⌝ }
 {

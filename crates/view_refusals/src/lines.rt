@@ -4,7 +4,7 @@ ghost use Prim.Native.Nat.{_+_, _≤_, min};
 ghost use lib.ListN.{length, drop};
 ghost use Rattle.view_refusals.specs.TextLines.{lineEnd, rest, lineOf};
 
-// The place behind another, within a size.
+// The place after another, within a size.
 fn behind(at: usize, size: usize) -> usize
     requires { ⌜ at ≤ size ⌝ }
     ensures answer { λ r. ⌜ (r ≡ min (at + 1) size) × (r ≤ size) ⌝ }

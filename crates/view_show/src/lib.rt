@@ -45,7 +45,7 @@ fn is_whole(t: Table) -> bool
     is_ready(t)
 }
 
-// The code in words and its listing behind the first `at` bytes; the answer is the place behind them.
+// The code in words and its listing after the first `at` bytes; the answer is the place after them.
 pub fn show(t: Table, out: &mut [u8], at: usize) -> usize
     ensures written { λ r. ⌜ Added (showText t) at (now (out .entry)) (now (out .exit)) r ⌝ }
 {

@@ -113,7 +113,7 @@ fn put_states(out: &mut [u8], first: usize, c: Constraint) -> usize
     at
 }
 
-// The constraint and its start behind the first `at` bytes; the answer is the place behind them.
+// The constraint and its start after the first `at` bytes; the answer is the place after them.
 pub fn put_constraint(out: &mut [u8], at: usize, c: Constraint, start: usize) -> usize
     requires { ⌜ c .states ≤ 16 ⌝ }
     ensures written { λ r. ⌜

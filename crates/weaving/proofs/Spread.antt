@@ -28,7 +28,7 @@ spread-more a b r n ws R S w a₀ h e s =
           ∙ s .kept x (λ i l. o i (omega arith));
     }
 
--- ---- the first r lists of a, of b elements each: they are in place, and what lies behind the array stays
+-- ---- the first r lists of a, of b elements each: they are in place, and what lies after the array stays
 pub record Lists (a b r : ℕ) (ws R S : List ℕ) : Type 0 where
   pub long : length S ≡ length R
   pub put : (s i : ℕ) → s < r → i < b → getD S (i * a + s) 0 ≡ getD ws (s * b + i) 0

@@ -40,7 +40,7 @@ fn put_lists(words: &[u8], a: usize, b: usize, out: &mut [u8])
     }
 }
 
-// Elements j of `a` lists of `b` elements each, behind the j times a places before them.
+// Elements j of `a` lists of `b` elements each, after the j times a places before them.
 fn put_column(words: &[u8], a: usize, b: usize, j: usize, out: &mut [u8])
     requires { ⌜ (j < b) × (length (now words) ≡ a * b) × (a * b ≤ length (now out)) ⌝ }
     ensures written { λ r. ⌜
@@ -94,7 +94,7 @@ fn check(d: usize, length: usize, room: usize) -> Verdict
         return Verdict::Bad(Refusal::Depth);
     }
     if !fits {
-        return Verdict::Bad(Refusal::ShortOutput); // 13 comes behind 16
+        return Verdict::Bad(Refusal::ShortOutput); // 13 comes after 16
     }
     Verdict::Good
 }

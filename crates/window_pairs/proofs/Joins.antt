@@ -57,7 +57,7 @@ module _ (t : Arrays) (few : t .states ≤ 128) (w k : ℕ) (have : BitSet) (A :
 
 -- ---- one turn: the edge i
 module _ (t : Arrays) (P : List ℕ) (w k u v i : ℕ) where
-  -- what stands behind the tests of i
+  -- what is asked after the tests of i
   abbrev then : Bool
   then = eqb (nextOf t i) u && some (beyond t P w k (i / 16) v) (places t)
 

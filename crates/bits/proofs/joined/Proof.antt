@@ -1,4 +1,4 @@
--- `bits::joined` meets its contract: the bits behind stand below those in front, so the or adds them.
+-- `bits::joined` meets its contract: the bits that follow stand below those in front, so the or adds them.
 -- Assumes nothing.
 use Rattle.laws.proofs.All.{needs}
 use Rattle.bits.proofs.Bytes.{joined-or}

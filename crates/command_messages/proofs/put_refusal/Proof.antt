@@ -1,4 +1,4 @@
--- `put_refusal` meets its contract: the refusal is put behind the name of the command.
+-- `put_refusal` meets its contract: the refusal is put after the name of the command.
 -- Assumes nothing.
 use Rattle.text.proofs.Adding.{_then_}
 use Rattle.command_messages.specs.Sayings.{saying}

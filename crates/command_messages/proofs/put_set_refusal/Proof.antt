@@ -1,4 +1,4 @@
--- `put_set_refusal` meets its contract: the refusal is put behind the name of the command, then the number of the
+-- `put_set_refusal` meets its contract: the refusal is put after the name of the command, then the number of the
 -- record.
 -- Assumes nothing.
 use Rattle.text.proofs.Adding.{_then_}

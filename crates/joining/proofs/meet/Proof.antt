@@ -1,4 +1,4 @@
--- `meet` meets its contract: a bit that is not allowed leaves the list, and an allowed one adjoins the pair behind it.
+-- `meet` meets its contract: a bit that is not allowed leaves the list, and an allowed one adjoins its pair.
 -- Assumes nothing.
 use Rattle.laws.proofs.All.{sym, ap, _∙_, true, false, arith, not-true, not-false, needs}
 use Rattle.constraint.specs.Value.{constraintOf}

@@ -1,4 +1,4 @@
--- `with_pair` meets its contract: a pair whose number is below the count is there, and any other is stored behind.
+-- `with_pair` meets its contract: a pair whose number is below the count is there, and any other is stored at the end.
 -- Assumes nothing.
 use Rattle.laws.proofs.All.{_≡_, sym, _∙_, arith, length, needs}
 use Rattle.joining.specs.PairLists.{pairsIn}

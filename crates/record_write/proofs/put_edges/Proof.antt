@@ -1,4 +1,4 @@
--- `put_edges` meets its contract. The loop's invariant: the edges passed stand behind the constraint, and all other
+-- `put_edges` meets its contract. The loop's invariant: the edges passed stand after the constraint, and all other
 -- bits are as lent. The measure is what is left.
 -- Assumes nothing.
 use Rattle.laws.proofs.All.{_≡_, refl, ap, _∙_, _+_, _*_, _-_, _/_, _%_, _^_, _≤_, _<_, mul-le-mul-right, mod-lt}

@@ -1,4 +1,4 @@
--- `put_front` meets its contract: the eight fields stand one behind the other.
+-- `put_front` meets its contract: the eight fields stand one after the other.
 -- Assumes nothing.
 use Rattle.laws.proofs.All.{_≡_, refl, _∙_, arith, needs, now, length}
 use Rattle.bits.specs.Fields.{bitsOf}

@@ -1,4 +1,4 @@
--- `put_record` meets its contract: the four parts stand one behind the other and fill the record's bytes.
+-- `put_record` meets its contract: the four parts stand one after the other and fill the record's bytes.
 -- Assumes nothing.
 use Rattle.laws.proofs.All.{_≡_, refl, sym, ap, ap₂, subst, _∙_, _+_, _*_, _-_, _^_, _≤_, arith, needs, now, length}
 use Rattle.laws.proofs.All.{pow-pos, below-all}

@@ -1,4 +1,4 @@
--- `put_states` meets its contract. The loop's invariant: the states passed stand behind the numbers in front, and all
+-- `put_states` meets its contract. The loop's invariant: the states passed stand after the numbers in front, and all
 -- other bits are as lent. The measure is what is left.
 -- Assumes nothing.
 use Rattle.laws.proofs.All.{_≡_, refl, ap, _∙_, map, _-_, _≤_, arith, needs, now, length, range}

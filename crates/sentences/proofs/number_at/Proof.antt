@@ -1,4 +1,4 @@
--- `number_at` meets its contract: behind its end a list has 0.
+-- `number_at` meets its contract: past its end a list has 0.
 -- Assumes nothing.
 use Rattle.laws.proofs.All.{sym, arith, List·getD-eq-default, now, needs}
 use Rattle.sentences.proofs.number_at.Statement.{statement}

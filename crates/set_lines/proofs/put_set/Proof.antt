@@ -1,4 +1,4 @@
--- `put_set` meets its contract: the count is put behind the lines.
+-- `put_set` meets its contract: the count is put after the lines.
 -- Assumes nothing.
 use Rattle.text.proofs.Adding.{added-more}
 use Rattle.set_lines.specs.SetText.{setText}

@@ -1,4 +1,4 @@
--- A block by its place; behind the last one the list is read as the tail datum.
+-- A block by its place; past the last one the list is read as the tail datum.
 -- Assumes nothing.
 use Rattle.laws.proofs.All.{sym, arith, now, getD-any, List·getD-eq-default, needs}
 use Rattle.stream_encode.proofs.datum_at.Statement.{statement}

@@ -21,7 +21,7 @@ abbrev μ-loop : tie.MeasureT-loop
 abbrev table : tie.Start Inv-loop μ-loop → Arrays
 table s = arrays (s .args .states) (s .args .n) (now (s .args .word)) (now (s .args .next))
 
--- the blocks and the closing data
+-- the blocks and the copies of the tail datum
 abbrev all-data : tie.Start Inv-loop μ-loop → List ℕ
 all-data s = closed (now (s .args .blocks)) (s .args .tail) (s .args .count)
 

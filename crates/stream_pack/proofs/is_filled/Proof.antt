@@ -1,4 +1,4 @@
--- `stream_pack::is_filled` meets its contract: the bits behind the place are one field.
+-- `stream_pack::is_filled` meets its contract: the bits after the place are one field.
 -- Assumes nothing.
 use Rattle.laws.proofs.All.{ap, eqb, needs}
 use Rattle.stream_pack.proofs.is_filled.Statement.{statement}

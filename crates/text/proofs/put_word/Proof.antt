@@ -1,5 +1,5 @@
 -- `put_word` meets its contract. The loop's invariant: the text put since the loop began, with the last k
--- digits behind it, is the word. The measure is k.
+-- digits after it, is the word. The measure is k.
 -- Assumes nothing.
 use Rattle.laws.proofs.All.{_≡_, refl, sym, ap, _∙_, List, [], _∷_, _++_, append-nil, ℕ, _-_, _/_, _%_, _^_, _≤_}
 use Rattle.laws.proofs.All.{arith, needs}

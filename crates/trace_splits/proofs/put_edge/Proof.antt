@@ -1,4 +1,4 @@
--- `put_edge` meets its contract: the word, and behind it the target.
+-- `put_edge` meets its contract: the word, and after it the target.
 -- Assumes nothing.
 use Rattle.laws.proofs.All.{needs}
 use Rattle.text.proofs.Adding.{added-more}

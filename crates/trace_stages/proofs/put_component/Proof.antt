@@ -1,4 +1,4 @@
--- `put_component` meets its contract: the list, and behind it the start, which is its first state, and the weight.
+-- `put_component` meets its contract: the list, and after it the start, which is its first state, and the weight.
 -- Assumes nothing.
 use Rattle.laws.proofs.All.{needs}
 use Rattle.trace_stages.proofs.Listed.{component-told}

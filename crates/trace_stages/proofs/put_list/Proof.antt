@@ -1,4 +1,4 @@
--- `put_list` meets its contract: the pattern is cut behind its number k.
+-- `put_list` meets its contract: the pattern is cut after its number k.
 -- Assumes nothing.
 use Rattle.laws.proofs.All.{needs}
 use Rattle.text.proofs.Adding.{added-more}

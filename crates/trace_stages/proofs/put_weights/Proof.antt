@@ -1,4 +1,4 @@
--- `put_weights` meets its contract: the list, and behind it the end of the line.
+-- `put_weights` meets its contract: the list, and after it the end of the line.
 -- Assumes nothing.
 use Rattle.laws.proofs.All.{needs}
 use Rattle.text.proofs.Adding.{added-more}

@@ -1,4 +1,4 @@
--- `put_phrase` meets its contract: the words of the number, and for 11 the place behind them.
+-- `put_phrase` meets its contract: the words of the number, and for 11 the place after them.
 -- Assumes nothing.
 use Rattle.laws.proofs.All.{needs}
 use Rattle.text.proofs.Adding.{added-same, added-more}

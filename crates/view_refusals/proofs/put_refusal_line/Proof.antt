@@ -1,4 +1,4 @@
--- `put_refusal_line` meets its contract: a newline is put behind the number and the condition.
+-- `put_refusal_line` meets its contract: a newline is put after the number and the condition.
 -- Assumes nothing.
 use Rattle.laws.proofs.All.{needs}
 use Rattle.text.proofs.Adding.{added-more}

@@ -1,4 +1,4 @@
--- `put_column` meets its contract: each turn puts one element behind those before it.
+-- `put_column` meets its contract: each turn puts one element after those before it.
 -- Assumes nothing.
 use Rattle.laws.proofs.All.{_≡_, refl, sym, ap, _∙_, _++_, map, append-nil, _+_, _-_, _*_, _≤_, _<_, arith, now, length}
 use Rattle.laws.proofs.All.{take, drop, getD, length-set, take-append-drop, mul-le-mul-right, place-lt, from}
@@ -54,7 +54,7 @@ add-out c = omega (arith, put-in (c .before))
 slice-write-out : tie.Need-slice-write-out Inv-loop μ-loop
 slice-write-out c = omega (arith, put-in (c .before), c .before .before .loop .inv .2)
 
--- the place that would be read next lies at most one row behind the words, which take less than half of all memory
+-- the place that would be read next lies at most one row past the words, which take less than half of all memory
 add-source : tie.Need-add-source Inv-loop μ-loop
 add-source c =
     let s = c .before .before .before in

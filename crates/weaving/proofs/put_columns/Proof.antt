@@ -1,4 +1,4 @@
--- `put_columns` meets its contract: each turn puts one column behind those before it.
+-- `put_columns` meets its contract: each turn puts one column after those before it.
 -- Assumes nothing.
 use Rattle.laws.proofs.All.{_≡_, refl, sym, ap, _∙_, _++_, map, _+_, _-_, _*_, _≤_, mul-comm, arith, now, length, take}
 use Rattle.laws.proofs.All.{drop, from, range, piece-more, needs}

@@ -49,7 +49,7 @@ slice-write-out c =
     let l = c .before .before .loop in
     omega (arith, put-in (c .before), l .inv .1, l .inv .2 .long)
 
--- the place behind the last one lies at most one row behind the words, which take less than half of all memory
+-- the place after the last one lies at most one row past the words, which take less than half of all memory
 add-at : tie.Need-add-at Inv-loop μ-loop
 add-at c =
     let s = c .before .before .before in

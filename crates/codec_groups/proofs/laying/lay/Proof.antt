@@ -1,4 +1,4 @@
--- Each turn writes the groups of one word behind those of the words before it.
+-- Each turn writes the groups of one word after those of the words before it.
 use Rattle.laws.proofs.All.{_≡_, refl, _∙_, ℕ, _+_, _-_, _^_, _≤_, _<_, arith, now, length, length-replicate}
 use Rattle.laws.proofs.All.{pow-mono, needs}
 use Rattle.table.specs.Edges.{Arrays, arrays, places, Linked}

@@ -1,4 +1,4 @@
--- `parse` meets its contract. The loop's invariant: the digits passed make n, and what is left behind n decides. The
+-- `parse` meets its contract. The loop's invariant: the digits passed make n, and the bytes that are left decide. The
 -- measure is what is left of the length.
 -- Assumes nothing.
 use Rattle.laws.proofs.All.{_≡_, sym, ap, _∙_, _+_, _*_, _-_, _≤_, arith, now, length, drop, needs}

@@ -1,4 +1,4 @@
--- `read_job` meets its contract: a refusal of the front ends the call, otherwise the constraint behind it decides.
+-- `read_job` meets its contract: a refusal of the front ends the call, otherwise the constraint after it decides.
 -- Assumes nothing.
 use Rattle.laws.proofs.All.{_≡_, sym, ap, _∙_, _≤_, arith, eqb, now, length, drop, needs}
 use borrow.Rule.Slice.PartAt.{part-to-end}

@@ -1,4 +1,4 @@
--- `read_joined` meets its contract: a refusal of the front ends the call, otherwise both constraints behind it decide.
+-- `read_joined` meets its contract: a refusal of the front ends the call, otherwise both constraints after it decide.
 -- Assumes nothing.
 use Rattle.laws.proofs.All.{_≡_, sym, ap₂, _∙_, ap, _≤_, arith, leb, eqb, now, length, drop, needs}
 use borrow.Rule.Slice.PartAt.{part-to-end}

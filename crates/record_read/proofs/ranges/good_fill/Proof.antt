@@ -1,4 +1,4 @@
--- `good_fill` meets its contract: the fill stands behind the last field and ends with the last byte.
+-- `good_fill` meets its contract: the fill stands after the last field and ends with the last byte.
 -- Assumes nothing.
 use Rattle.laws.proofs.All.{ap, ap₂, _∙_, _-_, _*_, arith, needs, now, eqb}
 use Rattle.bits.specs.Fields.{bitsOf, field}

@@ -1,4 +1,4 @@
--- The word's bits are joined behind those that wait; with eight of them or more, the first eight are the next byte.
+-- The word's bits are joined after those that wait; with eight of them or more, the first eight are the next byte.
 -- Assumes nothing.
 use Rattle.laws.proofs.All.{_+_, _-_, lt-of-lt-of-le, arith, now, pow-mono, needs}
 use Rattle.stream_pack.proofs.Waiting.{waits-more, waits-full}

@@ -1,4 +1,4 @@
--- `case_agrees` meets its contract: it answers true only behind its test of the kind.
+-- `case_agrees` meets its contract: it answers true only after its test of the kind.
 -- Assumes nothing.
 use Rattle.laws.proofs.All.{sym, subst, needs, T}
 use Rattle.vectors.proofs.walk.case_agrees.Statement.{statement}
