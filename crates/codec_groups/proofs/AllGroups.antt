@@ -50,7 +50,8 @@ module _ (t : Arrays) (v k : ℕ) (start first low high : List ℕ) (y : Laying 
 
   -- the groups of one word more
   pub laying-more : v < 256 → (m : ℕ) → m ≤ count t v (places t) → (f l h : List ℕ) → length f ≡ 2048
-      → length l ≡ length low → length h ≡ length high → OfWord t v k (k + m) f l h → ((j : ℕ) → j < k → getD f j 0 ≡ getD first j 0)
+      → length l ≡ length low → length h ≡ length high → OfWord t v k (k + m) f l h
+      → ((j : ℕ) → j < k → getD f j 0 ≡ getD first j 0)
       → ((j : ℕ) → j < k → targetsAt l h j ≡ targetsAt low high j)
       → Laying t (v + 1) (k + m) (set start (v + 1) (k + m)) f l h
   laying-more b m few f l h a c d o p q = record {

@@ -210,8 +210,8 @@ sets = (Rattle.set_check.proofs.Counts.set-written, Rattle.set_check.proofs.Co
 
 -- In a good set record i stands at the place of number i, and its bytes hold code i.
 pub good-places : (s : List ℕ) (cs : List Code) → readSet s ≡ codes cs → (length cs ≡ getD s 0 0)
-    × ((i : ℕ) (d : Code) → i < length cs → (start : ℕ) × (len : ℕ)
-    × (Rattle.set_places.specs.Offsets.recordPlace s i ≡ Rattle.set_places.specs.declared.Place.the-variants.At start len)
+    × ((i : ℕ) (d : Code) → i < length cs → (start : ℕ) × (len : ℕ) × (Rattle.set_places.specs.Offsets.recordPlace s i
+    ≡ Rattle.set_places.specs.declared.Place.the-variants.At start len)
     × (parse (take len (drop start s)) ≡ done (getD cs i d)))
 good-places = Rattle.set_check.proofs.Records.good-places
 

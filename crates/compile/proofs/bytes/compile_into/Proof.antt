@@ -34,5 +34,5 @@ returns-2 c =
 pub compile-into-spec : {M : Type 1} → statement M
 compile-into-spec =
     tie.close
-    (tie.spec (λ c κs. c .before .pre) compile-requires (λ c. search needs) (λ c. search needs) (λ c κs. search needs) returns
-    (λ c. search needs) returns-2)
+    (tie.spec (λ c κs. c .before .pre) compile-requires (λ c. search needs) (λ c. search needs) (λ c κs. search needs)
+    returns (λ c. search needs) returns-2)

@@ -36,7 +36,8 @@ returns-2 c =
     let l = c .before .loop in
     let p = c .before .before .args in
     let e : l .s ≡ p .k = omega arith in
-    subst (λ b. Added (p .g) (concat (map (rowOfState (now (p .power)) (p .words) (p .index)) (range (p .k)))) (record { crowded = b; graph = l .r .graph })) (sym (l .inv .2))
+    subst (λ b. Added (p .g) (concat (map (rowOfState (now (p .power)) (p .words) (p .index)) (range (p .k))))
+    (record { crowded = b; graph = l .r .graph })) (sym (l .inv .2))
     (done-end (rowOfState (now (p .power)) (p .words) (p .index)) (p .g) (l .r .graph) (p .k)
     (subst (Done (rowOfState (now (p .power)) (p .words) (p .index)) (p .g) (l .r .graph)) e (l .inv .1)))
 
