@@ -91,7 +91,7 @@ Says whether the record in FILE is accepted.
         View::Show => io::write_all(
             file,
             b"usage: sbc show FILE
-Prints the code of the record in FILE: its rate, its window, its constraint, its closing datum and its table.
+Prints the code of the record in FILE: its rate, its window, its constraint, its tail datum and its table.
 ",
         ),
         View::Draw => io::write_all(

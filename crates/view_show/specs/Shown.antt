@@ -26,9 +26,9 @@ windowLine m a =
     if eqb m 0 && eqb a 0 then said "memory #, lookahead #: a bad word at i can spoil block i\n" (m ∷ a ∷ [])
     else said "memory #, lookahead #: a bad word at i can spoil blocks i - # to i + #\n" (m ∷ a ∷ a ∷ m ∷ [])
 
--- "closing datum 0"
+-- "tail datum 0"
 abbrev pub closingLine : ℕ → List ℕ
-closingLine k = said "closing datum #\n" (k ∷ [])
+closingLine k = said "tail datum #\n" (k ∷ [])
 
 -- what `show` prints of a code
 unfoldable pub shown : Code → List ℕ

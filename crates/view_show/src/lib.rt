@@ -60,6 +60,6 @@ pub fn show(t: Table, out: &mut [u8], at: usize) -> usize
     );
     let constraint = put_window(out, window, t.memory, t.lookahead);
     let closing = put_constraint(out, constraint, t.constraint, t.start);
-    let first = put_sentence(out, closing, b"closing datum #\n", &[t.tail]);
+    let first = put_sentence(out, closing, b"tail datum #\n", &[t.tail]);
     put_listing(out, first, t)
 }
