@@ -10,7 +10,7 @@ ghost use Rattle.codec_steps.specs.Reading.{block};
 ghost use Rattle.codec_steps.specs.BlockParts.{under};
 use codec_block::blocks::read_block;
 
-// As many blocks of the words as `count` says, from block `begin` on, in front of the output.
+// As many blocks of the words as `count` says, from block `begin` on, at the start of the output.
 pub fn read_blocks(
     states: usize,
     n: usize,

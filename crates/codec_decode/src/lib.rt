@@ -18,8 +18,8 @@ use table::Table;
 use table::chains::ways;
 use table::ready::is_ready;
 
-// The first `count` blocks of the words in front of the output, by the groups of the table's edges, whose sets are kept
-// in two arrays that are lent.
+// The first `count` blocks of the words at the start of the output, by the groups of the table's edges, whose sets
+// are kept in two arrays that are lent.
 fn read_with(
     states: usize,
     n: usize,

@@ -17,7 +17,7 @@ use command_store::store;
 use text::is_same;
 use text::put;
 
-// The name of the file that argument i names, in front of the lent bytes: none for 0, standard input's for -.
+// The name of the file that argument i names, at the start of the lent bytes: none for 0, standard input's for -.
 fn source(i: usize, out: &mut [u8]) -> usize
     ensures past { λ r. ⌜ Counts r (now (out .exit)) ⌝ }
 {
@@ -62,7 +62,8 @@ fn store_at(a: Action, i: usize, bytes: &[u8]) -> Status
     store_named(a, &name[..n], bytes)
 }
 
-// Says the refusal of a call, or writes its result, which is in front of `out`, to the file that argument i names.
+// Says the refusal of a call, or writes its result, which is at the start of `out`, to the file that argument i
+// names.
 pub fn finish(a: Action, i: usize, r: Answer, out: &[u8]) -> Status
     requires { ⌜ i ≡ shapeOf a .written ⌝ }
     requires { ⌜ Within r (now out) ⌝ }

@@ -143,7 +143,7 @@ fn wide(file: i32) -> isize {
     file as isize
 }
 
-// The path of an open file, in front of the lent bytes; 0 where the system does not say it.
+// The path of an open file, at the start of the lent bytes; 0 where the system does not say it.
 fn path_of(file: i32, out: &mut [u8]) -> usize
     ensures past { λ r. ⌜ Counts r (now (out .exit)) ⌝ }
 {
@@ -167,8 +167,8 @@ fn is_regular(file: i32) -> bool {
     ftruncate(file, 0) == 0
 }
 
-// The path of the file of this name, by any way to it, in front of the lent bytes; the name itself where it cannot be
-// opened.
+// The path of the file of this name, by any way to it, at the start of the lent bytes; the name itself where it
+// cannot be opened.
 fn real_name(name: &[u8], out: &mut [u8]) -> usize
     ensures past { λ r. ⌜ Counts r (now (out .exit)) ⌝ }
 {

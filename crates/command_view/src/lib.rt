@@ -7,7 +7,7 @@ use text::put;
 use view_draw::draw;
 use view_show::show;
 
-// The text of a view in front; the answer is the place after it.
+// The text of a view at the start; the answer is the place after it.
 pub fn put_view(out: &mut [u8], v: View, t: Table) -> usize
     ensures written { λ e. ⌜ Added (viewText v t) 0 (now (out .entry)) (now (out .exit)) e ⌝ }
 {

@@ -59,8 +59,8 @@ readRunLength xs =
     (unless Parameters (goodParameters p q cap)
     (unless States (leb d k && leb k 15) (done (record { p = p; q = q; cap = cap; constraint = runLength d k }))))
 
--- "each constraint as K and its next-state bytes", in front of a row of bytes: "8 for a missing K, K by 2, 8, next
--- states by 2", where the bytes that a constraint takes are compared with those that are there by `fits`
+-- "each constraint as K and its next-state bytes", at the start of a row of bytes: "8 for a missing K, K by 2, 8,
+-- next states by 2", where the bytes that a constraint takes are compared with those that are there by `fits`
 unfoldable pub constraintFrom : (ℕ → ℕ → Bool) → List ℕ → Outcome Constraint
 constraintFrom fits ys =
     let K = getD ys 0 0 in
@@ -75,7 +75,7 @@ fronted xs rest =
     unless Length (leb 4 (length xs))
     (unless Parameters (goodParameters (getD xs 0 0) (getD xs 1 0) (getD xs 2 0)) rest)
 
--- the job with p, q and cap in front of its bytes
+-- the job with p, q and cap at the start of its bytes
 abbrev pub jobWith : List ℕ → Constraint → Job
 jobWith xs c = record { p = getD xs 0 0; q = getD xs 1 0; cap = getD xs 2 0; constraint = c }
 

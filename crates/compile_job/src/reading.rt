@@ -68,7 +68,7 @@ fn front_verdict(bytes: &[u8]) -> Verdict
     Verdict::Good
 }
 
-// The job with p, q and cap in front of its bytes.
+// The job with p, q and cap at the start of its bytes.
 fn job_with(bytes: &[u8], c: Constraint) -> JobAnswer
     requires { ⌜ 4 ≤ length (now bytes) ⌝ }
     ensures answer { λ r. ⌜ jobOutcome r ≡ done (jobWith (now (bytes .entry)) (constraintOf c)) ⌝ }

@@ -14,7 +14,7 @@ pub fn buffer() -> [u8; 1000000]
 
 // What reading a file comes to: how many bytes it has, or why there is no result.
 pub enum Loaded {
-    // All bytes are in front of the lent ones.
+    // All bytes are at the start of the lent ones.
     Whole(usize),
     // It cannot be opened, or reading it failed.
     Unreadable,

@@ -1,5 +1,5 @@
 -- When a call came out as a case says.
--- In order: Stands, an output in front of lent bytes; Same; differs.
+-- In order: Stands, an output at the start of lent bytes; Same; differs.
 -- Assumes nothing.
 use mathlib.Core.Path.{_≡_}
 use mathlib.Core.Bool.{Bool, true, false}
@@ -8,7 +8,7 @@ use Prim.Native.Nat.{ℕ, _≤_, _<_}
 use lib.ListN.{length, getD}
 use Rattle.judging.specs.declared.Told.{Told}
 
--- the output stands in front of the lent bytes, and every byte past it is 165, as lent
+-- the output stands at the start of the lent bytes, and every byte past it is 165, as lent
 pub record Stands (out output : List ℕ) : Type 0 where
   pub room : length output ≤ length out
   pub bytes : (k : ℕ) → k < length out → getD out k 0 ≡ getD output k 165

@@ -26,7 +26,7 @@ fn expected(output: &[u8], i: usize) -> u8
     LENT
 }
 
-// Whether the expected output stands in front, and every byte past it is as lent.
+// Whether the expected output stands at the start, and every byte past it is as lent.
 fn stands(out: &[u8], output: &[u8]) -> bool
     ensures answer { λ r. ⌜ (r ≡ true → Stands (now (out .entry)) (now (output .entry))) ⌝ }
 {

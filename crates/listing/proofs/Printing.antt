@@ -18,7 +18,7 @@ use Rattle.view_job.specs.Listings.{refusal, printed, listingOf, listInto}
 use Rattle.view_job.proofs.Lengths.{refusal-short, compiled-short}
 
 -- ---- what is printed
--- a result that fills the output stands in front of it
+-- a result that fills the output stands at its start
 pub front : (o : Outcome (List ℕ)) (ys B C : List ℕ) (n : ℕ) → o ≡ done ys → length ys ≤ length B → n ≡ length ys
     → C ≡ outputOf o B → (take n C ≡ ys) × Counts n C
 front o ys B C n e h k w =

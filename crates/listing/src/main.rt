@@ -11,8 +11,8 @@ use libc::STDOUT_FILENO;
 use view_job::list_run_length;
 use view_job::tell_refusal;
 
-// What is printed for a job's bytes, in front of the output, which is longer than every listing; the answer is its
-// length.
+// What is printed for a job's bytes, at the start of the output, which is longer than every listing; the answer is
+// its length.
 fn list(job: &[u8], out: &mut [u8]) -> usize
     requires { ⌜ 43028 ≤ length (now out) ⌝ }
     ensures written { λ r. ⌜ take r (now (out .exit)) ≡ listingOf (now (job .entry)) ⌝ }

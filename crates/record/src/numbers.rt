@@ -1,5 +1,5 @@
-// The numbers in front of a record: "p 3 bits, q 4, states less one 7, m 4, a 4, K less one 4, constraint start 4", and
-// the tail datum, "4 bits straight after the constraint start".
+// The numbers at the start of a record: "p 3 bits, q 4, states less one 7, m 4, a 4, K less one 4, constraint start
+// 4", and the tail datum, "4 bits straight after the constraint start".
 ghost use mathlib.Core.Path.{_≡_};
 ghost use Prim.Native.Nat.{_*_, _≤_};
 ghost use lib.ListN.{length};

@@ -19,7 +19,7 @@ use Rattle.record.specs.Layout.{header, headerBytes, headOf, size}
 use Rattle.record.specs.Parse.{goodHead}
 use Rattle.record.specs.Checks.{codeAt, restGood}
 
--- the numbers in front of the bytes
+-- the numbers at the start of the bytes
 abbrev pub headerOf : List ℕ → Head
 headerOf xs = headOf (read header (bitsOf xs))
 

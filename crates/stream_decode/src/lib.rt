@@ -138,7 +138,7 @@ fn read_parts(
     }
 }
 
-// The blocks of the `count` words of a stream in front of the output, by the groups of the table's edges.
+// The blocks of the `count` words of a stream at the start of the output, by the groups of the table's edges.
 fn read_all(
     states: usize,
     n: usize,

@@ -6,7 +6,7 @@ ghost use lib.ListN.{length, drop};
 ghost use Rattle.stream_pack.specs.Streams.{limit, unpacked};
 use bits::get;
 
-// The first `count` words of q bits each in front of the output.
+// The first `count` words of q bits each at the start of the output.
 pub fn get_words(bytes: &[u8], q: usize, count: usize, out: &mut [u8])
     requires { ⌜
         (q ≤ 8) × (count ≤ limit) × (count * q ≤ 8 * length (now bytes)) × (count ≤ length (now out)) ⌝ }

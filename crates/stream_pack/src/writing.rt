@@ -67,7 +67,7 @@ pub fn put_fill(out: &mut [u8], p: Waiting)
     out[at] = low_bits(p.held << (8 - p.count), 8);
 }
 
-// The stream of the words in front of the output.
+// The stream of the words at the start of the output.
 pub fn put_words(q: usize, words: &[u8], out: &mut [u8])
     requires { ⌜
         (q ≤ 8) × (length (now words) ≤ limit) × Below (2 ^ q) (now words)

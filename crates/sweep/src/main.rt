@@ -43,7 +43,7 @@ fn job_at(i: usize) -> [u8; 5]
     ]
 }
 
-// How many bytes in front of the output are the result.
+// How many bytes at the start of the output are the result.
 fn size_of(a: Answer, out: &[u8]) -> usize
     ensures within { λ r. ⌜ Counts r (now (out .entry)) ⌝ }
 {
