@@ -1,5 +1,5 @@
 // The test that every recording obeys the constraint: the pairs of a table state and a constraint state that recordings
-// reach, to rest, each tested.
+// reach are followed until none is new, and each is tested.
 ghost use mathlib.Core.Path.{_≡_};
 ghost use Prim.Native.Nat.{_≤_, _<_};
 ghost use Rattle.table.specs.Value.{codeIn};

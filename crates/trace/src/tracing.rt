@@ -31,14 +31,14 @@ fn trace(r: JobAnswer, out: &mut [u8], at: usize) -> usize
     }
 }
 
-// The trace of the job that bytes hold after the first `at` bytes; the answer is the place after it.
+// The trace of the job that bytes hold, put after the first `at` bytes; the answer is the place after it.
 pub fn trace_job(job: &[u8], out: &mut [u8], at: usize) -> usize
     ensures written { λ r. ⌜ Added (tracedJob (now (job .entry))) at (now (out .entry)) (now (out .exit)) r ⌝ }
 {
     trace(read_job(job), out, at)
 }
 
-// The trace of the run-length job that bytes hold after the first `at` bytes; the answer is the place after it.
+// The trace of the run-length job that bytes hold, put after the first `at` bytes; the answer is the place after it.
 pub fn trace_run_length(job: &[u8], out: &mut [u8], at: usize) -> usize
     ensures written { λ r. ⌜ Added (tracedRunLength (now (job .entry))) at (now (out .entry)) (now (out .exit)) r ⌝ }
 {
