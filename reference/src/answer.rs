@@ -41,8 +41,9 @@ pub const DEPTH: Refusal = 16;
 
 /// What a call answers.
 ///
-/// `value` is the number of bytes written; for a good set, its count; with refusal 11, the place of the first bad
-/// byte; with a set's refusal, the number of the record at which the walk ended; with any other refusal, 0.
+/// `value` is the number of bytes written; for a good set, its count; for verified words, how many in front come back;
+/// with refusal 11, the place of the first bad byte; with a set's refusal, the number of the record at which the walk
+/// ended; with any other refusal, 0.
 /// `output` is what the call writes from the first lent byte on; it is empty when the call is refused.
 #[derive(Clone, Debug, PartialEq, Eq)]
 pub struct Answer {

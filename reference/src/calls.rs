@@ -7,7 +7,7 @@ use crate::job::Job;
 use crate::record::Record;
 use crate::streams::{BitNumber, BlockNumber};
 use crate::weaving::Recordings;
-use crate::{decode, encode, listing, sets, streams};
+use crate::{decode, encode, listing, sets, streams, verify};
 
 /// Compiles a job to a record. Order: 8, 1, K by 2, 8, next states by 2, 3, 4, 5, 6, 13.
 pub fn compile_job(job: &[u8], room: usize) -> Answer {
@@ -165,6 +165,41 @@ pub fn decode_stream(record: &[u8], count: u64, stream: &[u8], room: usize) -> A
 pub fn decode_stream_loaded(record: &Record, count: u64, stream: &[u8], room: usize) -> Answer {
     match streams::check(record.q, count, stream) {
         Ok(count) => decode_loaded(record, &streams::unpack(record.q, count, stream), room),
+        Err(refusal) => Answer::refused(refusal, 0),
+    }
+}
+
+/// How many words in front encoding the decoded blocks gives back: all of them exactly if they are a recording. It is a
+/// call beyond the documents. It writes nothing, so that 13 cannot come. Order: record, 12, 11.
+pub fn verify(record: &[u8], words: &[u8]) -> Answer {
+    match load(record) {
+        Ok(record) => verify_loaded(&record, words),
+        Err(refusal) => Answer::refused(refusal, 0),
+    }
+}
+
+/// The same under a record that is known to be good: decoding with room enough, then encoding. Order: 12, 11.
+pub fn verify_loaded(record: &Record, words: &[u8]) -> Answer {
+    let decoded = decode_loaded(record, words, words.len());
+    if decoded.refusal != 0 {
+        return decoded;
+    }
+    Answer::number(verify::given_back(record, words, &decoded.output))
+}
+
+/// The same of a stream of so many words, answered in words. Order: record, 15, 12.
+pub fn verify_stream(record: &[u8], count: u64, stream: &[u8]) -> Answer {
+    match load(record) {
+        Ok(record) => verify_stream_loaded(&record, count, stream),
+        Err(refusal) => Answer::refused(refusal, 0),
+    }
+}
+
+/// The same of a stream under a record that is known to be good. Words of q bits are below 2^q, so that 11 cannot come.
+/// Order: 15, 12.
+pub fn verify_stream_loaded(record: &Record, count: u64, stream: &[u8]) -> Answer {
+    match streams::check(record.q, count, stream) {
+        Ok(count) => verify_loaded(record, &streams::unpack(record.q, count, stream)),
         Err(refusal) => Answer::refused(refusal, 0),
     }
 }

@@ -2,6 +2,7 @@
 //!
 //! It is written from the scope document ("the document" in all comments), from the list of later change requests
 //! (so far "request (a)" to "request (f)") and from the table of readings of their unclear places ("the readings").
+//! Verifying is beyond them, and is written from what its calls are to answer and a table of inputs.
 //! It shares no code with the proved crates. `calls` holds every call as a function from bytes to an answer; the other
 //! modules follow the sections of the document and the requests.
 
@@ -29,6 +30,7 @@ pub mod split;
 pub mod streams;
 pub mod table;
 pub mod vectors;
+pub mod verify;
 pub mod weaving;
 pub mod weights;
 pub mod window;

@@ -1,14 +1,19 @@
 //! The file of test vectors: its format, its contents, its size.
 
 use reference::accept::load;
+use reference::calls::decode_loaded;
 use reference::checksum::Checksum;
-use reference::streams::pack;
+use reference::encode;
+use reference::record::Record;
+use reference::streams::{self, pack};
 use reference::vectors::file::{call, Case, Walk, CHECK, COMPILE_JOB, COMPILE_JOINED, COMPILE_RUN_LENGTH, DECODE};
-use reference::vectors::file::{DECODE_STREAM, ENCODE, KINDS, LISTING, RECORD_ROOM, UNWEAVE, WEAVE};
+use reference::vectors::file::{
+    DECODE_STREAM, ENCODE, KINDS, LISTING, RECORD_ROOM, UNWEAVE, VERIFY, VERIFY_STREAM, WEAVE,
+};
 use reference::vectors::fixed::{E2, TELLING};
 use reference::vectors::marks::{self, Told};
 use reference::vectors::stream_borders::{count_and_stream, telling};
-use reference::vectors::{data, generate, hex, tails, weaving, with_tail};
+use reference::vectors::{data, generate, hex, tails, verifying, weaving, with_tail};
 use std::collections::HashSet;
 
 #[test]
@@ -43,6 +48,8 @@ fn the_file_walks_and_every_case_answers_again() {
     assert_eq!(refusals(13), [0, 7, 8, 9, 10, 13]);
     assert_eq!(refusals(14), [0, 13, 16]);
     assert_eq!(refusals(15), [0, 13, 16]);
+    assert_eq!(refusals(16), [0, 7, 8, 9, 10, 11, 12]);
+    assert_eq!(refusals(17), [0, 7, 8, 9, 10, 12, 15]);
 }
 
 /// Every input that tells for request (a) stands in the file, and where it compiles also with the exact room and with
@@ -134,6 +141,63 @@ fn the_file_has_the_weavings_that_tell() {
     }
 }
 
+/// So does every input that tells for verifying; its cases lend no output, write nothing, and are the last.
+#[test]
+fn the_file_has_the_verifications_that_tell() {
+    let bytes = generate(1);
+    let cases: Vec<Case> = Walk(&bytes).skip(11_769).collect();
+    assert!(cases.iter().all(|case| case.kind >= VERIFY && case.room == 0 && case.answer.output.is_empty()));
+    assert!(Walk(&bytes).take(11_769).all(|case| case.kind < VERIFY));
+    let inputs: HashSet<_> = cases.into_iter().map(|case| (case.kind, case.room, case.first, case.second)).collect();
+    assert!(verifying::telling().iter().all(|call| inputs.contains(call)));
+}
+
+/// The number of words in front in which two lists agree.
+fn common(one: &[u8], other: &[u8]) -> usize {
+    one.iter().zip(other).take_while(|(one, other)| one == other).count()
+}
+
+/// Other ways to read what comes back: without closing words, closing words after a mark too, closing with 0, a mark
+/// taken for 0, and every word that agrees counted. What each answers.
+fn others(record: &Record, words: &[u8]) -> [usize; 5] {
+    let blocks = decode_loaded(record, words, words.len()).output;
+    let mark = blocks.iter().position(|block| *block >= 254).unwrap_or(blocks.len());
+    let plain: Vec<u8> = blocks.iter().map(|block| if *block >= 254 { 0 } else { *block }).collect();
+    let with_0 = Record { tail: 0, ..record.clone() };
+    let short = common(&encode::words(record, &blocks[..mark])[..mark], words);
+    let closed = common(&encode::words(record, &blocks[..mark]), words);
+    let zero = if mark == blocks.len() { common(&encode::words(&with_0, &blocks), words) } else { short };
+    let all = encode::words(record, &plain);
+    let agree = all.iter().zip(words).filter(|(one, other)| one == other).count();
+    [short, closed, zero, common(&all, words), agree]
+}
+
+/// The words of a count of eight bytes and a stream.
+fn unpacked(record: &Record, bytes: &[u8]) -> Vec<u8> {
+    let (count, stream) = bytes.split_first_chunk().unwrap();
+    streams::unpack(record.q, u64::from_be_bytes(*count) as usize, stream)
+}
+
+/// Each of these readings differs from the call on some case of the file of vectors, from a list and from a stream.
+#[test]
+fn the_file_tells_the_readings_apart() {
+    let bytes = generate(1);
+    for kind in [VERIFY, VERIFY_STREAM] {
+        let mut told = [0; 5];
+        for case in Walk(&bytes).filter(|case| case.kind == kind && case.answer.refusal == 0) {
+            let record = load(&case.first).unwrap();
+            let words = match kind {
+                VERIFY => case.second,
+                _ => unpacked(&record, &case.second),
+            };
+            for (told, other) in told.iter_mut().zip(others(&record, &words)) {
+                *told += usize::from(other != case.answer.value as usize);
+            }
+        }
+        assert!(told.iter().all(|count| *count > 5), "kind {kind}: {told:?}");
+    }
+}
+
 /// The bytes' checksum.
 fn checksum(bytes: &[u8]) -> u64 {
     let mut checksum = Checksum::default();
@@ -141,12 +205,17 @@ fn checksum(bytes: &[u8]) -> u64 {
     checksum.value()
 }
 
-/// The numbers that the README states. The cases before request (f) are what they were, byte for byte.
+/// The numbers that the README states. The cases before verifying, and those before request (f), are what they were,
+/// byte for byte.
 #[test]
 fn the_file_is_the_one_described() {
     let bytes = generate(1);
-    assert_eq!((Walk(&bytes).count(), bytes.len()), (11_769, 816_756));
-    assert_eq!(checksum(&bytes), 0x8e58_996f_2305_f905);
-    let before = [&bytes[..799_027], &[0]].concat();
-    assert_eq!((Walk(&before).count(), checksum(&before)), (11_518, 0x77f4_3ce1_7414_6caa));
+    let described = |length: usize| {
+        let ended = [&bytes[..length - 1], &[0]].concat();
+        (Walk(&ended).count(), checksum(&ended))
+    };
+    assert_eq!(bytes.len(), 833_966);
+    assert_eq!(described(833_966), (12_118, 0xa190_fefd_634d_0983));
+    assert_eq!(described(816_756), (11_769, 0x8e58_996f_2305_f905));
+    assert_eq!(described(799_028), (11_518, 0x77f4_3ce1_7414_6caa));
 }

@@ -19,9 +19,11 @@ pub const DECODE_STREAM: u8 = 12;
 pub const WITH_TAIL: u8 = 13;
 pub const WEAVE: u8 = 14;
 pub const UNWEAVE: u8 = 15;
+pub const VERIFY: u8 = 16;
+pub const VERIFY_STREAM: u8 = 17;
 
 /// The kinds by number; those from their count up to 23 are kept for calls to come, and a file has none from 24 on.
-pub const KINDS: [&str; 16] = [
+pub const KINDS: [&str; 18] = [
     "",
     "compile_job",
     "compile_run_length",
@@ -38,6 +40,8 @@ pub const KINDS: [&str; 16] = [
     "with_tail",
     "weave",
     "unweave",
+    "verify",
+    "verify_stream",
 ];
 
 /// Room enough for every record.
@@ -67,6 +71,11 @@ pub fn call(kind: u8, room: usize, first: &[u8], second: &[u8]) -> Answer {
         WITH_TAIL => calls::with_tail(first, split_count(second).0, room),
         WEAVE => calls::weave(split_count(first).0, second, room),
         UNWEAVE => calls::unweave(split_count(first).0, second, room),
+        VERIFY => calls::verify(first, second),
+        VERIFY_STREAM => {
+            let (count, stream) = split_count(second);
+            calls::verify_stream(first, count, stream)
+        }
         _ => panic!("no such kind"),
     }
 }

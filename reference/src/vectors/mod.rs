@@ -17,6 +17,8 @@ pub mod stream_borders;
 pub mod streams;
 pub mod tailed;
 pub mod tails;
+pub mod verified;
+pub mod verifying;
 pub mod weaving;
 pub mod with_tail;
 
@@ -42,6 +44,8 @@ pub fn generate(scale: usize) -> Vec<u8> {
     tailed::add(&mut file, &mut Random::seeded(8), &pool, scale);
     with_tail::add(&mut file, &mut Random::seeded(9), &pool, scale);
     weaving::add(&mut file, &mut Random::seeded(10), &pool, scale);
+    verifying::add(&mut file);
+    verified::add(&mut file, &mut Random::seeded(11), &pool, scale);
     file.ended()
 }
 
