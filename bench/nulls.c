@@ -20,8 +20,9 @@ int main(void)
     const uint8_t job[] = {0, 1, 2, 3, 2};
     const uint8_t joined[] = {1, 2, 1, 1, 0, 0, 1, 0, 0};
     const uint8_t word[] = {3};
-    uint8_t record[SBC_RECORD_MAX], out[SBC_PHRASE_MAX];
+    uint8_t record[SBC_RECORD_MAX], plain[SBC_RECORD_MAX], out[SBC_PHRASE_MAX];
     uint64_t r = sbc_value(sbc_compile_run_length(job, sizeof job, record, sizeof record));
+    uint64_t n = sbc_value(sbc_compile_joined(joined, sizeof joined, plain, sizeof plain));
     expect("compile, no job", sbc_compile(NULL, 0, out, sizeof out), SBC_LENGTH, 0);
     expect("run-length, no job", sbc_compile_run_length(NULL, 0, out, sizeof out), SBC_LENGTH, 0);
     expect("run-length, no room", sbc_compile_run_length(job, sizeof job, NULL, 0), SBC_SHORT_OUTPUT, 0);
@@ -55,6 +56,15 @@ int main(void)
     expect("decode_stream, a word too many", sbc_decode_stream(record, r, SBC_WORDS_MAX + 1, NULL, 0, NULL, 0),
            SBC_STREAM, 0);
     expect("decode_stream to no block", sbc_decode_stream(record, r, 1, out, 1, NULL, 0), SBC_DONE, 0);
+    expect("verify, no record", sbc_verify(NULL, 0, NULL, 0), SBC_LENGTH, 0);
+    expect("verify, no word", sbc_verify(record, r, NULL, 0), SBC_TOO_FEW_WORDS, 0);
+    expect("verify, no word, no lookahead", sbc_verify(plain, n, NULL, 0), SBC_DONE, 0);
+    expect("verify", sbc_verify(record, r, word, sizeof word), SBC_DONE, sizeof word);
+    expect("verify_stream, no record", sbc_verify_stream(NULL, 0, 0, NULL, 0), SBC_LENGTH, 0);
+    expect("verify_stream, no word", sbc_verify_stream(record, r, 0, NULL, 0), SBC_TOO_FEW_WORDS, 0);
+    expect("verify_stream, no word, no lookahead", sbc_verify_stream(plain, n, 0, NULL, 0), SBC_DONE, 0);
+    expect("verify_stream, a word too many", sbc_verify_stream(record, r, SBC_WORDS_MAX + 1, NULL, 0), SBC_STREAM, 0);
+    expect("verify_stream", sbc_verify_stream(record, r, 1, out, 1), SBC_DONE, 1);
     expect("weave, no word", sbc_weave(2, NULL, 0, NULL, 0), SBC_DONE, 0);
     expect("weave, no word, depth 17", sbc_weave(17, NULL, 0, NULL, 0), SBC_DEPTH, 0);
     expect("weave, a large depth", sbc_weave(~(uint64_t)0, NULL, 0, NULL, 0), SBC_DEPTH, 0);

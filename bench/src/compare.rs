@@ -1,5 +1,6 @@
 //! Random calls, good and bad, of the proved library and of the outside implementation.
 use crate::speed::{E2, LISTED_FIRST};
+use crate::verify::{self, Verified};
 use crate::weaving::{self, Scratches};
 use crate::{library, streams};
 use reference::answer::Answer;
@@ -204,13 +205,15 @@ pub fn for_seconds(seconds: u64) {
     streams::limits(&records[0].0, 0);
     streams::limits(&records[1].0, 1);
     weaving::limits();
-    let mut scratches = Scratches::default();
+    [0, 5].iter().for_each(|&i: &usize| verify::limits(&records[i].0));
+    let (mut scratches, mut verified) = (Scratches::default(), Verified::default());
     let end = Instant::now() + Duration::from_secs(seconds);
     let (mut answers, mut marks) = ([0u64; 17], [0u64; 2]);
     while Instant::now() < end {
         let (record, p, q) = &records[numbers.below(records.len())];
         let bytes = if numbers.below(8) == 0 { damaged(&mut numbers, record) } else { record.clone() };
-        let refusal = match numbers.below(11) {
+        let refusal = match numbers.below(12) {
+            11 => verified.one(&mut numbers, &bytes, (*p, *q), &records),
             10 => scratches.one(&mut numbers, record),
             9 => weaving::calls(&mut numbers),
             8 => with_tail(&mut numbers, &bytes),
@@ -227,5 +230,6 @@ pub fn for_seconds(seconds: u64) {
     }
     println!("{} calls, no difference; answers by number: {answers:?}", answers.iter().sum::<u64>());
     println!("{} decoded blocks marked 254, {} marked 255", marks[0], marks[1]);
+    verified.print();
     scratches.print();
 }

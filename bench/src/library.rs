@@ -10,6 +10,8 @@ extern "C" {
     fn sbc_unpack(q: u64, count: u64, bytes: *const u8, bl: u64, out: *mut u8, ol: u64) -> u64;
     fn sbc_encode_stream(r: *const u8, rl: u64, blocks: *const u8, bl: u64, out: *mut u8, ol: u64) -> u64;
     fn sbc_decode_stream(r: *const u8, rl: u64, count: u64, s: *const u8, sl: u64, out: *mut u8, ol: u64) -> u64;
+    fn sbc_verify(r: *const u8, rl: u64, words: *const u8, wl: u64) -> u64;
+    fn sbc_verify_stream(r: *const u8, rl: u64, count: u64, s: *const u8, sl: u64) -> u64;
     fn sbc_weave(depth: u64, words: *const u8, wl: u64, out: *mut u8, ol: u64) -> u64;
     fn sbc_unweave(depth: u64, words: *const u8, wl: u64, out: *mut u8, ol: u64) -> u64;
     fn sbc_info(r: *const u8, rl: u64, out: *mut u8, ol: u64) -> u64;
@@ -82,6 +84,17 @@ pub fn encode_stream(record: &[u8], blocks: &[u8], out: &mut [u8]) -> (u64, u64)
 pub fn decode_stream(record: &[u8], count: u64, stream: &[u8], out: &mut [u8]) -> (u64, u64) {
     let (r, s, o) = (record.as_ptr(), stream.as_ptr(), out.as_mut_ptr());
     parts(unsafe { sbc_decode_stream(r, record.len() as u64, count, s, stream.len() as u64, o, out.len() as u64) })
+}
+
+/// How many words in front encoding the decoded blocks gives back.
+pub fn verify(record: &[u8], words: &[u8]) -> (u64, u64) {
+    parts(unsafe { sbc_verify(record.as_ptr(), record.len() as u64, words.as_ptr(), words.len() as u64) })
+}
+
+/// The same of the words of a bit stream.
+pub fn verify_stream(record: &[u8], count: u64, stream: &[u8]) -> (u64, u64) {
+    let (r, s) = (record.as_ptr(), stream.as_ptr());
+    parts(unsafe { sbc_verify_stream(r, record.len() as u64, count, s, stream.len() as u64) })
 }
 
 /// Recordings that stand one after the other, woven.

@@ -13,6 +13,7 @@ mod speed;
 mod stack;
 mod streams;
 mod sweep;
+mod verify;
 mod weaving;
 
 fn main() {

@@ -191,4 +191,5 @@ pub fn all() {
     checked("1 13 4 6 9", [1, 13, 4, 6, 9]);
     crate::streams::all();
     crate::weaving::all();
+    crate::verify::all();
 }

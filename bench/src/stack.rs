@@ -2,7 +2,7 @@
 use crate::library;
 use std::process::{Command, Stdio};
 
-const CALLS: [&str; 19] = [
+const CALLS: [&str; 21] = [
     "check",
     "encode",
     "decode",
@@ -12,6 +12,8 @@ const CALLS: [&str; 19] = [
     "unpack",
     "encode_stream",
     "decode_stream",
+    "verify",
+    "verify_stream",
     "weave",
     "unweave",
     "info",
@@ -31,6 +33,8 @@ const JOB: [u8; 5] = [2, 7, 4, 8, 16];
 fn call(name: &str) -> (u64, u64) {
     let record = reference::calls::compile_run_length(&JOB, 65535).output;
     let mut out = vec![0; 65536];
+    // Words have 8 bits, so that a list is its own stream.
+    let recording = reference::calls::encode(&record, &[1; 3000], 65535).output;
     match name {
         "check" => library::check(&record),
         "encode" => library::encode(&record, &[1; 100], &mut out),
@@ -41,6 +45,8 @@ fn call(name: &str) -> (u64, u64) {
         "unpack" => library::unpack(8, 100, &[1; 100], &mut out),
         "encode_stream" => library::encode_stream(&record, &[1; 100], &mut out),
         "decode_stream" => library::decode_stream(&record, 3000, &[0; 3000], &mut out),
+        "verify" => library::verify(&record, &recording),
+        "verify_stream" => library::verify_stream(&record, recording.len() as u64, &recording),
         "weave" => library::weave(16, &[1; 1600], &mut out),
         "unweave" => library::unweave(16, &[1; 1600], &mut out),
         "info" => library::info(&record, &mut out),

@@ -9,7 +9,7 @@ extern "C" {
 }
 
 /// A count that is right, or nearly, or far too large.
-fn near(numbers: &mut Numbers, count: usize) -> u64 {
+pub fn near(numbers: &mut Numbers, count: usize) -> u64 {
     match numbers.below(12) {
         0 => count as u64 + 1,
         1 => (count as u64).saturating_sub(1),
