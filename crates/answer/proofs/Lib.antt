@@ -2,4 +2,5 @@ pub mod Outcomes
 pub mod Cases
 pub mod FirstBad
 pub mod RefusedOutcomes
+pub mod Orders
 pub mod Answered
