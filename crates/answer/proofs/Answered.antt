@@ -1,7 +1,7 @@
 -- An outcome as the code answers it, with the lent bytes after the call.
--- In order: declined, finished, handed; ends-onward, goes-onward.
+-- In order: declined, finished, handed; ends-onward, goes-onward; output-bytes.
 -- Assumes nothing.
-use Rattle.laws.proofs.All.{_≡_, sym, ap, _∙_, List, _++_, ℕ, length, drop}
+use Rattle.laws.proofs.All.{_≡_, refl, sym, ap, _∙_, List, _++_, ℕ, length, take, drop, take-append-seam, drop-at}
 use Rattle.answer.specs.declared.Refusal.{Refusal}
 use Rattle.answer.specs.declared.Answer.{Answer}
 use Rattle.answer.specs.declared.Answer.the-variants.{Done, Refused}
@@ -33,3 +33,12 @@ pub goes-onward : {A : Type 0} (o : Outcome A) (f : A → Outcome (List ℕ)) (x
     → o ≡ done x → a ≡ answerOf (f x) → out′ ≡ outputOf (f x) out
     → (a ≡ answerOf (onward o f)) × (out′ ≡ outputOf (onward o f) out)
 goes-onward o f x a out out′ e = handed (f x) (onward o f) a out out′ (ap (λ y. onward y f) (sym e))
+
+-- THEOREM: a result fills the output from its first byte, and bytes past its end and those of a refused call stay
+pub output-bytes : (out : List ℕ) → ((xs : List ℕ) → (take (length xs) (outputOf (done xs) out) ≡ xs)
+    × (drop (length xs) (outputOf (done xs) out) ≡ drop (length xs) out))
+    × ((r : Refusal) → outputOf (refused r) out ≡ out)
+output-bytes out = (
+  (λ xs. (take-append-seam xs (drop (length xs) out), drop-at xs (drop (length xs) out) (length xs) refl)),
+  (λ r. refl),
+)

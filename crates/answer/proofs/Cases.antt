@@ -1,7 +1,7 @@
 -- The cases of `Refusal`, by where they stand in the code's list of them.
--- In order: tag; number-tag, number-most, place-none; others.
+-- In order: tag; number-tag, number-some, number-most, place-none; named, same-refusal; others.
 -- Assumes nothing.
-use Rattle.laws.proofs.All.{_≡_, refl, sym, subst, List, _++_, ℕ, suc, _-_, _≤_, from}
+use Rattle.laws.proofs.All.{_≡_, refl, sym, ap₂, subst, _∙_, List, [], _∷_, _++_, ℕ, suc, _-_, _≤_, arith, getD, from}
 use denote.Enum.Declared.{tagOf}
 use borrow.Enum.Match.{tag-small}
 use Rattle.answer.specs.declared.Refusal.{Refusal}
@@ -38,11 +38,45 @@ case Depth = (refl, λ h. refl)
 pub number-tag : (r : Refusal) → numberOf r ≡ suc (tag r)
 number-tag r = case r .0
 
+-- no refusal has the number 0
+pub number-some : (r : Refusal) → 1 ≤ numberOf r
+number-some r = omega (arith, number-tag r)
+
 pub number-most : (r : Refusal) → numberOf r ≤ most
 number-most r = subst (λ n. n ≤ most) (sym (number-tag r)) (tag-small the-type r)
 
 pub place-none : (r : Refusal) → (numberOf r ≡ 11 → ⊥) → placeOf r ≡ 0
 place-none r = case r .1
+
+-- the refusal with a number and a place
+named : ℕ → ℕ → Refusal
+named n place =
+    getD
+    (Parameters ∷ Parameters ∷ States ∷ NoCode ∷ TooHeavy ∷ TooManyEdges ∷ NoWindow ∷ Field ∷ Length ∷ Disobeys
+    ∷ WindowFails ∷ BadByte place ∷ TooFewWords ∷ ShortOutput ∷ TooManyPairs ∷ Stream ∷ Depth ∷ []) n Parameters
+
+named-is : (r : Refusal) → named (numberOf r) (placeOf r) ≡ r
+unfolding named
+named-is Parameters = refl
+named-is States = refl
+named-is NoCode = refl
+named-is TooHeavy = refl
+named-is TooManyEdges = refl
+named-is NoWindow = refl
+named-is Field = refl
+named-is Length = refl
+named-is Disobeys = refl
+named-is WindowFails = refl
+named-is (BadByte place) = refl
+named-is TooFewWords = refl
+named-is ShortOutput = refl
+named-is TooManyPairs = refl
+named-is Stream = refl
+named-is Depth = refl
+
+-- THEOREM: a refusal is told by its number and its place
+pub same-refusal : (r s : Refusal) → numberOf r ≡ numberOf s → placeOf r ≡ placeOf s → r ≡ s
+same-refusal r s n p = sym (named-is r) ∙ ap₂ named n p ∙ named-is s
 
 -- where the cases with no place stand
 abbrev pub others : List ℕ
