@@ -3,3 +3,4 @@ pub mod Fronts
 pub mod Joining
 pub mod Jobs
 pub mod JobSteps
+pub mod Orders

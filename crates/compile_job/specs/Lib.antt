@@ -1,2 +1,3 @@
+pub mod Ranges
 pub mod Jobs
 pub mod JobValues
