@@ -52,7 +52,7 @@ states-well K c l t =
         let (a, b) = and→ (goodState K (r .zero)) (goodState K (r .one)) u in
         rw l (target K (r .zero) a, target K (r .one) b)
 
-length-statesOf : (K : ℕ) (xs : List ℕ) → length (statesOf K xs) ≡ K
+pub length-statesOf : (K : ℕ) (xs : List ℕ) → length (statesOf K xs) ≡ K
 length-statesOf zero xs = refl
 length-statesOf (suc K) xs = ap suc (length-statesOf K (drop 2 xs))
 

@@ -1,5 +1,5 @@
 -- Jobs that are read are allowed: their numbers are in range and their next states are states or none.
--- In order: readJob-from, a job is a front and one constraint; readJob-allowed; readRunLength-allowed;
+-- In order: checked-onward; readJob-from, a job is a front and one constraint; readJob-allowed; readRunLength-allowed;
 -- readJoined-allowed.
 -- Assumes nothing.
 use Rattle.laws.proofs.All.{_≡_, refl, sym, ap, ap₂, subst, _∙_, Bool, true, false, _&&_, List, ℕ, _+_, _*_, _-_, _≤_}
@@ -39,7 +39,7 @@ behind xs h =
     ∙ ap₂ (λ fit zs. checked fit (getD xs 3 0) (statesOf (getD xs 3 0) zs))
     (same-size (length ys) (length xs) (getD xs 3 0) l h) (drop-drop 1 3 xs)
 
-checked-onward : {A : Type 0} (fit : Bool) (K : ℕ) (c : Constraint) (f : Constraint → Outcome A)
+pub checked-onward : {A : Type 0} (fit : Bool) (K : ℕ) (c : Constraint) (f : Constraint → Outcome A)
     → onward (checked fit K c) f
     ≡ unless States (leb 1 K && leb K 16) (unless Length fit (unless States (all (goodNext K) c) (f c)))
 checked-onward {A} fit K c f = go (leb 1 K && leb K 16) fit (all (goodNext K) c)

@@ -4,3 +4,4 @@ pub mod Joining
 pub mod Jobs
 pub mod JobSteps
 pub mod Orders
+pub mod JoinedOrder

@@ -15,11 +15,11 @@ use Rattle.compile_job.specs.Jobs.{goodParameters, statesOf, readJob, re
 use Rattle.compile_job.specs.Ranges.{Ranged, Few, Nexts}
 
 -- ---- what the tests say
-told-by : {P : Type 0} (b : Bool) → (T b → P) → (P → T b) → Told b P (P → ⊥)
+pub told-by : {P : Type 0} (b : Bool) → (T b → P) → (P → T b) → Told b P (P → ⊥)
 told-by true f g = record { passes = (f, g); fails = ((λ e. absurd (subst T e tt)), (λ n. absurd (n (f tt)))) }
 told-by false f g = record { passes = (f, g); fails = ((λ e p. absurd (g p)), (λ n. refl)) }
 
-told-ranged : (p q cap : ℕ) → Told (goodParameters p q cap) (Ranged p q cap) (Ranged p q cap → ⊥)
+pub told-ranged : (p q cap : ℕ) → Told (goodParameters p q cap) (Ranged p q cap) (Ranged p q cap → ⊥)
 told-ranged p q cap =
     let t = told-and (leb 1 p && leb p 4) ((leb 1 q && leb q 8) && (leb 1 cap && leb cap 16))
     (told-and (leb 1 p) (leb p 4) (told-le 1 p) (told-le p 4))
@@ -30,7 +30,7 @@ told-ranged p q cap =
     (λ u. let ((a, b), ((c, d), (e, h))) = t .passes .0 u in (a, b, c, d, e, h))
     (λ (a, b, c, d, e, h). t .passes .1 ((a, b), ((c, d), (e, h))))
 
-told-few : (K : ℕ) → Told (leb 1 K && leb K 16) (Few K) ((K < 1) ⊎ (16 < K))
+pub told-few : (K : ℕ) → Told (leb 1 K && leb K 16) (Few K) ((K < 1) ⊎ (16 < K))
 told-few K = told-and (leb 1 K) (leb K 16) (told-le 1 K) (told-le K 16)
 
 state-fact : (K s : ℕ) → T (goodState K s) ↔ ((s < K) ⊎ (s ≡ 255))
@@ -72,7 +72,7 @@ nexts-from K (suc n) ys =
         let e : 2 + i ≡ suc (suc i) = omega arith in
         subst Good (getD-drop 2 ys i 0 ∙ ap (λ k. getD ys k 0) e) (f i (omega arith))
 
-told-nexts : (K : ℕ) (ys : List ℕ) → Told (all (goodNext K) (statesOf K ys)) (Nexts K ys) (Nexts K ys → ⊥)
+pub told-nexts : (K : ℕ) (ys : List ℕ) → Told (all (goodNext K) (statesOf K ys)) (Nexts K ys) (Nexts K ys → ⊥)
 told-nexts K ys =
     let (f, g) = nexts-from K K ys in told-by (all (goodNext K) (statesOf K ys)) f g
 
