@@ -51,7 +51,7 @@ pub both-obeyed : (xs : List ℕ) (room : ℕ) (r : List ℕ) → compileJoined 
     → let bs = channel (k .q) (recording k ds) in Finds c (z / 16) bs × Finds d (z % 16) bs))
 both-obeyed xs room r e k g =
     let (j, k′, q, u, _, v) = passes two xs room r e in
-    let (c, d, s, lc, ld, few, w) = joined-job xs j q in
+    let (c, d, s, lc, ld, few, w, _, _, _) = joined-job xs j q in
     let same : k′ ≡ k = done-inj k′ k (sym v ∙ g) in
     let made = subst (λ k. compile j ≡ done k) same u in
     let is : k .constraint ≡ joined c d = compiled-constraint j k made ∙ w in

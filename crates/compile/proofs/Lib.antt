@@ -8,5 +8,6 @@ pub mod Onward
 pub mod Exact
 pub mod Early
 pub mod Written
+pub mod Orders
 pub mod ByRule
 pub mod Joined

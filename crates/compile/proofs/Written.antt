@@ -1,6 +1,6 @@
 -- When compiling ends in a record, and exactly when it is refused with 3 to 6, 13 and 14, from bytes to bytes.
--- In order: written-from, refused-from, short-from, pairs-from, none-from; as-onward, as-early, as-allowed; written,
--- calls, none, short, too-many, never-short; passes.
+-- In order: written-from, refused-from, short-from, early-from, none-from; as-onward, as-early, as-allowed; written,
+-- calls, none, short, read-refused, too-many, never-short; passes.
 -- Assumes nothing.
 use Rattle.laws.proofs.All.{_≡_, refl, sym, ap, _∙_, _⊎_, inl, inr, _↔_, List, ℕ, _≤_, _<_, arith, lt-leb, length}
 use Rattle.laws.proofs.All.{getD, sum}
@@ -81,18 +81,17 @@ module _ (o : Outcome Job) (early : (r : Refusal) → o ≡ refused r → Early 
             | inr (c, q, k) ↦ (j, c, p, q, fitting-refused room (pack c) ShortOutput k .1)
           ]
 
-  -- 14 comes from reading
-  pairs-from : (onward o (compileInto room) ≡ refused TooManyPairs) ↔ (o ≡ refused TooManyPairs)
+  -- 1, 2, 8 and 14 come from reading
+  early-from : (r : Refusal) → Early r → (onward o (compileInto room) ≡ refused r) ↔ (o ≡ refused r)
   unfolding packInto
-  pairs-from = (there, (λ e. rw e))
+  early-from r h = (there, (λ e. rw e))
     where
-      there : onward o (compileInto room) ≡ refused TooManyPairs → o ≡ refused TooManyPairs
-      there e = elim (onward-refused o (compileInto room) TooManyPairs e) [
+      there : onward o (compileInto room) ≡ refused r → o ≡ refused r
+      there e = elim (onward-refused o (compileInto room) r e) [
         | inl q ↦ q
-        | inr (j, p, q) ↦ elim (onward-refused (compile j) (λ c. packInto c room) TooManyPairs q) [
-          | inl u ↦ absurd (omega (arith, compile-refused j TooManyPairs u))
-          | inr (c, _, u) ↦
-              absurd (let n = ap numberOf (fitting-refused room (pack c) TooManyPairs u .0) in omega arith)
+        | inr (j, p, q) ↦ elim (onward-refused (compile j) (λ c. packInto c room) r q) [
+          | inl u ↦ let (a, b) = compile-refused j r u in absurd (omega (arith, early-not r h .0 a))
+          | inr (c, _, u) ↦ absurd (early-not r h .1 (ap numberOf (fitting-refused room (pack c) r u .0)))
         ]
       ]
 
@@ -147,9 +146,12 @@ module _ (k : Kind) (xs : List ℕ) (room : ℕ) where
       ↔ ((j : Job) × (c : Code) × (readAs k xs ≡ done j) × (compile j ≡ done c) × (room < length (pack c)))
   short = rw (as-onward k xs room) at (short-from (readAs k xs) (as-early k xs) room)
 
-  -- 14 is that of reading the job
+  -- 1, 2, 8 and 14 are those of reading the job
+  pub read-refused : (r : Refusal) → Early r → (compileAs k xs room ≡ refused r) ↔ (readAs k xs ≡ refused r)
+  read-refused r h = rw (as-onward k xs room) at (early-from (readAs k xs) (as-early k xs) room r h)
+
   pub too-many : (compileAs k xs room ≡ refused TooManyPairs) ↔ (readAs k xs ≡ refused TooManyPairs)
-  too-many = rw (as-onward k xs room) at (pairs-from (readAs k xs) (as-early k xs) room)
+  too-many = read-refused TooManyPairs (inr (inr refl))
 
   -- with room for the longest record 13 never comes
   pub never-short : 3865 ≤ room → compileAs k xs room ≡ refused ShortOutput → ⊥

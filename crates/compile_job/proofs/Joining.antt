@@ -42,10 +42,11 @@ module _ (xs : List ℕ) where
 
   pub joined-job : (j : Job) → readJoined xs ≡ done j → (c : Constraint) × (d : Constraint) × Joins xs c d
       × Lawful c × Lawful d × (length (pairs c d) ≤ 16) × (j .constraint ≡ joined c d)
+      × (j .p ≡ getD xs 0 0) × (j .q ≡ getD xs 1 0) × (j .cap ≡ getD xs 2 0)
   joined-job j e =
       let (c, d, s, few, q) = joins-exact j e in
       let (lc, ld) = joins-lawful c d s in
-      (c, d, s, lc, ld, few, ap (λ j. j .constraint) q)
+      (c, d, s, lc, ld, few, ap (λ j. j .constraint) q, ap (λ j. j .p) q, ap (λ j. j .q) q, ap (λ j. j .cap) q)
 
 -- ---- 14
 -- a refusal that comes after a check, or after a result

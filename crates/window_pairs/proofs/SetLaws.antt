@@ -1,5 +1,5 @@
 -- Laws of the sets of pairs that the code makes, copies and tests.
--- In order: copied; same-pairs; cleared; row-meets; put-row, fill-row, one row written; eqb-swap.
+-- In order: copied; same-pairs, replaced; cleared; row-meets; put-row, fill-row, one row written; eqb-swap.
 -- Assumes nothing.
 use Rattle.laws.proofs.All.{_≡_, refl, sym, ap, ap₂, subst, _∙_, Bool, true, false, not, _&&_, _||_, or-false, List, ℕ}
 use Rattle.laws.proofs.All.{_+_, _*_, _≤_, _<_, arith, T, eqb, eq-eqb, eqb-true, ltb, ltb→lt, lt→ltb, not-true}
@@ -27,6 +27,11 @@ alike a b e = eqb-true a b (not-false (eqb a b) e)
 pub same-pairs : (n : ℕ) (A B : List ℕ) → not (some (differsAt A B) (2 * n)) ≡ true → pairsIn n A ≡ pairsIn n B
 same-pairs n A B e =
     copied n B A (λ j l. alike (getD A j 0) (getD B j 0) (none-at (differsAt A B) (2 * n) j (not-true _ e) l))
+
+-- a set R with the pairs of A, put in place of B: where no word of A and B differs it holds the pairs of B
+pub replaced : (n : ℕ) (A B R : List ℕ) (b : Bool) → b ≡ not (some (differsAt A B) (2 * n))
+    → pairsIn n R ≡ pairsIn n A → b ≡ true → pairsIn n R ≡ pairsIn n B
+replaced n A B R b e w t = w ∙ same-pairs n A B (sym e ∙ t)
 
 -- a set of two words 0 holds no state
 pub cleared : (A : List ℕ) (x : ℕ) → getD A (2 * x) 0 ≡ 0 → getD A (2 * x + 1) 0 ≡ 0 → (y : ℕ)

@@ -95,10 +95,10 @@ fn same_pairs(states: usize, a: &[u64; 256], b: &[u64; 256]) -> bool
     true
 }
 
-// Makes the set `out` hold the pairs of `set`; whether it held the same before.
+// Makes the set `out` hold the pairs of `set`; whether it had the same words before.
 pub fn replace(states: usize, set: &[u64; 256], out: &mut [u64; 256]) -> bool
     requires { ⌜ (states ≤ 128) × Long (now out) ⌝ }
-    ensures answer { λ r. ⌜ (r ≡ true → pairsIn states (now (out .exit)) ≡ pairsIn states (now (out .entry))) ⌝ }
+    ensures answer { λ r. ⌜ r ≡ not (some (differsAt (now (set .entry)) (now (out .entry))) (2 * states)) ⌝ }
     ensures written { λ r. ⌜
         Long (now (out .exit)) × (pairsIn states (now (out .exit)) ≡ pairsIn states (now (set .entry))) ⌝ }
 {

@@ -2,6 +2,7 @@
 use Rattle.laws.proofs.All.{_∙_, now, needs}
 use Rattle.table.specs.Edges.{Arrays, arrays, rowsOf}
 use Rattle.table.proofs.RowsOf.{length-rows}
+use Rattle.window_pairs.proofs.SetLaws.{replaced}
 use Rattle.window_test.proofs.SetsOf.{start-put}
 use Rattle.window_test.proofs.steps.extend_memory.Statement.{statement}
 use Rattle.window_test.proofs.steps.extend_memory.Tie as tie
@@ -17,7 +18,7 @@ returns c =
     let e = c .replace .ensures in
     let put = start-put (rowsOf (table s)) (s .args .states) (length-rows (table s)) (now (s .args .past)) _ _
     (a .add-start .ensures .1) (f .forward .ensures .1) in
-    (e .0, (e .1 .1 ∙ put, (e .1 .0, a .add-start .ensures .0)))
+    (replaced (s .args .states) _ _ _ _ (e .0) (e .1 .1), (e .1 .1 ∙ put, (e .1 .0, a .add-start .ensures .0)))
 
 pub extend-memory-spec : {M : Type 1} → statement M
 extend-memory-spec =

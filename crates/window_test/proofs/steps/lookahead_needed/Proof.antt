@@ -5,6 +5,7 @@ use Rattle.window.specs.Search.{empty}
 use Rattle.table.specs.Edges.{Arrays, arrays, rowsOf}
 use Rattle.table.proofs.RowsOf.{length-rows}
 use Rattle.window_pairs.specs.PairSets.{pairsIn, Long}
+use Rattle.window_pairs.proofs.SetLaws.{replaced}
 use Rattle.window_test.proofs.SetsOf.{empty-of}
 use Rattle.window_test.proofs.Stepped.{Stepped, stepped-start, stepped-more, stepped-stop, stepped-end}
 use Rattle.window_test.proofs.Stepped.{stepped-rest}
@@ -74,7 +75,8 @@ returns-3 c =
     let e = f .before .before .before .before in
     let l = e .before .before .before .loop in (
       stepped-rest _ _ _ _ (l .set) (l .k) _ (l .inv .0) (sym (emptied (e .before)) ∙ e .if1 .left)
-          (stepped (c .before)) (c .before .replace .ensures .0 (c .if3 .taken)),
+          (stepped (c .before))
+          (replaced _ _ _ _ _ (c .before .replace .ensures .0) (c .before .replace .ensures .1 .1) (c .if3 .taken)),
       (c .before .replace .ensures .1 .0, f .forward .ensures .0),
     )
 
