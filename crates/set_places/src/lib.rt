@@ -3,7 +3,8 @@
 ghost use mathlib.Core.Path.{_≡_};
 ghost use Rattle.set_places.specs.Offsets.{placeAt, recordPlace};
 
-// A set's bytes and an offset in them.
+// A set's bytes and an offset in them. No reader moves on: one is made anew for each record, at the offset where the
+// record before it ends.
 pub struct Reader<'a> {
     pub set: &'a [u8],
     pub at: usize,
@@ -42,14 +43,14 @@ pub fn new<'a>(set: &'a [u8], at: usize) -> Reader<'a>
     Reader { set, at }
 }
 
-// The record that a reader stands before.
+// The record that a reader stands before. The offset after it is `start + len`, for the next reader.
 pub fn next<'a>(r: Reader<'a>) -> Place
     ensures answer { λ p. ⌜ p ≡ placeAt (now (r .entry .set)) (r .entry .at) ⌝ }
 {
     place_at(r.set, r.at)
 }
 
-// The record that a reader at an offset of a set stands before.
+// The record that a new reader at an offset of a set stands before.
 pub fn read(set: &[u8], at: usize) -> Place
     ensures answer { λ r. ⌜ r ≡ placeAt (now (set .entry)) at ⌝ }
 {
