@@ -2,3 +2,4 @@ pub mod Sizes
 pub mod Streams
 pub mod Waiting
 pub mod Checks
+pub mod Calls
