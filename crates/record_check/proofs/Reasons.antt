@@ -1,10 +1,13 @@
--- Every outcome of a record's bytes has its reason, in the order of the checks.
--- In order: reason.
+-- Every outcome of a record's bytes has its reason, in the order of the checks, and no refusal but 7 to 10 comes.
+-- In order: reason; among, record-refused.
 -- Assumes nothing.
-use Rattle.laws.proofs.All.{_≡_, refl, sym, subst, Bool, true, false, List, ℕ, T, leb, eqb, length, leb-true}
-use Rattle.laws.proofs.All.{leb-false, eqb-true, eqb-false}
+use Rattle.laws.proofs.All.{_≡_, refl, sym, subst, Bool, true, false, List, ℕ, _≤_, T, leb, eqb, length, leb-true}
+use Rattle.laws.proofs.All.{leb-false, eqb-true, eqb-false, arith}
+use Rattle.answer.specs.declared.Refusal.{Refusal}
 use Rattle.answer.specs.declared.Refusal.the-variants.{Field, Length, Disobeys, WindowFails}
+use Rattle.answer.specs.Refusals.{numberOf}
 use Rattle.answer.specs.Outcomes.{done, unless, onward}
+use Rattle.answer.proofs.RefusedOutcomes.{Refuses, refuses-done, refuses-unless, refuses-onward}
 use Rattle.bits.specs.Fields.{bitsOf}
 use Rattle.window.specs.Works.{works}
 use Rattle.record_obeys.specs.Obeys.{obeys}
@@ -55,3 +58,20 @@ reason xs =
     go true pa true pb true pc false pd = unranged (sized pa pb pc) pd
     go true pa true pb true pc true pd =
         good (sized pa pb pc) pd (obeys (codeFrom xs)) refl (works (codeFrom xs .table) (codeFrom xs .window)) refl
+
+-- a record is refused with 7, 8, 9 or 10
+abbrev among : Refusal → Type 0
+among r = (7 ≤ numberOf r) × (numberOf r ≤ 10)
+
+pub record-refused : (xs : List ℕ) → Refuses (λ r. (7 ≤ numberOf r) × (numberOf r ≤ 10)) (parse xs)
+unfolding parse fieldsChecked
+record-refused xs =
+    refuses-onward among (fieldsChecked xs) judged
+    (refuses-unless among Length (leb headerBytes (length xs)) _ (omega arith, omega arith)
+    (refuses-unless among Field (goodHead (headerOf xs)) _ (omega arith, omega arith)
+    (refuses-unless among Length (eqb (length xs) (size (headerOf xs))) _ (omega arith, omega arith)
+    (refuses-unless among Field (restGood (headerOf xs) (bitsOf xs)) _ (omega arith, omega arith)
+    (refuses-done among _)))))
+    (λ c. refuses-unless among Disobeys (obeys c) _ (omega arith, omega arith)
+    (refuses-unless among WindowFails (works (c .table) (c .window)) _ (omega arith, omega arith)
+    (refuses-done among c)))
