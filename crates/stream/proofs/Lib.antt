@@ -1,4 +1,5 @@
 pub mod Written
 pub mod Decoded
 pub mod Returns
+pub mod Calls
 pub mod Read
