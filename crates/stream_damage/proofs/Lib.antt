@@ -1,2 +1,3 @@
 pub mod BitReach
+pub mod Calls
 pub mod Scratch

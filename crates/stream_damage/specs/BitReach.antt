@@ -1,11 +1,12 @@
 -- The reach of damage in channel bits: "only blocks f / q − a (0 if negative) to l / q + m, quotients rounded down, can
 -- then differ from the data written".
--- In order: firstBlock, lastBlock; blockRange, blocksOf; reachIn, reachUnder; reachAnswer.
+-- In order: firstBlock, lastBlock; blockRange, blocksOf; reachIn, reachUnder; reachAnswer; reachNumber, reachValues.
 -- Assumes nothing.
-use mathlib.Core.List.{List}
+use mathlib.Core.List.{List, [], _∷_}
 use Prim.Native.Nat.{ℕ, _+_, _*_, _-_, _/_}
 use lib.Dec.{ltb}
 use Rattle.answer.specs.declared.Refusal.the-variants.{Stream}
+use Rattle.answer.specs.Refusals.{numberOf, placeOf}
 use Rattle.answer.specs.Outcomes.{Outcome, done, refused, unless, onward}
 use Rattle.table.specs.Rows.{Code}
 use Rattle.record_check.specs.Parse.{parse}
@@ -45,3 +46,13 @@ reachUnder rec d = onward (parse rec) (λ c. reachIn c d)
 abbrev pub reachAnswer : Outcome BlockRange → ReachAnswer
 reachAnswer (done b) = Blocks b
 reachAnswer (refused r) = Refused r
+
+-- 0 for blocks that are quoted, otherwise the number of the refusal
+abbrev pub reachNumber : ReachAnswer → ℕ
+reachNumber (Blocks b) = 0
+reachNumber (Refused r) = numberOf r
+
+-- the numbers of the first and the last block, otherwise the place that the refusal names
+abbrev pub reachValues : ReachAnswer → List ℕ
+reachValues (Blocks b) = b .first .0 ∷ b .last .0 ∷ []
+reachValues (Refused r) = placeOf r ∷ []
