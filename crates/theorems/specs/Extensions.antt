@@ -1,20 +1,25 @@
 -- The theorems of what was asked for after the first delivery, each written out in full as on the main page.
 -- In order: (a) joint, joined-pairs, numbered, too-many-pairs, joined-job, both-obeyed; (b) streams, good-streams,
--- stream-words, stream-returns, bits-reach; (c) labels, labels-rule, labels-hold; (d) decoded-blocks, marks,
--- no-mark-ahead, clear-unmarked; (e) closes, tail-free, tail-place, closes-record; (f) weave-places, weaving,
--- one-word-each, fewer-places, scratch; (g) state-sets, step-bits, back-bits.
+-- stream-numbers, pack-calls, unpack-calls, pack-returns, stream-words, stream-returns, stream-calls, unstream-calls,
+-- stream-recognised, stream-clear, bits-reach, reach-quoted, reach-told; (c) labels, labels-rule, labels-hold; (d)
+-- decoded-blocks, marks, no-mark-ahead, clear-unmarked; (e) closes, tail-free, tail-place, closes-record; (f)
+-- depth-numbers, weave-calls, unweave-calls, weave-spreads, weave-returns, weave-places, weaving, one-word-each,
+-- fewer-places, scratch; (g) state-sets, step-bits, back-bits.
 -- Assumes nothing.
 use mathlib.Core.Path.{_≡_}
 use mathlib.Core.Logic.{_⊎_, _↔_}
 use mathlib.Core.Bool.{not, _&&_, _||_}
-use mathlib.Core.List.{List, _++_, map}
+use mathlib.Core.List.{List, [], _∷_, _++_, map}
 use Prim.Native.Nat.{ℕ, _+_, _*_, _-_, _/_, _%_, _^_, _≤_, _<_}
 use lib.Count.{ones, trailingZeros}
 use lib.Dec.{T, eqb}
 use lib.ListN.{length, getD, take, replicate}
 use Rattle.laws.specs.Lists.{if_then_else_, range, any, first, sum, elem}
 use Rattle.laws.specs.Sums.{Each, Once, Below}
-use Rattle.answer.specs.declared.Refusal.the-variants.{TooManyPairs}
+use Rattle.answer.specs.declared.Refusal.{Refusal}
+use Rattle.answer.specs.declared.Refusal.the-variants.{Parameters, BadByte, TooFewWords, ShortOutput, TooManyPairs}
+use Rattle.answer.specs.declared.Refusal.the-variants.{Stream, Depth}
+use Rattle.answer.specs.Refusals.{numberOf}
 use Rattle.answer.specs.Outcomes.{done, refused}
 use Rattle.bits.specs.Fields.{field, bitsOf}
 use Rattle.constraint.specs.Walking.{Constraint, Lawful}
@@ -32,20 +37,22 @@ use Rattle.record.specs.Layout.{pack}
 use Rattle.record_check.specs.Accepted.{Accepted}
 use Rattle.record_check.specs.Parse.{parse}
 use Rattle.codec_steps.specs.StateSets.{along, back}
-use Rattle.codec_steps.specs.Reading.{markAhead, block}
+use Rattle.codec_steps.specs.Reading.{markAhead, block, decode}
 use Rattle.codec.specs.Answers.{encodeUnder, decodeUnder}
 use Rattle.codec.specs.Follows.{Follows}
-use Rattle.codec.specs.Damage.{StandsClear, SameOutside, differences}
+use Rattle.codec.specs.Damage.{StandsClear, Recording, SameOutside, differences}
 use Rattle.compile_table.specs.TableOf.{tableOf}
 use Rattle.compile_labels.specs.Labels.{relabelledRow, relabelled, Rearranged}
 use Rattle.compile_job.specs.Jobs.{Job, Allowed, readJoined, Joins}
 use Rattle.compile.specs.Compile.{ways, componentOf, finishedOf, compile, compileJoined}
-use Rattle.stream_pack.specs.Streams.{limit, packed, unpacked, goodStream}
-use Rattle.weaving.specs.Weaving.{woven, unwoven, part, goodDepth}
+use Rattle.stream_pack.specs.Streams.{limit, packed, unpacked, goodStream, packInto, unpackInto}
+use Rattle.weaving.specs.Weaving.{woven, unwoven, part, goodDepth, weaveInto, unweaveInto}
 use Rattle.stream.specs.Recorded.{encodeStream, decodeStream}
 use Rattle.stream_damage.specs.declared.BitNo.{BitNo}
 use Rattle.stream_damage.specs.declared.BlockNo.{BlockNo}
-use Rattle.stream_damage.specs.BitReach.{firstBlock, lastBlock}
+use Rattle.stream_damage.specs.declared.BitRange.{BitRange}
+use Rattle.stream_damage.specs.declared.BlockRange.{BlockRange}
+use Rattle.stream_damage.specs.BitReach.{firstBlock, lastBlock, reachUnder, reachAnswer, reachNumber, reachValues}
 use Rattle.record_tail.specs.Closing.{closedWith}
 
 -- ---- (a) Two constraints on one medium. What the main page says of a `Kind` of job holds of this kind too: its record
@@ -100,6 +107,46 @@ pub good-streams : (q count : ℕ) (xs : List ℕ) → Below 256 xs → T (goodS
     ↔ ((count ≤ limit) × ((ws : List ℕ) × Below (2 ^ q) ws × (length ws ≡ count) × (packed q ws ≡ xs)))
 good-streams = Rattle.stream_pack.proofs.Streams.good-streams
 
+-- That check by numbers: at most 1,000,000 words, bytes for count × q / 8 rounded up, and the bits that are left 0.
+pub stream-numbers : (q count : ℕ) (xs : List ℕ) → let size = (count * q + 7) / 8 in T (goodStream q count xs)
+    ↔ ((count ≤ 1000000) × (length xs ≡ size) × (field (bitsOf xs) (count * q) (8 * size - count * q) ≡ 0))
+stream-numbers = Rattle.stream_pack.proofs.Calls.stream-numbers
+
+-- Packing is done exactly for q 1 to 8, at most 1,000,000 words, room and words below 2^q; 1, 15, 13 and 11, with the
+-- place of the first word of 2^q or more, come exactly where they are due and none before is.
+pub pack-calls : (q room : ℕ) (ws : List ℕ) → let n = length ws in let o = packInto q room ws in
+    ((xs : List ℕ) → (o ≡ done xs) ↔ ((1 ≤ q) × (q ≤ 8) × (n ≤ 1000000) × ((n * q + 7) / 8 ≤ room)
+    × Below (2 ^ q) ws × (packed q ws ≡ xs)))
+    × ((o ≡ refused Parameters) ↔ ((q < 1) ⊎ (8 < q)))
+    × ((o ≡ refused Stream) ↔ ((1 ≤ q) × (q ≤ 8) × (1000000 < n)))
+    × ((o ≡ refused ShortOutput) ↔ ((1 ≤ q) × (q ≤ 8) × (n ≤ 1000000) × (room < (n * q + 7) / 8)))
+    × ((k : ℕ) → (o ≡ refused (BadByte k)) ↔ ((1 ≤ q) × (q ≤ 8) × (n ≤ 1000000) × ((n * q + 7) / 8 ≤ room)
+    × (k < n) × Below (2 ^ q) (take k ws) × (2 ^ q ≤ getD ws k 0)))
+pack-calls = Rattle.stream_pack.proofs.Calls.pack-calls
+
+-- Unpacking is done exactly for q 1 to 8, at most 1,000,000 words, bytes for count × q / 8 rounded up, a fill of 0 and
+-- room; 1, 15 and 13 come exactly where they are due and none before is.
+pub unpack-calls : (q count room : ℕ) (xs : List ℕ) → let size = (count * q + 7) / 8 in
+    let fill = field (bitsOf xs) (count * q) (8 * size - count * q) in let o = unpackInto q count room xs in
+    ((ws : List ℕ) → (o ≡ done ws) ↔ ((1 ≤ q) × (q ≤ 8) × (count ≤ 1000000) × (length xs ≡ size) × (fill ≡ 0)
+    × (count ≤ room) × (unpacked q count xs ≡ ws)))
+    × ((o ≡ refused Parameters) ↔ ((q < 1) ⊎ (8 < q)))
+    × ((o ≡ refused Stream)
+    ↔ ((1 ≤ q) × (q ≤ 8) × ((1000000 < count) ⊎ ((length xs ≡ size → ⊥) ⊎ (fill ≡ 0 → ⊥)))))
+    × ((o ≡ refused ShortOutput)
+    ↔ ((1 ≤ q) × (q ≤ 8) × (count ≤ 1000000) × (length xs ≡ size) × (fill ≡ 0) × (room < count)))
+unpack-calls = Rattle.stream_pack.proofs.Calls.unpack-calls
+
+-- What a packing call wrote an unpacking call gives back, and the other way.
+pub pack-returns : (q room room′ : ℕ) → ((ws xs : List ℕ) → packInto q room ws ≡ done xs → length ws ≤ room′
+    → unpackInto q (length ws) room′ xs ≡ done ws)
+    × ((count : ℕ) (xs ws : List ℕ) → Below 256 xs → unpackInto q count room xs ≡ done ws → length xs ≤ room′
+    → packInto q room′ ws ≡ done xs)
+pack-returns q room room′ = (
+  Rattle.stream_pack.proofs.Calls.pack-returns q room room′,
+  λ count. Rattle.stream_pack.proofs.Calls.unpack-returns q count room room′,
+)
+
 -- A stream is recorded as the recording's words, packed, and read as its words are: all that Main says of words holds.
 pub stream-words : (rec : List ℕ) (c : Code) → parse rec ≡ done c → ((room : ℕ) (ds xs : List ℕ)
     → encodeStream rec room ds ≡ done xs → (R : List ℕ)
@@ -115,6 +162,50 @@ pub stream-returns : (rec : List ℕ) → Below 256 rec → (c : Code) → parse
     → decodeStream rec (length ds + c .window .lookahead) room′ xs ≡ done ds
 stream-returns = Rattle.stream.proofs.Returns.stream-returns
 
+-- Under an accepted record encoding is done exactly for good blocks, at most 1,000,000 words with the closing ones and
+-- room; 15, 13 and 11 come exactly where due and none before is. A refused record's refusal, 7 to 10, stays.
+pub stream-calls : (rec : List ℕ) (room : ℕ) (ds : List ℕ) → let o = encodeStream rec room ds in
+    ((c : Code) → parse rec ≡ done c → let n = length ds + c .window .lookahead in let size = (n * c .q + 7) / 8 in
+    ((xs : List ℕ) → (o ≡ done xs)
+    ↔ ((n ≤ 1000000) × (size ≤ room) × Below (2 ^ c .p) ds × (packed (c .q) (recording c ds) ≡ xs)))
+    × ((o ≡ refused Stream) ↔ (1000000 < n))
+    × ((o ≡ refused ShortOutput) ↔ ((n ≤ 1000000) × (room < size)))
+    × ((k : ℕ) → (o ≡ refused (BadByte k)) ↔ ((n ≤ 1000000) × (size ≤ room) × (k < length ds)
+    × Below (2 ^ c .p) (take k ds) × (2 ^ c .p ≤ getD ds k 0))))
+    × ((r : Refusal) → parse rec ≡ refused r → (o ≡ refused r) × (7 ≤ numberOf r) × (numberOf r ≤ 10))
+stream-calls = Rattle.stream.proofs.Calls.stream-calls
+
+-- Decoding is done exactly for a good stream of a or more words and room; 15, 12 and 13 come exactly where due and none
+-- before is. A refused record's refusal, 7 to 10, stays.
+pub unstream-calls : (rec : List ℕ) (count room : ℕ) (xs : List ℕ) → let o = decodeStream rec count room xs in
+    ((c : Code) → parse rec ≡ done c → let q = c .q in let a = c .window .lookahead in
+    let size = (count * q + 7) / 8 in let fill = field (bitsOf xs) (count * q) (8 * size - count * q) in
+    ((out : List ℕ) → (o ≡ done out) ↔ ((count ≤ 1000000) × (length xs ≡ size) × (fill ≡ 0) × (a ≤ count)
+    × (count - a ≤ room) × (decode c (unpacked q count xs) ≡ out)))
+    × ((o ≡ refused Stream) ↔ ((1000000 < count) ⊎ ((length xs ≡ size → ⊥) ⊎ (fill ≡ 0 → ⊥))))
+    × ((o ≡ refused TooFewWords) ↔ ((count ≤ 1000000) × (length xs ≡ size) × (fill ≡ 0) × (count < a)))
+    × ((o ≡ refused ShortOutput)
+    ↔ ((count ≤ 1000000) × (length xs ≡ size) × (fill ≡ 0) × (a ≤ count) × (room < count - a))))
+    × ((r : Refusal) → parse rec ≡ refused r → (o ≡ refused r) × (7 ≤ numberOf r) × (numberOf r ≤ 10))
+unstream-calls = Rattle.stream.proofs.Calls.unstream-calls
+
+-- Bytes are the stream of a recording of as many words exactly when encoding their decoded blocks rebuilds them.
+pub stream-recognised : (rec : List ℕ) → Below 256 rec → (c : Code) → parse rec ≡ done c → (count room : ℕ)
+    → (xs : List ℕ) → count ≤ room
+    → ((count ≤ 1000000) × ((R : List ℕ) × Recording c R × (length R ≡ count) × (packed (c .q) R ≡ xs)))
+    ↔ ((ds : List ℕ) × (decodeStream rec count room xs ≡ done ds) × (encodeStream rec room ds ≡ done xs))
+stream-recognised = Rattle.stream.proofs.Calls.stream-recognised
+
+-- Demand 3 of streams: whatever good stream is read, every block that stands clear in its words comes out as written.
+pub stream-clear : (rec : List ℕ) → Below 256 rec → (c : Code) → parse rec ≡ done c → (ds xs : List ℕ)
+    → (count room : ℕ) → Blocks c ds → let q = c .q in let a = c .window .lookahead in
+    let size = (count * q + 7) / 8 in count ≤ 1000000 → length xs ≡ size
+    → field (bitsOf xs) (count * q) (8 * size - count * q) ≡ 0 → a ≤ count → count - a ≤ room
+    → (out : List ℕ) × (decodeStream rec count room xs ≡ done out)
+    × ((i j : ℕ) → i < length ds → StandsClear c (recording c ds) (unpacked q count xs) i j
+    → getD out j markAhead ≡ getD ds i 0)
+stream-clear = Rattle.stream.proofs.Calls.stream-clear
+
 -- Overwriting channel bits f to l: only blocks f / q − a to l / q + m can differ from the data written.
 pub bits-reach : (rec : List ℕ) → Below 256 rec → (c : Code) → parse rec ≡ done c → (ds xs : List ℕ) → Blocks c ds
     → Below 256 xs → let count = length ds + c .window .lookahead in count ≤ limit → (f l : BitNo) → f .0 ≤ l .0
@@ -123,6 +214,25 @@ pub bits-reach : (rec : List ℕ) → Below 256 rec → (c : Code) → parse rec
     × ((j : BlockNo) → j .0 < length ds → (j .0 < firstBlock (c .q) (c .window .lookahead) (f .0))
     ⊎ (lastBlock (c .q) (c .window .memory) (l .0) < j .0) → getD out (j .0) markAhead ≡ getD ds (j .0) 0)
 bits-reach = Rattle.stream_damage.proofs.BitReach.bits-reach
+
+-- The reach that is quoted is blocks f / q − a, 0 if negative, to l / q + m, exactly for bits of 1,000,000 words; 15 for
+-- bits past them. A refused record's refusal, 7 to 10, stays.
+pub reach-quoted : (rec : List ℕ) (d : BitRange) → let o = reachUnder rec d in
+    ((c : Code) → parse rec ≡ done c → let q = c .q in
+    ((b : BlockRange) → (o ≡ done b) ↔ ((d .last .0 < 1000000 * q)
+    × (d .first .0 / q - c .window .lookahead ≡ b .first .0) × (d .last .0 / q + c .window .memory ≡ b .last .0)))
+    × ((o ≡ refused Stream) ↔ (1000000 * q ≤ d .last .0)))
+    × ((r : Refusal) → parse rec ≡ refused r → (o ≡ refused r) × (7 ≤ numberOf r) × (numberOf r ≤ 10))
+reach-quoted = Rattle.stream_damage.proofs.Calls.reach-quoted
+
+-- The code's answer has number 0 and these two blocks as its values, or the refusal's number, and names no place.
+pub reach-told : (rec : List ℕ) (d : BitRange) → let a = reachAnswer (reachUnder rec d) in
+    ((c : Code) → parse rec ≡ done c → let q = c .q in
+    (d .last .0 < 1000000 * q → (reachNumber a ≡ 0) × (reachValues a
+    ≡ (d .first .0 / q - c .window .lookahead) ∷ (d .last .0 / q + c .window .memory) ∷ []))
+    × (1000000 * q ≤ d .last .0 → (reachNumber a ≡ 15) × (reachValues a ≡ 0 ∷ [])))
+    × ((r : Refusal) → parse rec ≡ refused r → (reachNumber a ≡ numberOf r) × (reachValues a ≡ 0 ∷ []))
+reach-told = Rattle.stream_damage.proofs.Calls.reach-told
 
 -- ---- (c) One word, one datum where it can be: `relabelled` gives the data of a table anew. Main's `tableFor` is the
 -- table of the finished graph, relabelled, so what Main says of tables, windows and records is said of the new data.
@@ -197,6 +307,45 @@ closes-record = Rattle.record_tail.proofs.Closed.closes-record
 
 -- ---- (f) Spreading a scratch: D recordings of equally many words, one after the other, are woven. `part k r ws` is
 -- recording r of those that stand one after the other, k words each.
+
+-- A depth is good exactly when it is 2 to 16 and divides the number of words.
+pub depth-numbers : (D k : ℕ) → T (goodDepth D k) ↔ ((2 ≤ D) × (D ≤ 16) × (k % D ≡ 0))
+depth-numbers = Rattle.weaving.proofs.Calls.depth-numbers
+
+-- Weaving is done exactly for D 2 to 16 that divides the length, and room; 16 and 13 come exactly where due and none
+-- before is.
+pub weave-calls : (D room : ℕ) (ws : List ℕ) → let k = length ws in let o = weaveInto D room ws in
+    ((W : List ℕ) → (o ≡ done W) ↔ ((2 ≤ D) × (D ≤ 16) × (k % D ≡ 0) × (k ≤ room) × (woven D ws ≡ W)))
+    × ((o ≡ refused Depth) ↔ ((D < 2) ⊎ ((16 < D) ⊎ (k % D ≡ 0 → ⊥))))
+    × ((o ≡ refused ShortOutput) ↔ ((2 ≤ D) × (D ≤ 16) × (k % D ≡ 0) × (room < k)))
+weave-calls = Rattle.weaving.proofs.Calls.weave-calls
+
+-- Unweaving likewise.
+pub unweave-calls : (D room : ℕ) (ws : List ℕ) → let k = length ws in let o = unweaveInto D room ws in
+    ((W : List ℕ) → (o ≡ done W) ↔ ((2 ≤ D) × (D ≤ 16) × (k % D ≡ 0) × (k ≤ room) × (unwoven D ws ≡ W)))
+    × ((o ≡ refused Depth) ↔ ((D < 2) ⊎ ((16 < D) ⊎ (k % D ≡ 0 → ⊥))))
+    × ((o ≡ refused ShortOutput) ↔ ((2 ≤ D) × (D ≤ 16) × (k % D ≡ 0) × (room < k)))
+unweave-calls = Rattle.weaving.proofs.Calls.unweave-calls
+
+-- What a weaving call wrote has word j of recording r at place j × D + r; an unweaving call takes it from there.
+pub weave-spreads : (D room : ℕ) (ws W : List ℕ) → let k = length ws / D in (weaveInto D room ws ≡ done W
+    → (length W ≡ length ws)
+    × ((r j : ℕ) → r < D → j < k → getD W (j * D + r) 0 ≡ getD ws (r * k + j) 0))
+    × (unweaveInto D room ws ≡ done W → (length W ≡ length ws)
+    × ((r j : ℕ) → r < D → j < k → getD W (r * k + j) 0 ≡ getD ws (j * D + r) 0))
+weave-spreads D room ws W = (
+  Rattle.weaving.proofs.Calls.weave-spreads D room ws W,
+  Rattle.weaving.proofs.Calls.unweave-spreads D room ws W,
+)
+
+-- Each call undoes the other.
+pub weave-returns : (D room : ℕ) (ws W : List ℕ) (room′ : ℕ) → length ws ≤ room′
+    → (weaveInto D room ws ≡ done W → unweaveInto D room′ W ≡ done ws)
+    × (unweaveInto D room ws ≡ done W → weaveInto D room′ W ≡ done ws)
+weave-returns D room ws W room′ h = (
+  Rattle.weaving.proofs.Calls.weave-returns D room ws W room′ h,
+  Rattle.weaving.proofs.Calls.unweave-returns D room ws W room′ h,
+)
 
 -- Word j of recording r goes to place j × D + r.
 pub weave-places : (D : ℕ) (ws : List ℕ) → T (goodDepth D (length ws)) → (r j : ℕ) → r < D → j < length ws / D
