@@ -24,7 +24,7 @@ use table::chains::ways;
 use table::ready::is_ready;
 
 // The smaller of two numbers.
-fn smaller(x: usize, y: usize) -> usize
+pub fn smaller(x: usize, y: usize) -> usize
     ensures answer { λ r. ⌜ r ≡ min x y ⌝ }
 {
     if x < y {
