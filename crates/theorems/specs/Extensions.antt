@@ -4,7 +4,8 @@
 -- stream-recognised, stream-clear, bits-reach, reach-quoted, reach-told; (c) labels, labels-rule, labels-hold; (d)
 -- decoded-blocks, marks, no-mark-ahead, clear-unmarked; (e) closes, tail-free, tail-place, closes-record; (f)
 -- depth-numbers, weave-calls, unweave-calls, weave-spreads, weave-returns, weave-places, weaving, one-word-each,
--- fewer-places, scratch; (g) state-sets, step-bits, back-bits.
+-- fewer-places, scratch; (g) state-sets, step-bits, back-bits; Verify: verified,
+-- verified-place, verified-mark, verified-near, verified-stream.
 -- Assumes nothing.
 use mathlib.Core.Path.{_≡_}
 use mathlib.Core.Logic.{_⊎_, _↔_}
@@ -20,7 +21,9 @@ use Rattle.answer.specs.declared.Refusal.{Refusal}
 use Rattle.answer.specs.declared.Refusal.the-variants.{Parameters, BadByte, TooFewWords, ShortOutput, TooManyPairs}
 use Rattle.answer.specs.declared.Refusal.the-variants.{Stream, Depth}
 use Rattle.answer.specs.Refusals.{numberOf}
-use Rattle.answer.specs.Outcomes.{done, refused}
+use Rattle.answer.specs.declared.Answer.the-variants.{Done}
+use Rattle.answer.specs.Outcomes.{done, refused, answerOf}
+use Rattle.answer.specs.FirstBad.{firstBad}
 use Rattle.bits.specs.Fields.{field, bitsOf}
 use Rattle.constraint.specs.Walking.{Constraint, Lawful}
 use Rattle.constraint.specs.Follow.{Finds, channel}
@@ -54,6 +57,7 @@ use Rattle.stream_damage.specs.declared.BitRange.{BitRange}
 use Rattle.stream_damage.specs.declared.BlockRange.{BlockRange}
 use Rattle.stream_damage.specs.BitReach.{firstBlock, lastBlock, reachUnder, reachAnswer, reachNumber, reachValues}
 use Rattle.record_tail.specs.Closing.{closedWith}
+use Rattle.codec_verify.specs.Verify.{verifyUnder, verifyStream}
 
 -- ---- (a) Two constraints on one medium. What the main page says of a `Kind` of job holds of this kind too: its record
 -- passes the checker (`compiled-passes`), and 3 to 6 and 13 come exactly where they are due.
@@ -401,3 +405,41 @@ pub back-bits : (t : Arrays) (start edge low high : List ℕ) → Grouped t star
     → w < 256 → ((s : ℕ) → holds R s ≡ between (leadsInto edge low high S s) (getD start w 0) (getD start (w + 1) 0))
     → yesNo (t .states) R ≡ back (rowsOf t) (yesNo (t .states) S) w
 back-bits = Rattle.codec_steps.proofs.SetSteps.back-bits
+
+-- ---- Verify: the words in front that come back when the decoded blocks are encoded, as a call answers them.
+
+-- All words come back exactly when they are a recording, so the value is then their number; otherwise it is smaller.
+pub verified : (rec : List ℕ) → Below 256 rec → (c : Code) → parse rec ≡ done c → (L : List ℕ)
+    → ((verifyUnder rec L ≡ done L) ↔ Recording c L) × ((answerOf (verifyUnder rec L) ≡ Done (length L)) ↔ Recording c L)
+    × ((F : List ℕ) → verifyUnder rec L ≡ done F → (length F ≤ length L) × (take (length F) L ≡ F))
+verified rec b c p L = (
+  Rattle.codec_verify.proofs.Verified.verify-exact rec b c p L,
+  Rattle.codec_verify.proofs.Verified.verify-answer rec b c p L,
+  Rattle.codec_verify.proofs.Verified.verify-front rec b c p L,
+)
+
+-- With no block marked the value is the place of the first word that differs from the recording of the decoded blocks.
+pub verified-place : (rec : List ℕ) → Below 256 rec → (c : Code) → parse rec ≡ done c → (L F : List ℕ)
+    → verifyUnder rec L ≡ done F → Blocks c (decode c L) → let R = recording c (decode c L) in let k = length F in
+    (take k L ≡ take k R) × (k < length L → getD L k 0 ≡ getD R k 0 → ⊥)
+verified-place = Rattle.codec_verify.proofs.Verified.verify-place
+
+-- With block j the first that is marked the value is at most j: the place of the first word before j that differs from
+-- those of the blocks before j, or j where none does.
+pub verified-mark : (rec : List ℕ) → Below 256 rec → (c : Code) → parse rec ≡ done c → (L F : List ℕ)
+    → verifyUnder rec L ≡ done F → (j : ℕ) → j ≡ firstBad (2 ^ c .p) (decode c L) → j < length (decode c L)
+    → let R = spells (c .table) 0 (take j (decode c L)) in let k = length F in
+    (k ≤ j) × (take k L ≡ take k R) × (k < j → getD L k 0 ≡ getD R k 0 → ⊥)
+verified-mark = Rattle.codec_verify.proofs.Verified.verify-mark
+
+-- Where the first x words are those of a recording, x − a or more come back: of a recording with words changed, if k
+-- come back and not all, the first that was changed stands at k + a or before.
+pub verified-near : (rec : List ℕ) → Below 256 rec → (c : Code) → parse rec ≡ done c → (ds L F : List ℕ) → Blocks c ds
+    → verifyUnder rec L ≡ done F → (x : ℕ) → x ≤ length L → x ≤ length (recording c ds)
+    → take x L ≡ take x (recording c ds) → x - c .window .lookahead ≤ length F
+verified-near = Rattle.codec_verify.proofs.Near.verify-near
+
+-- A good stream is verified as its words are.
+pub verified-stream : (rec : List ℕ) → Below 256 rec → (c : Code) → parse rec ≡ done c → (count : ℕ) (xs : List ℕ)
+    → T (goodStream (c .q) count xs) → verifyStream rec count xs ≡ verifyUnder rec (unpacked (c .q) count xs)
+verified-stream = Rattle.codec_verify.proofs.Near.verify-words
