@@ -12,6 +12,7 @@ ghost use Rattle.stream_pack.specs.Streams.{packInto, unpackInto};
 ghost use Rattle.set_check.specs.Sets.{readSet};
 ghost use Rattle.set_check.specs.Results.{setAnswer};
 ghost use Rattle.stream.specs.Recorded.{encodeStream, decodeStream};
+ghost use Rattle.codec_verify.specs.Verify.{verifyUnder, verifyStream};
 ghost use Rattle.weaving.specs.Weaving.{weaveInto, unweaveInto};
 ghost use Rattle.word.specs.Words.{wordOf};
 ghost use Rattle.sbc.specs.Words.{setWordOf};
@@ -67,6 +68,15 @@ pub extern "C" fn sbc_decode(bytes: &[u8], words: &[u8], out: &mut [u8]) -> u64
         (decodeUnder (now (bytes .entry)) (length (now (out .entry))) (now (words .entry))) (now (out .entry)) ⌝ }
 {
     word(codec_record::decoding::decode(bytes, words, out))
+}
+
+// How many words in front encoding the decoded blocks gives back, all of them exactly if the words are a recording: the
+// record's refusals, 12, 11 with the place of the first bad word; otherwise their number.
+#[no_mangle]
+pub extern "C" fn sbc_verify(bytes: &[u8], words: &[u8]) -> u64
+    ensures answer { λ r. ⌜ r ≡ wordOf (answerOf (verifyUnder (now (bytes .entry)) (now (words .entry)))) ⌝ }
+{
+    word(codec_verify::verify(bytes, words))
 }
 
 // Blocks recorded under a record that was accepted before: as `sbc_encode`, but 9 and 10 are not looked at.
@@ -160,6 +170,15 @@ pub extern "C" fn sbc_decode_stream(bytes: &[u8], count: u64, stream: &[u8], out
         (now (out .entry)) ⌝ }
 {
     word(stream_record::decode_stream(bytes, count as usize, stream, out))
+}
+
+// How many words of a stream, in front, encoding the decoded blocks gives back, all of them exactly if they are a
+// recording: the record's refusals, 15, 12; otherwise their number.
+#[no_mangle]
+pub extern "C" fn sbc_verify_stream(bytes: &[u8], count: u64, stream: &[u8]) -> u64
+    ensures answer { λ r. ⌜ r ≡ wordOf (answerOf (verifyStream (now (bytes .entry)) count (now (stream .entry)))) ⌝ }
+{
+    word(stream_verify::verify_stream(bytes, count as usize, stream))
 }
 
 // The numbers of a record, one byte each: p, q, states less one, m, a, K, constraint start, tail datum. The record's
