@@ -143,14 +143,29 @@ uint64_t sbc_encode(const uint8_t *record, uint64_t record_length, const uint8_t
  * out: one block a byte, a fewer than there are words; SBC_MARK_BEFORE or SBC_MARK_AHEAD where no edge reads the
  * words. It lies apart from record and words.
  * A bad word at i can spoil blocks i - a to i + m and no others: that is what is promised. Blocks out of this reach show
- * neither mark. A spoiled block may be wrong without a mark: marks are a hint, and no mark is no promise. Put a checksum
- * over the data.
+ * neither mark. A spoiled block may be wrong without a mark: marks are a hint, and no mark is no promise. sbc_verify
+ * tells whether the words are a recording at all. Put a checksum over the data.
  * A recording can be read in pieces. To get blocks x to y, x at least m, hand over words x - m to y + a and drop the
  * first m blocks of the result; the others are those that the whole recording gives.
  * Answers how many blocks were written.
  * Refusals in order: those of sbc_check; 12; 13; 11 with the place of the first bad word. */
 uint64_t sbc_decode(const uint8_t *record, uint64_t record_length, const uint8_t *words, uint64_t words_length,
                     uint8_t *out, uint64_t out_length);
+
+/* Tells whether words are a recording under a record: decodes them, encodes the decoded blocks, and counts the words
+ * from the first on that come back. It makes one pass, writes nothing and needs no memory for blocks.
+ * words: one byte each, below 2^q.
+ * Answers how many words come back, up to the first that does not; words_length exactly if the words are a recording.
+ * - All of them: the words are a recording, of words_length - a blocks, and sbc_decode gives its data. It need not be
+ *   the recording that was written: a damaged list can itself be a recording, and so can one that was cut. A checksum
+ *   over the data stays due, and a count of blocks beside the recording.
+ * - A value k below words_length: the words are no recording. The first k words can be spelled from state 0, and word k
+ *   is not what encoding gives there. If the words were a recording once, the first that was changed stands at k + a or
+ *   before; it can stand before k.
+ * - The value says nothing of the words after word k, which may all be right: a mark ends the encoding, since a mark is
+ *   no datum. It is no count of the words that differ.
+ * Refusals in order: those of sbc_check; 12; 11 with the place of the first bad word. */
+uint64_t sbc_verify(const uint8_t *record, uint64_t record_length, const uint8_t *words, uint64_t words_length);
 
 /* Packs words into a bit stream: q bits a word, eight bits a byte, first bit highest, the last byte filled with 0.
  * q: 1 to 8.
@@ -194,6 +209,15 @@ uint64_t sbc_encode_stream(const uint8_t *record, uint64_t record_length, const 
  * SBC_STREAM_SIZE(q, count), or a fill that is not 0; 12; 13. */
 uint64_t sbc_decode_stream(const uint8_t *record, uint64_t record_length, uint64_t count, const uint8_t *stream,
                            uint64_t stream_length, uint8_t *out, uint64_t out_length);
+
+/* Tells whether the words of a bit stream are a recording under a record: what sbc_verify tells of the words of
+ * sbc_unpack. It needs no memory for the words: they are unpacked in parts.
+ * count, stream: as for sbc_decode_stream.
+ * Answers how many words come back, up to the first that does not; count exactly if the words are a recording. What is
+ * written at sbc_verify holds here too.
+ * Refusals in order: those of sbc_check; 15 as for sbc_decode_stream; 12. */
+uint64_t sbc_verify_stream(const uint8_t *record, uint64_t record_length, uint64_t count, const uint8_t *stream,
+                           uint64_t stream_length);
 
 /* Weaves recordings into one another, so that a scratch across neighbouring words is shared among them.
  * depth: how many recordings, 2 to 16.
@@ -277,7 +301,7 @@ uint64_t sbc_listing(const uint8_t *job, uint64_t job_length, uint8_t *out, uint
 uint64_t sbc_phrase(uint64_t refusal, uint8_t *out, uint64_t out_length);
 
 /* The version of the library, and no answer: 10,000 times the major number, plus 100 times the minor number, plus the
- * patch. 20100 is 2.1.0. */
+ * patch. 20200 is 2.2.0, the first with sbc_verify and sbc_verify_stream. */
 uint64_t sbc_version(void);
 
 #ifdef __cplusplus

@@ -3,6 +3,7 @@
 -- Assumes nothing.
 use Prim.Native.Nat.{ℕ}
 
--- version 2.1.0: 10,000 times the major number, plus 100 times the minor number, plus the patch
+-- version 2.2.0, the first with the calls that verify: 10,000 times the major number, plus 100 times the minor number,
+-- plus the patch
 abbrev pub version : ℕ
-version = 20100
+version = 20200
