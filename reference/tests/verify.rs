@@ -22,12 +22,12 @@ fn refused(refusal: u8) -> Answer {
     Answer::refused(refusal, 0)
 }
 
-/// The words w of the table, with one changed.
+/// The recording under the listed record, with one word changed.
 fn w(place: usize, word: u8) -> Vec<u8> {
     verifying::changed(&LISTED_WORDS, place, word)
 }
 
-/// The first words of v.
+/// The first words of the recording under the (2,7) record.
 fn v(count: usize) -> Vec<u8> {
     TWO_SEVEN_WORDS[..count].to_vec()
 }
@@ -121,9 +121,9 @@ fn streams_that_tell() -> Vec<(Call, Answer)> {
     ]
 }
 
-/// The records that the table names are those that the file of vectors is written with.
+/// The records written out above are those that the file of vectors is written with, and so are the recordings.
 #[test]
-fn the_records_of_the_table() {
+fn the_records_and_recordings() {
     assert_eq!(listed(), hex(LISTED));
     assert_eq!(with_value(&load(&listed()).unwrap(), 3), hex(LISTED_3));
     assert_eq!(two_seven(), hex(TWO_SEVEN));
