@@ -116,8 +116,7 @@ pub stream-numbers : (q count : ℕ) (xs : List ℕ) → let size = (count * q +
     ↔ ((count ≤ 1000000) × (length xs ≡ size) × (field (bitsOf xs) (count * q) (8 * size - count * q) ≡ 0))
 stream-numbers = Rattle.stream_pack.proofs.Calls.stream-numbers
 
--- Packing is done exactly for q 1 to 8, at most 1,000,000 words, room and words below 2^q; 1, 15, 13 and 11, with the
--- place of the first word of 2^q or more, come exactly where they are due and none before is.
+-- Packing is done exactly for q 1 to 8, at most 1,000,000 words, room and words below 2^q; else 1, 15, 13, 11 as due.
 pub pack-calls : (q room : ℕ) (ws : List ℕ) → let n = length ws in let o = packInto q room ws in
     ((xs : List ℕ) → (o ≡ done xs) ↔ ((1 ≤ q) × (q ≤ 8) × (n ≤ 1000000) × ((n * q + 7) / 8 ≤ room)
     × Below (2 ^ q) ws × (packed q ws ≡ xs)))
@@ -128,8 +127,7 @@ pub pack-calls : (q room : ℕ) (ws : List ℕ) → let n = length ws in let o =
     × (k < n) × Below (2 ^ q) (take k ws) × (2 ^ q ≤ getD ws k 0)))
 pack-calls = Rattle.stream_pack.proofs.Calls.pack-calls
 
--- Unpacking is done exactly for q 1 to 8, at most 1,000,000 words, bytes for count × q / 8 rounded up, a fill of 0 and
--- room; 1, 15 and 13 come exactly where they are due and none before is.
+-- Unpacking is done exactly for q 1 to 8, a good stream of at most 1,000,000 words, and room; else 1, 15, 13 as due.
 pub unpack-calls : (q count room : ℕ) (xs : List ℕ) → let size = (count * q + 7) / 8 in
     let fill = field (bitsOf xs) (count * q) (8 * size - count * q) in let o = unpackInto q count room xs in
     ((ws : List ℕ) → (o ≡ done ws) ↔ ((1 ≤ q) × (q ≤ 8) × (count ≤ 1000000) × (length xs ≡ size) × (fill ≡ 0)
@@ -166,8 +164,7 @@ pub stream-returns : (rec : List ℕ) → Below 256 rec → (c : Code) → parse
     → decodeStream rec (length ds + c .window .lookahead) room′ xs ≡ done ds
 stream-returns = Rattle.stream.proofs.Returns.stream-returns
 
--- Under an accepted record encoding is done exactly for good blocks, at most 1,000,000 words with the closing ones and
--- room; 15, 13 and 11 come exactly where due and none before is. A refused record's refusal, 7 to 10, stays.
+-- Encoding is done exactly for an accepted record, at most 1,000,000 words in all, room, good blocks; else 15, 13, 11.
 pub stream-calls : (rec : List ℕ) (room : ℕ) (ds : List ℕ) → let o = encodeStream rec room ds in
     ((c : Code) → parse rec ≡ done c → let n = length ds + c .window .lookahead in let size = (n * c .q + 7) / 8 in
     ((xs : List ℕ) → (o ≡ done xs)
@@ -179,8 +176,7 @@ pub stream-calls : (rec : List ℕ) (room : ℕ) (ds : List ℕ) → let o = enc
     × ((r : Refusal) → parse rec ≡ refused r → (o ≡ refused r) × (7 ≤ numberOf r) × (numberOf r ≤ 10))
 stream-calls = Rattle.stream.proofs.Calls.stream-calls
 
--- Decoding is done exactly for a good stream of a or more words and room; 15, 12 and 13 come exactly where due and none
--- before is. A refused record's refusal, 7 to 10, stays.
+-- Decoding is done exactly for an accepted record, a good stream, a or more words and room; else 15, 12, 13 as due.
 pub unstream-calls : (rec : List ℕ) (count room : ℕ) (xs : List ℕ) → let o = decodeStream rec count room xs in
     ((c : Code) → parse rec ≡ done c → let q = c .q in let a = c .window .lookahead in
     let size = (count * q + 7) / 8 in let fill = field (bitsOf xs) (count * q) (8 * size - count * q) in
@@ -219,8 +215,7 @@ pub bits-reach : (rec : List ℕ) → Below 256 rec → (c : Code) → parse rec
     ⊎ (lastBlock (c .q) (c .window .memory) (l .0) < j .0) → getD out (j .0) markAhead ≡ getD ds (j .0) 0)
 bits-reach = Rattle.stream_damage.proofs.BitReach.bits-reach
 
--- The reach that is quoted is blocks f / q − a, 0 if negative, to l / q + m, exactly for bits of 1,000,000 words; 15 for
--- bits past them. A refused record's refusal, 7 to 10, stays.
+-- The reach is quoted as blocks f / q − a, 0 if negative, to l / q + m, for bits of 1,000,000 words; 15 past them.
 pub reach-quoted : (rec : List ℕ) (d : BitRange) → let o = reachUnder rec d in
     ((c : Code) → parse rec ≡ done c → let q = c .q in
     ((b : BlockRange) → (o ≡ done b) ↔ ((d .last .0 < 1000000 * q)
@@ -316,22 +311,21 @@ closes-record = Rattle.record_tail.proofs.Closed.closes-record
 pub depth-numbers : (D k : ℕ) → T (goodDepth D k) ↔ ((2 ≤ D) × (D ≤ 16) × (k % D ≡ 0))
 depth-numbers = Rattle.weaving.proofs.Calls.depth-numbers
 
--- Weaving is done exactly for D 2 to 16 that divides the length, and room; 16 and 13 come exactly where due and none
--- before is.
+-- Weaving is done exactly for D 2 to 16 that divides the length, and room; otherwise 16, then 13, as due.
 pub weave-calls : (D room : ℕ) (ws : List ℕ) → let k = length ws in let o = weaveInto D room ws in
     ((W : List ℕ) → (o ≡ done W) ↔ ((2 ≤ D) × (D ≤ 16) × (k % D ≡ 0) × (k ≤ room) × (woven D ws ≡ W)))
     × ((o ≡ refused Depth) ↔ ((D < 2) ⊎ ((16 < D) ⊎ (k % D ≡ 0 → ⊥))))
     × ((o ≡ refused ShortOutput) ↔ ((2 ≤ D) × (D ≤ 16) × (k % D ≡ 0) × (room < k)))
 weave-calls = Rattle.weaving.proofs.Calls.weave-calls
 
--- Unweaving likewise.
+-- Unweaving too is done exactly for D 2 to 16 that divides the length, and room; otherwise 16, then 13, as due.
 pub unweave-calls : (D room : ℕ) (ws : List ℕ) → let k = length ws in let o = unweaveInto D room ws in
     ((W : List ℕ) → (o ≡ done W) ↔ ((2 ≤ D) × (D ≤ 16) × (k % D ≡ 0) × (k ≤ room) × (unwoven D ws ≡ W)))
     × ((o ≡ refused Depth) ↔ ((D < 2) ⊎ ((16 < D) ⊎ (k % D ≡ 0 → ⊥))))
     × ((o ≡ refused ShortOutput) ↔ ((2 ≤ D) × (D ≤ 16) × (k % D ≡ 0) × (room < k)))
 unweave-calls = Rattle.weaving.proofs.Calls.unweave-calls
 
--- What a weaving call wrote has word j of recording r at place j × D + r; an unweaving call takes it from there.
+-- A weaving call puts word j of recording r to place j × D + r, and an unweaving call takes it from there.
 pub weave-spreads : (D room : ℕ) (ws W : List ℕ) → let k = length ws / D in (weaveInto D room ws ≡ done W
     → (length W ≡ length ws)
     × ((r j : ℕ) → r < D → j < k → getD W (j * D + r) 0 ≡ getD ws (r * k + j) 0))
