@@ -1,6 +1,6 @@
 -- The theorems of what was asked for after the first delivery, each written out in full as on the main page.
--- In order: (a) joint, joined-pairs, numbered, too-many-pairs, joined-job, both-obeyed; (b) streams, good-streams,
--- stream-numbers, pack-calls, unpack-calls, pack-returns, stream-words, stream-returns, stream-calls, unstream-calls,
+-- In order: (a) joint, joined-pairs, numbered, too-many-pairs, joined-job, both-obeyed; (b) streams, packed-bits,
+-- good-streams, stream-numbers, pack-calls, unpack-calls, pack-returns, stream-words, stream-returns, stream-calls, unstream-calls,
 -- stream-recognised, stream-clear, bits-reach, reach-quoted, reach-told; (c) labels, labels-rule, labels-hold; (d)
 -- decoded-blocks, marks, no-mark-ahead, clear-unmarked; (e) closes, tail-free, tail-place, closes-record; (f)
 -- depth-numbers, weave-calls, unweave-calls, weave-spreads, weave-returns, weave-places, weaving, one-word-each,
@@ -48,14 +48,14 @@ use Rattle.compile_table.specs.TableOf.{tableOf}
 use Rattle.compile_labels.specs.Labels.{relabelledRow, relabelled, Rearranged}
 use Rattle.compile_job.specs.Jobs.{Job, Allowed, readJoined, Joins}
 use Rattle.compile.specs.Compile.{ways, componentOf, finishedOf, compile, compileJoined}
-use Rattle.stream_pack.specs.Streams.{limit, packed, unpacked, goodStream, packInto, unpackInto}
+use Rattle.stream_pack.specs.Streams.{packed, unpacked, goodStream, packInto, unpackInto}
 use Rattle.weaving.specs.Weaving.{woven, unwoven, part, goodDepth, weaveInto, unweaveInto}
 use Rattle.stream.specs.Recorded.{encodeStream, decodeStream}
 use Rattle.stream_damage.specs.declared.BitNo.{BitNo}
 use Rattle.stream_damage.specs.declared.BlockNo.{BlockNo}
 use Rattle.stream_damage.specs.declared.BitRange.{BitRange}
 use Rattle.stream_damage.specs.declared.BlockRange.{BlockRange}
-use Rattle.stream_damage.specs.BitReach.{firstBlock, lastBlock, reachUnder, reachAnswer, reachNumber, reachValues}
+use Rattle.stream_damage.specs.BitReach.{reachUnder, reachAnswer, reachNumber, reachValues}
 use Rattle.record_tail.specs.Closing.{closedWith}
 use Rattle.codec_verify.specs.Verify.{verifyUnder, verifyStream}
 
@@ -101,14 +101,21 @@ both-obeyed = Rattle.compile.proofs.Joined.both-obeyed
 -- types, `BitNo` and `BlockNo`.
 
 -- Packing and unpacking undo each other, for every q.
-pub streams : (q : ℕ) → ((ws : List ℕ) → Below (2 ^ q) ws → length ws ≤ limit
+pub streams : (q : ℕ) → ((ws : List ℕ) → Below (2 ^ q) ws → length ws ≤ 1000000
     → (unpacked q (length ws) (packed q ws) ≡ ws) × T (goodStream q (length ws) (packed q ws)))
     × ((count : ℕ) (xs : List ℕ) → Below 256 xs → T (goodStream q count xs) → packed q (unpacked q count xs) ≡ xs)
 streams q = (Rattle.stream_pack.proofs.Streams.unpacked-packed q, Rattle.stream_pack.proofs.Streams.packed-unpacked q)
 
+-- Bit i of a stream, each byte's highest first, is bit i % q of word i / q, its highest first, and 0 past the words.
+pub packed-bits : (q : ℕ) (ws : List ℕ) → 0 < q → let xs = packed q ws in let n = length ws * q in
+    (length xs ≡ (n + 7) / 8) × Below 256 xs
+    × ((i : ℕ) → i < n → getD xs (i / 8) 0 / 2 ^ (7 - i % 8) % 2 ≡ getD ws (i / q) 0 / 2 ^ (q - 1 - i % q) % 2)
+    × ((i : ℕ) → n ≤ i → getD xs (i / 8) 0 / 2 ^ (7 - i % 8) % 2 ≡ 0)
+packed-bits = Rattle.stream_pack.proofs.Places.packed-bits
+
 -- The check of 15 passes exactly the streams that packing makes of as many words, within the limit.
 pub good-streams : (q count : ℕ) (xs : List ℕ) → Below 256 xs → T (goodStream q count xs)
-    ↔ ((count ≤ limit) × ((ws : List ℕ) × Below (2 ^ q) ws × (length ws ≡ count) × (packed q ws ≡ xs)))
+    ↔ ((count ≤ 1000000) × ((ws : List ℕ) × Below (2 ^ q) ws × (length ws ≡ count) × (packed q ws ≡ xs)))
 good-streams = Rattle.stream_pack.proofs.Streams.good-streams
 
 -- That check by numbers: at most 1,000,000 words, bytes for count × q / 8 rounded up, and the bits that are left 0.
@@ -208,11 +215,11 @@ stream-clear = Rattle.stream.proofs.Calls.stream-clear
 
 -- Overwriting channel bits f to l: only blocks f / q − a to l / q + m can differ from the data written.
 pub bits-reach : (rec : List ℕ) → Below 256 rec → (c : Code) → parse rec ≡ done c → (ds xs : List ℕ) → Blocks c ds
-    → Below 256 xs → let count = length ds + c .window .lookahead in count ≤ limit → (f l : BitNo) → f .0 ≤ l .0
+    → Below 256 xs → let count = length ds + c .window .lookahead in count ≤ 1000000 → (f l : BitNo) → f .0 ≤ l .0
     → l .0 < count * c .q → SameOutside (f .0) (l .0) (bitsOf xs) (bitsOf (packed (c .q) (recording c ds)))
     → (room : ℕ) → length ds ≤ room → (out : List ℕ) × (decodeStream rec count room xs ≡ done out)
-    × ((j : BlockNo) → j .0 < length ds → (j .0 < firstBlock (c .q) (c .window .lookahead) (f .0))
-    ⊎ (lastBlock (c .q) (c .window .memory) (l .0) < j .0) → getD out (j .0) markAhead ≡ getD ds (j .0) 0)
+    × ((j : BlockNo) → j .0 < length ds → (j .0 < f .0 / c .q - c .window .lookahead)
+    ⊎ (l .0 / c .q + c .window .memory < j .0) → getD out (j .0) markAhead ≡ getD ds (j .0) 0)
 bits-reach = Rattle.stream_damage.proofs.BitReach.bits-reach
 
 -- The reach is quoted as blocks f / q − a, 0 if negative, to l / q + m, for bits of 1,000,000 words; 15 past them.
