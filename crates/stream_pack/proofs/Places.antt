@@ -3,7 +3,8 @@
 -- Assumes nothing.
 use Rattle.laws.proofs.All.{_≡_, refl, sym, ap, ap₂, subst, _∙_, List, [], _∷_, _++_, ℕ, zero, suc, _+_, _*_, _-_, _/_}
 use Rattle.laws.proofs.All.{_%_, _^_, _≤_, _<_, arith, decLt, pow-pos, div-eq-of-lt, div-add-mod', div-lt-iff-lt-mul}
-use Rattle.laws.proofs.All.{mod-lt, length, length-append, getD, List·getD-append, getD-append-add, List·getD-eq-default, Below}
+use Rattle.laws.proofs.All.{mod-lt, length, length-append, getD, List·getD-append, getD-append-add}
+use Rattle.laws.proofs.All.{List·getD-eq-default, Below}
 use Rattle.bits.specs.Fields.{bits, write, uniform, bitsOf}
 use Rattle.bits.proofs.Fields.{length-bits, below-read, below-write}
 use Rattle.bits.proofs.Puts.{length-uniform, length-bitsOf}
@@ -50,8 +51,8 @@ bit-of n xs i z h =
 below-packed : (q : ℕ) (ws : List ℕ) → Below 256 (packed q ws)
 unfolding packed
 below-packed q ws =
-    let n = length ws in
-    below-read 8 (streamSize q n) (write (streamWidths q n) (ws ++ 0 ∷ [])) (below-write (streamWidths q n) (ws ++ 0 ∷ []))
+    let W = streamWidths q (length ws) in
+    below-read 8 (streamSize q (length ws)) (write W (ws ++ 0 ∷ [])) (below-write W (ws ++ 0 ∷ []))
 
 -- "a bit stream, eight to the byte, first bit highest, last byte filled with 0"
 pub packed-bits : (q : ℕ) (ws : List ℕ) → 0 < q → let xs = packed q ws in let n = length ws * q in
