@@ -1,11 +1,11 @@
 -- The theorems of what was asked for after the first delivery, each written out in full as on the main page.
 -- In order: (a) joint, joined-pairs, numbered, too-many-pairs, joined-job, both-obeyed; (b) streams, packed-bits,
--- good-streams, stream-numbers, pack-calls, unpack-calls, pack-returns, stream-words, stream-returns, stream-calls, unstream-calls,
--- stream-recognised, stream-clear, bits-reach, reach-quoted, reach-told; (c) labels, labels-rule, labels-hold; (d)
--- decoded-blocks, marks, no-mark-ahead, clear-unmarked; (e) closes, tail-free, tail-place, closes-record; (f)
--- depth-numbers, weave-calls, unweave-calls, weave-spreads, weave-returns, weave-places, weaving, one-word-each,
--- fewer-places, scratch; (g) state-sets, step-bits, back-bits; Verify: verified,
--- verified-place, verified-mark, verified-near, verified-stream.
+-- good-streams, stream-numbers, pack-calls, unpack-calls, pack-returns, stream-words, stream-returns, stream-calls,
+-- unstream-calls, stream-recognised, stream-clear, bits-reach, reach-quoted, reach-told; (c) labels, labels-rule,
+-- labels-hold; (d) decoded-blocks, marks, no-mark-ahead, clear-unmarked; (e) closes, tail-free, tail-place,
+-- closes-record; (f) depth-numbers, weave-calls, unweave-calls, weave-spreads, weave-returns, weave-places, weaving,
+-- one-word-each, fewer-places, scratch; (g) state-sets, step-bits, back-bits; Verify: verified, verified-place,
+-- verified-mark, verified-near, verified-stream.
 -- Assumes nothing.
 use mathlib.Core.Path.{_≡_}
 use mathlib.Core.Logic.{_⊎_, _↔_}
