@@ -5,9 +5,9 @@ use Rattle.laws.proofs.All.{_≡_, sym, ap, _∙_, _↔_, List, [], ℕ, T, Bel
 use Rattle.answer.specs.Outcomes.{done, onward}
 use Rattle.answer.proofs.Outcomes.{onward→}
 use Rattle.table.specs.Rows.{Code}
-use Rattle.table.specs.Formed.{formed}
+use Rattle.table.specs.Formed.{formed, Formed}
 use Rattle.record_check.specs.Accepted.{Accepted}
-use Rattle.table.proofs.Formed.{formed→}
+use Rattle.table.proofs.Formed.{formed→, →formed}
 use Rattle.record_obeys.proofs.Exact.{obeys-exact}
 use Rattle.record_check.proofs.Acceptance.{window-exact}
 use Rattle.record.specs.Layout.{pack}
@@ -32,12 +32,12 @@ parse-canonical xs b c e = parse-good xs b c e .canonical
 
 -- the checker is done exactly when the bytes are the record of an accepted table
 pub check-exact : (xs : List ℕ) → Below 256 xs
-    → (checkedOnly xs ≡ done []) ↔ ((c : Code) × T (formed c) × (pack c ≡ xs) × Accepted c)
+    → (checkedOnly xs ≡ done []) ↔ ((c : Code) × Formed c × (pack c ≡ xs) × Accepted c)
 unfolding checkedOnly
 check-exact xs b = (
   (λ e.
       let (c, p, _) = onward→ (parse xs) (λ c. done []) [] e in
       let (f, k, a) = parse-exact xs b c .0 p in
-      (c, f, k, a)),
-  (λ (c, f, k, a). ap (λ o. onward o (λ c. done [])) (parse-exact xs b c .1 (f, k, a))),
+      (c, formed→ c f, k, a)),
+  (λ (c, f, k, a). ap (λ o. onward o (λ c. done [])) (parse-exact xs b c .1 (→formed c f, k, a))),
 )

@@ -10,8 +10,8 @@ use Rattle.table.specs.Rows.{Code}
 use Rattle.window.specs.Window.{Window}
 use Rattle.window.specs.Works.{works}
 use Rattle.record_obeys.specs.Obeys.{Obeys, Breaks, obeys}
-use Rattle.table.specs.Formed.{formed}
-use Rattle.table.proofs.Formed.{formed→}
+use Rattle.table.specs.Formed.{Formed}
+use Rattle.table.proofs.Formed.{formed→, →formed}
 use Rattle.record_obeys.proofs.Exact.{obeys-exact}
 use Rattle.record_obeys.proofs.Breaks.{breaks-exact}
 use Rattle.record_check.proofs.Acceptance.{window-exact}
@@ -29,44 +29,46 @@ fails false f = refl
 module _ (xs : List ℕ) (bytes : Below 256 xs) where
   -- 9: some recording breaks the constraint
   pub disobeys-exact : (parse xs ≡ refused Disobeys)
-      ↔ ((c : Code) × T (formed c) × (pack c ≡ xs) × Breaks c)
+      ↔ ((c : Code) × Formed c × (pack c ≡ xs) × Breaks c)
   disobeys-exact = ((λ e. there (subst (Reason xs) e (reason xs))), here)
     where
-      there : Reason xs (refused Disobeys) → (c : Code) × T (formed c) × (pack c ≡ xs) × Breaks c
+      there : Reason xs (refused Disobeys) → (c : Code) × Formed c × (pack c ≡ xs) × Breaks c
       there (disobedient s r e) =
           let (f, k) = fields-again xs bytes (s .exact) (s .headed) r in
-          (codeFrom xs, f, k, breaks-exact (codeFrom xs) (formed→ (codeFrom xs) f) .0 e)
+          let g = formed→ (codeFrom xs) f in
+          (codeFrom xs, g, k, breaks-exact (codeFrom xs) g .0 e)
 
-      here : (c : Code) × T (formed c) × (pack c ≡ xs) × Breaks c → parse xs ≡ refused Disobeys
+      here : (c : Code) × Formed c × (pack c ≡ xs) × Breaks c → parse xs ≡ refused Disobeys
       here (c, f, k, n) =
-          ap parse (sym k) ∙ parse-pack c f
+          ap parse (sym k) ∙ parse-pack c (→formed c f)
           ∙ unless-false Disobeys (obeys c) (unless WindowFails (works (c .table) (c .window)) (done c))
-          (breaks-exact c (formed→ c f) .1 n)
+          (breaks-exact c f .1 n)
 
   -- 10: every recording obeys it, and the window fails
   pub window-fails-exact : (parse xs ≡ refused WindowFails)
-      ↔ ((c : Code) × T (formed c) × (pack c ≡ xs) × Obeys c × (Window (c .table) (c .window) → ⊥))
+      ↔ ((c : Code) × Formed c × (pack c ≡ xs) × Obeys c × (Window (c .table) (c .window) → ⊥))
   window-fails-exact = ((λ e. there (subst (Reason xs) e (reason xs))), here)
     where
       there : Reason xs (refused WindowFails)
-          → (c : Code) × T (formed c) × (pack c ≡ xs) × Obeys c × (Window (c .table) (c .window) → ⊥)
+          → (c : Code) × Formed c × (pack c ≡ xs) × Obeys c × (Window (c .table) (c .window) → ⊥)
       there (windowless s r o e) =
           let (f, k) = fields-again xs bytes (s .exact) (s .headed) r in
           let c = codeFrom xs in
-          (c, f, k, obeys-exact c (formed→ c f) .0 o, λ w. subst T e (window-exact c (formed→ c f) .1 w))
+          let g = formed→ c f in
+          (c, g, k, obeys-exact c g .0 o, λ w. subst T e (window-exact c g .1 w))
 
-      here : (c : Code) × T (formed c) × (pack c ≡ xs) × Obeys c × (Window (c .table) (c .window) → ⊥)
+      here : (c : Code) × Formed c × (pack c ≡ xs) × Obeys c × (Window (c .table) (c .window) → ⊥)
           → parse xs ≡ refused WindowFails
       here (c, f, k, o, n) =
           let last = unless WindowFails (works (c .table) (c .window)) (done c) in
-          ap parse (sym k) ∙ parse-pack c f
-          ∙ unless-true Disobeys (obeys c) last (obeys-exact c (formed→ c f) .1 o)
+          ap parse (sym k) ∙ parse-pack c (→formed c f)
+          ∙ unless-true Disobeys (obeys c) last (obeys-exact c f .1 o)
           ∙ unless-false WindowFails (works (c .table) (c .window)) (done c)
-          (fails (works (c .table) (c .window)) (λ t. n (window-exact c (formed→ c f) .0 t)))
+          (fails (works (c .table) (c .window)) (λ t. n (window-exact c f .0 t)))
 
   -- every outcome with its reason, 9 and 10 by their meanings
   pub order : Reason xs (parse xs)
-      × ((parse xs ≡ refused Disobeys) ↔ ((c : Code) × T (formed c) × (pack c ≡ xs) × Breaks c))
+      × ((parse xs ≡ refused Disobeys) ↔ ((c : Code) × Formed c × (pack c ≡ xs) × Breaks c))
       × ((parse xs ≡ refused WindowFails)
-      ↔ ((c : Code) × T (formed c) × (pack c ≡ xs) × Obeys c × (Window (c .table) (c .window) → ⊥)))
+      ↔ ((c : Code) × Formed c × (pack c ≡ xs) × Obeys c × (Window (c .table) (c .window) → ⊥)))
   order = (reason xs, disobeys-exact, window-fails-exact)

@@ -1,6 +1,6 @@
 -- A code with its fields in range, written as a record and parsed again, is judged as it stands; and what bytes that
 -- are accepted hold.
--- In order: parse-pack, parse-pack-good; parse-passed, parse-formed; Checked, parse-good.
+-- In order: parse-pack, pack-judged, parse-pack-good; parse-passed, parse-formed; Checked, parse-good.
 -- Assumes nothing.
 use Rattle.laws.proofs.All.{_≡_, ap, subst, _∙_, List, ℕ, T, Below}
 use Rattle.answer.specs.declared.Refusal.the-variants.{Disobeys, WindowFails}
@@ -9,7 +9,8 @@ use Rattle.answer.proofs.Outcomes.{done-inj, unless-true, unless→, onward→}
 use Rattle.table.specs.Rows.{Code}
 use Rattle.window.specs.Works.{works}
 use Rattle.record_obeys.specs.Obeys.{obeys}
-use Rattle.table.specs.Formed.{formed}
+use Rattle.table.specs.Formed.{formed, Formed}
+use Rattle.table.proofs.Formed.{→formed}
 use Rattle.record.specs.Layout.{pack}
 use Rattle.record.specs.Checks.{fieldsChecked}
 use Rattle.record.proofs.RecordWrite.{fields-pack}
@@ -20,6 +21,9 @@ use Rattle.record_check.specs.Parse.{judged, parse}
 pub parse-pack : (c : Code) → T (formed c) → parse (pack c) ≡ judged c
 unfolding parse
 parse-pack c t = ap (λ o. onward o judged) (fields-pack c t)
+
+pub pack-judged : (c : Code) → Formed c → parse (pack c) ≡ judged c
+pack-judged c f = parse-pack c (→formed c f)
 
 -- so an accepted code comes back
 pub parse-pack-good : (c : Code) → T (formed c) → T (obeys c) → T (works (c .table) (c .window))
