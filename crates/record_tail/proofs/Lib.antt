@@ -1,1 +1,2 @@
 pub mod Closed
+pub mod Calls

@@ -1,8 +1,8 @@
 -- The code's lines of words are the phrases: computed once for the whole table. How long the words are.
--- In order: row; line-is; no-words; words-short.
+-- In order: row; line-is; no-words; words-short; words-none.
 -- Assumes nothing.
-use Rattle.laws.proofs.All.{_≡_, refl, sym, ap, _∙_, Bool, List, [], _∷_, _++_, map, ℕ, suc, _≤_, _<_, arith, decLe}
-use Rattle.laws.proofs.All.{T, leb, leb→le, length, getD, List·getD-eq-default, range, all, all→, map-range-at}
+use Rattle.laws.proofs.All.{_≡_, refl, sym, ap, _∙_, _⊎_, inl, inr, _↔_, Bool, List, [], _∷_, _++_, map, ℕ, zero, suc}
+use Rattle.laws.proofs.All.{_≤_, _<_, arith, decLe, T, leb, leb→le, ltb, ltb→lt, length, getD, drop, List·getD-eq-default, range, all, all→, map-range-at}
 use Rattle.answer.specs.Refusals.{most}
 use Rattle.view_refusals.specs.TextLines.{lineOf}
 use Rattle.view_refusals.specs.Phrases.{phrases, wordsOf}
@@ -53,3 +53,27 @@ short-of n (no h) = let none : [] ≡ wordsOf n = no-words n (omega arith) in rw
 
 pub words-short : (n : ℕ) → length (wordsOf n) ≤ 60
 words-short n = short-of n (decLe n most)
+
+-- ---- which numbers have words
+some : List ℕ → Bool
+some p = ltb 0 (length p)
+
+phrases-some : T (all some (drop 1 phrases))
+unfolding phrases some
+phrases-some = tt
+
+some-of : (m : ℕ) → m < most → 0 < length (wordsOf (suc m))
+unfolding wordsOf phrases some
+some-of m h = ltb→lt 0 (length (wordsOf (suc m))) (all→ some [] (drop 1 phrases) phrases-some m h)
+
+-- THEOREM: none exactly for 0 and for the numbers above the largest refusal's
+pub words-none : (n : ℕ) → (wordsOf n ≡ []) ↔ ((n ≡ 0) ⊎ (most < n))
+unfolding wordsOf phrases
+words-none zero = ((λ e. inl refl), (λ x. refl))
+words-none (suc m) = (
+  (λ e. elim (decLe (suc m) most) [
+    | yes h ↦ absurd (let z = ap length e in omega (arith, some-of m (omega arith)))
+    | no h ↦ inr (omega arith)
+  ]),
+  (λ x. elim x [ inl z ↦ absurd (omega arith) | inr h ↦ sym (no-words (suc m) h) ]),
+)
