@@ -1,32 +1,35 @@
 -- Numbers read digit by digit.
--- In order: worth-grows; number-capped; number-on, number-off, number-end, digit by digit; parsed-none, parsed-some.
+-- In order: worth-grows; number-held; number-on, number-off, number-end, digit by digit; parsed-none, parsed-some.
 -- Assumes nothing.
 use Rattle.laws.proofs.All.{_≡_, refl, sym, ap, _∙_, Bool, true, false, List, [], _∷_, ℕ, _+_, _*_, _≤_, _<_, min}
-use Rattle.laws.proofs.All.{min-eq-left, min-eq-right, add-one, arith, lt-ltb, le-ltb, ltb-true, ltb-false, ltb}
+use Rattle.laws.proofs.All.{min-eq-left, min-eq-right, add-one, arith, lt-ltb, le-ltb, lt-leb, ltb-true, ltb-false, ltb}
 use Rattle.laws.proofs.All.{length, getD, drop, drop-cons, drop-length, if_then_else_, all}
-use Rattle.command_arguments.specs.declared.Parsed.the-variants.{Number, Wrong}
-use Rattle.command_arguments.specs.Parsing.{greatest, digitOf, isDigit, worth, numberIn, parsed}
+use Rattle.command_arguments.specs.declared.Parsed.the-variants.{Number, Above, Wrong}
+use Rattle.command_arguments.specs.Parsing.{greatest, digitOf, isDigit, worth, upToGreatest, numberIn, parsed}
 
 pub worth-grows : (n : ℕ) (cs : List ℕ) → n ≤ worth n cs
 unfolding worth
 worth-grows n [] = omega arith
 worth-grows n (c ∷ cs) = let g = worth-grows (n * 10 + digitOf c) cs in omega arith
 
--- a number above the greatest counts as the greatest
-pub number-capped : (n : ℕ) (cs : List ℕ) → numberIn n cs ≡ numberIn (min n greatest) cs
+-- a number above the greatest counts as the least above it
+pub number-held : (n : ℕ) (cs : List ℕ) → numberIn n cs ≡ numberIn (min n (greatest + 1)) cs
 unfolding numberIn
-number-capped n cs = go (ltb n greatest) refl
+number-held n cs = go (ltb n (greatest + 1)) refl
   where
-    go : (b : Bool) → ltb n greatest ≡ b → numberIn n cs ≡ numberIn (min n greatest) cs
+    go : (b : Bool) → ltb n (greatest + 1) ≡ b → numberIn n cs ≡ numberIn (min n (greatest + 1)) cs
     go true e =
-        let l = ltb-true n greatest e in
+        let l = ltb-true n (greatest + 1) e in
         ap (λ k. numberIn k cs) (sym (min-eq-left (omega arith)))
     go false e =
-        let g = ltb-false n greatest e in
+        let g = ltb-false n (greatest + 1) e in
         let h = worth-grows n cs in
-        let a : min (worth n cs) greatest ≡ greatest = min-eq-right (omega arith) in
-        let b : min (worth greatest cs) greatest ≡ greatest = min-eq-right (worth-grows greatest cs) in
-        ap (λ k. if all isDigit cs then Number k else Wrong) (a ∙ sym b)
+        let k = worth-grows (greatest + 1) cs in
+        let a : greatest < worth n cs = omega arith in
+        let b : greatest < worth (greatest + 1) cs = omega arith in
+        ap (λ x. if all isDigit cs then (if x then Number (worth n cs) else Above) else Wrong) (lt-leb _ _ a)
+        ∙ sym (ap (λ x. if all isDigit cs then (if x then Number (worth (greatest + 1) cs) else Above) else Wrong)
+        (lt-leb _ _ b))
         ∙ ap (λ k. numberIn k cs) (sym (min-eq-right g))
 
 module _ (text : List ℕ) (n i : ℕ) where
@@ -43,10 +46,9 @@ module _ (text : List ℕ) (n i : ℕ) where
       let t : 10 ≤ digitOf (getD text i 0) = omega arith in
       rw (drop-cons text i 0) (rw (le-ltb _ _ t) refl)
 
-  pub number-end : i ≡ length text → n ≤ greatest → numberIn n (drop i text) ≡ Number n
+  pub number-end : i ≡ length text → numberIn n (drop i text) ≡ upToGreatest n
   unfolding numberIn worth
-  number-end e h =
-      ap (numberIn n) (ap (λ k. drop k text) e ∙ drop-length text) ∙ ap Number (min-eq-left h)
+  number-end e = ap (numberIn n) (ap (λ k. drop k text) e ∙ drop-length text)
 
 pub parsed-none : (text : List ℕ) → length text ≡ 0 → parsed text ≡ Wrong
 unfolding parsed

@@ -1,4 +1,5 @@
--- What each action takes: how many arguments, and which of them it reads and writes; and the number of a status.
+-- What each action takes: how many arguments, and which of them are numbers, are read and are written; and the number
+-- of a status.
 -- In order: shaped, streamShape, shapeOf, fits; statusOf.
 -- Assumes nothing.
 use mathlib.Core.Bool.{Bool, _&&_}
@@ -15,34 +16,35 @@ use Rattle.command_arguments.specs.declared.OnStream.the-variants.{Pack,
 use Rattle.command_arguments.specs.declared.Status.{Status}
 use Rattle.command_arguments.specs.declared.Status.the-variants.{Done, Failed, Misused}
 
--- the fewest and the most arguments, and the places of the record, of the file read and of the file written
-abbrev pub shaped : ℕ → ℕ → ℕ → ℕ → ℕ → Shape
-shaped fewest most under read written =
-    record { fewest = fewest; most = most; under = under; read = read; written = written }
+-- the fewest and the most arguments, and the places of the first number, of the record, of the file read and of the
+-- file written
+abbrev pub shaped : ℕ → ℕ → ℕ → ℕ → ℕ → ℕ → Shape
+shaped fewest most number under read written =
+    record { fewest = fewest; most = most; number = number; under = under; read = read; written = written }
 
 -- what an action on bit streams takes
 abbrev pub streamShape : OnStream → Shape
-streamShape Pack = shaped 5 5 0 3 4
-streamShape Unpack = shaped 6 6 0 4 5
-streamShape Encode = shaped 5 5 2 3 4
-streamShape Decode = shaped 6 6 2 4 5
-streamShape Reach = shaped 5 5 2 0 0
+streamShape Pack = shaped 5 5 2 0 3 4
+streamShape Unpack = shaped 6 6 2 0 4 5
+streamShape Encode = shaped 5 5 0 2 3 4
+streamShape Decode = shaped 6 6 3 2 4 5
+streamShape Reach = shaped 5 5 3 2 0 0
 
 -- what an action takes; argument 0 is the program's name, argument 1 the action's
 abbrev pub shapeOf : Action → Shape
-shapeOf Compile = shaped 7 8 0 0 7
-shapeOf CompileJob = shaped 3 4 0 2 3
-shapeOf CompileJoined = shaped 3 4 0 2 3
-shapeOf Trace = shaped 7 7 0 0 0
-shapeOf Collection = shaped 3 3 0 2 0
-shapeOf Help = shaped 2 3 0 0 0
-shapeOf Version = shaped 2 2 0 0 0
-shapeOf (Viewing v) = shaped 3 3 2 0 0
-shapeOf WithTail = shaped 5 5 2 0 4
-shapeOf (Coding w) = shaped 5 5 2 3 4
+shapeOf Compile = shaped 7 8 2 0 0 7
+shapeOf CompileJob = shaped 3 4 0 0 2 3
+shapeOf CompileJoined = shaped 3 4 0 0 2 3
+shapeOf Trace = shaped 7 7 2 0 0 0
+shapeOf Collection = shaped 3 3 0 0 2 0
+shapeOf Help = shaped 2 3 0 0 0 0
+shapeOf Version = shaped 2 2 0 0 0 0
+shapeOf (Viewing v) = shaped 3 3 0 2 0 0
+shapeOf WithTail = shaped 5 5 3 2 0 4
+shapeOf (Coding w) = shaped 5 5 0 2 3 4
 shapeOf (Stream s) = streamShape s
-shapeOf (Recordings r) = shaped 5 5 0 3 4
-shapeOf Unknown = shaped 0 0 0 0 0
+shapeOf (Recordings r) = shaped 5 5 2 0 3 4
+shapeOf Unknown = shaped 0 0 0 0 0 0
 
 -- a count of arguments is from the fewest to the most
 abbrev pub fits : ℕ → ℕ → ℕ → Bool

@@ -53,12 +53,14 @@ pub enum Action {
     Unknown,
 }
 
-// What an action takes: the fewest and the most arguments, the program's name among them; the argument that names the
-// record it works under, the one that names the file it reads, and the one that names the file it writes. 0 is none;
-// without a file to write, or where that argument is left out, standard output is written.
+// What an action takes: the fewest and the most arguments, the program's name among them; the argument that is its
+// first number, the others follow it; the argument that names the record it works under, the one that names the file it
+// reads, and the one that names the file it writes. 0 is none; without a file to write, or where that argument is left
+// out, standard output is written.
 pub struct Shape {
     pub fewest: usize,
     pub most: usize,
+    pub number: usize,
     pub under: usize,
     pub read: usize,
     pub written: usize,
@@ -77,16 +79,26 @@ pub enum Status {
 // What an argument says that is to be a number.
 pub enum Parsed {
     Number(usize),
+    // It is above the greatest number that is read.
+    Above,
     Wrong,
 }
 
 // A shape of these numbers.
-fn with_places(fewest: usize, most: usize, under: usize, read: usize, written: usize) -> Shape
-    ensures answer { λ r. ⌜ r ≡ shaped fewest most under read written ⌝ }
+fn with_places(
+    fewest: usize,
+    most: usize,
+    number: usize,
+    under: usize,
+    read: usize,
+    written: usize,
+) -> Shape
+    ensures answer { λ r. ⌜ r ≡ shaped fewest most number under read written ⌝ }
 {
     Shape {
         fewest,
         most,
+        number,
         under,
         read,
         written,
@@ -98,11 +110,11 @@ fn stream_shape(s: OnStream) -> Shape
     ensures answer { λ r. ⌜ r ≡ streamShape s ⌝ }
 {
     match s {
-        OnStream::Pack => with_places(5, 5, 0, 3, 4),
-        OnStream::Unpack => with_places(6, 6, 0, 4, 5),
-        OnStream::Encode => with_places(5, 5, 2, 3, 4),
-        OnStream::Decode => with_places(6, 6, 2, 4, 5),
-        OnStream::Reach => with_places(5, 5, 2, 0, 0),
+        OnStream::Pack => with_places(5, 5, 2, 0, 3, 4),
+        OnStream::Unpack => with_places(6, 6, 2, 0, 4, 5),
+        OnStream::Encode => with_places(5, 5, 0, 2, 3, 4),
+        OnStream::Decode => with_places(6, 6, 3, 2, 4, 5),
+        OnStream::Reach => with_places(5, 5, 3, 2, 0, 0),
     }
 }
 
@@ -111,19 +123,19 @@ pub fn shape_of(a: Action) -> Shape
     ensures answer { λ r. ⌜ r ≡ shapeOf a ⌝ }
 {
     match a {
-        Action::Compile => with_places(7, 8, 0, 0, 7),
-        Action::CompileJob => with_places(3, 4, 0, 2, 3),
-        Action::CompileJoined => with_places(3, 4, 0, 2, 3),
-        Action::Trace => with_places(7, 7, 0, 0, 0),
-        Action::Collection => with_places(3, 3, 0, 2, 0),
-        Action::Help => with_places(2, 3, 0, 0, 0),
-        Action::Version => with_places(2, 2, 0, 0, 0),
-        Action::Viewing(_) => with_places(3, 3, 2, 0, 0),
-        Action::WithTail => with_places(5, 5, 2, 0, 4),
-        Action::Coding(_) => with_places(5, 5, 2, 3, 4),
+        Action::Compile => with_places(7, 8, 2, 0, 0, 7),
+        Action::CompileJob => with_places(3, 4, 0, 0, 2, 3),
+        Action::CompileJoined => with_places(3, 4, 0, 0, 2, 3),
+        Action::Trace => with_places(7, 7, 2, 0, 0, 0),
+        Action::Collection => with_places(3, 3, 0, 0, 2, 0),
+        Action::Help => with_places(2, 3, 0, 0, 0, 0),
+        Action::Version => with_places(2, 2, 0, 0, 0, 0),
+        Action::Viewing(_) => with_places(3, 3, 0, 2, 0, 0),
+        Action::WithTail => with_places(5, 5, 3, 2, 0, 4),
+        Action::Coding(_) => with_places(5, 5, 0, 2, 3, 4),
         Action::Stream(s) => stream_shape(s),
-        Action::Recordings(_) => with_places(5, 5, 0, 3, 4),
-        Action::Unknown => with_places(0, 0, 0, 0, 0),
+        Action::Recordings(_) => with_places(5, 5, 2, 0, 3, 4),
+        Action::Unknown => with_places(0, 0, 0, 0, 0, 0),
     }
 }
 

@@ -1,11 +1,11 @@
 // Numbers as arguments say them.
 ghost use mathlib.Core.Path.{_≡_};
-ghost use Prim.Native.Nat.{_≤_, min};
+ghost use Prim.Native.Nat.{_+_, _≤_, min};
 ghost use Rattle.command_arguments.specs.Parsing.{greatest, digitOf, parsed};
 use crate::Parsed;
 
 // The greatest number that is read: above every field, count and bit number that is taken.
-const GREATEST: usize = 9999999;
+pub const GREATEST: usize = 9999999;
 
 // The value of a digit, 10 for any other byte.
 fn digit(c: u8) -> usize
@@ -21,18 +21,18 @@ fn digit(c: u8) -> usize
     10
 }
 
-// A number, 9,999,999 for a greater one.
-fn capped(n: usize) -> usize
-    ensures answer { λ r. ⌜ r ≡ min n greatest ⌝ }
-    ensures past { λ r. ⌜ r ≤ greatest ⌝ }
+// A number, 10,000,000 for a greater one, which is above the greatest that is read too.
+fn held(n: usize) -> usize
+    ensures answer { λ r. ⌜ r ≡ min n (greatest + 1) ⌝ }
+    ensures past { λ r. ⌜ r ≤ greatest + 1 ⌝ }
 {
-    if n < GREATEST {
+    if n < GREATEST + 1 {
         return n;
     }
-    GREATEST
+    GREATEST + 1
 }
 
-// The number that a text says, 9,999,999 for a greater one.
+// The number that a text says, unless it is above 9,999,999.
 pub fn parse(text: &[u8]) -> Parsed
     ensures answer { λ r. ⌜ r ≡ parsed (now (text .entry)) ⌝ }
 {
@@ -46,8 +46,11 @@ pub fn parse(text: &[u8]) -> Parsed
         if 9 < d {
             return Parsed::Wrong;
         }
-        n = capped(n * 10 + d);
+        n = held(n * 10 + d);
         i += 1;
+    }
+    if GREATEST < n {
+        return Parsed::Above;
     }
     Parsed::Number(n)
 }
