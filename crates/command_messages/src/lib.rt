@@ -1,6 +1,8 @@
 // What the command says on standard error, and how a run ends that says it.
 ghost use mathlib.Core.Path.{_≡_};
+ghost use Prim.Native.Nat.{_≤_};
 ghost use Rattle.text.specs.Texts.{Added};
+ghost use Rattle.command_arguments.specs.Shapes.{statusOf};
 ghost use Rattle.command_messages.specs.Sayings.{saying, setSaying};
 ghost use Rattle.command_arguments.specs.declared.Status.the-variants.{Failed};
 
@@ -29,6 +31,16 @@ fn put_set_refusal(out: &mut [u8], i: usize, r: Refusal) -> usize
     let refused = put(out, 0, b"sbc: ");
     let number = view_refusals::put_refusal(out, refused, r);
     put_sentence(out, number, b", at record #\n", &[i])
+}
+
+// Writes a text; the run fails where not all of it was written.
+fn tell_text(file: i32, text: &[u8]) -> Status
+    ensures past { λ s. ⌜ statusOf s ≤ 1 ⌝ }
+{
+    if io::write_all(file, text) {
+        return Status::Done;
+    }
+    Status::Failed
 }
 
 // Says a line; the run fails.

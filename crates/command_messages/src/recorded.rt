@@ -1,12 +1,18 @@
-// How the actions on recordings and on bit streams are used; each answer is whether all was written.
+// How the actions on recordings and on bit streams are used; a run fails where not all of it was written.
+ghost use Prim.Native.Nat.{_≤_};
+ghost use Rattle.command_arguments.specs.Shapes.{statusOf};
+use crate::tell_text;
 use command_arguments::OnRecordings;
 use command_arguments::OnStream;
+use command_arguments::Status;
 use command_arguments::Way;
 
 // The actions that encode and decode.
-pub fn tell_coding(file: i32, w: Way) -> bool {
+pub fn tell_coding(file: i32, w: Way) -> Status
+    ensures past { λ s. ⌜ statusOf s ≤ 1 ⌝ }
+{
     match w {
-        Way::Encode => io::write_all(
+        Way::Encode => tell_text(
             file,
             b"usage: sbc encode RECORD DATA OUT
 Encodes the blocks in DATA, one byte each and below 2^p, under the record in RECORD, and writes the words to OUT, one
@@ -14,7 +20,7 @@ byte each. N blocks give N + a words: the recording closes with a blocks of the 
 blocks. Only one of RECORD and DATA can be -.
 ",
         ),
-        Way::Decode => io::write_all(
+        Way::Decode => tell_text(
             file,
             b"usage: sbc decode RECORD WORDS OUT
 Decodes the words in WORDS, one byte each and below 2^q, under the record in RECORD, and writes the blocks to OUT, one
@@ -27,16 +33,18 @@ error. At most 1,000,015 words. Only one of RECORD and WORDS can be -.
 }
 
 // The actions that encode to a bit stream and decode from one.
-fn tell_stream_coding(file: i32, w: Way) -> bool {
+fn tell_stream_coding(file: i32, w: Way) -> Status
+    ensures past { λ s. ⌜ statusOf s ≤ 1 ⌝ }
+{
     match w {
-        Way::Encode => io::write_all(
+        Way::Encode => tell_text(
             file,
             b"usage: sbc encode-stream RECORD DATA OUT
 Encodes the blocks in DATA, one byte each and below 2^p, under the record in RECORD, and writes the words to OUT as a
 bit stream, as pack does. N blocks give N + a words. At most 1,000,000 words. Only one of RECORD and DATA can be -.
 ",
         ),
-        Way::Decode => io::write_all(
+        Way::Decode => tell_text(
             file,
             b"usage: sbc decode-stream RECORD COUNT STREAM OUT
 Decodes the COUNT words of the bit stream in STREAM under the record in RECORD, and writes the blocks to OUT, one byte
@@ -49,16 +57,18 @@ cannot be read is a mark, 254 or 255, as for decode; how many there are of each 
 }
 
 // The actions on bit streams.
-pub fn tell_stream(file: i32, s: OnStream) -> bool {
-    match s {
-        OnStream::Pack => io::write_all(
+pub fn tell_stream(file: i32, how: OnStream) -> Status
+    ensures past { λ s. ⌜ statusOf s ≤ 1 ⌝ }
+{
+    match how {
+        OnStream::Pack => tell_text(
             file,
             b"usage: sbc pack q WORDS OUT
 Packs the words in WORDS, one byte each and below 2^q, into a bit stream: q bits a word, eight bits a byte, first bit
 highest, the last byte filled with 0. q: 1 to 8. At most 1,000,000 words.
 ",
         ),
-        OnStream::Unpack => io::write_all(
+        OnStream::Unpack => tell_text(
             file,
             b"usage: sbc unpack q COUNT STREAM OUT
 Unpacks the bit stream in STREAM into COUNT words of q bits, and writes them to OUT, one byte each. The length of STREAM
@@ -67,20 +77,23 @@ must be COUNT x q / 8 bytes, rounded up, with 0 in the bits behind the last word
         ),
         OnStream::Encode => tell_stream_coding(file, Way::Encode),
         OnStream::Decode => tell_stream_coding(file, Way::Decode),
-        OnStream::Reach => io::write_all(
+        OnStream::Reach => tell_text(
             file,
             b"usage: sbc reach RECORD FIRST LAST
 Prints the blocks that can differ from the data written when channel bits FIRST to LAST of a stream are overwritten:
-FIRST / q - a to LAST / q + m. Bits and blocks are counted from 0. Lost or added bits are outside this.
+FIRST / q - a to LAST / q + m. FIRST is at most LAST. Bits and blocks are counted from 0. Lost or added bits are
+outside this.
 ",
         ),
     }
 }
 
 // The actions that weave and unweave.
-pub fn tell_recordings(file: i32, r: OnRecordings) -> bool {
+pub fn tell_recordings(file: i32, r: OnRecordings) -> Status
+    ensures past { λ s. ⌜ statusOf s ≤ 1 ⌝ }
+{
     match r {
-        OnRecordings::Weave => io::write_all(
+        OnRecordings::Weave => tell_text(
             file,
             b"usage: sbc weave D IN OUT
 Weaves the D recordings in IN, which stand one after the other and have equally many words, one byte each: word j of
@@ -89,7 +102,7 @@ words. At most 1,000,015 words in all. Overwriting up to D neighbouring words of
 one word of each recording, so at most m + a + 1 blocks of each. Lost or added words are outside this.
 ",
         ),
-        OnRecordings::Unweave => io::write_all(
+        OnRecordings::Unweave => tell_text(
             file,
             b"usage: sbc unweave D IN OUT
 Takes the D recordings that are woven in IN apart again, and writes them to OUT one after the other, one byte a word: it

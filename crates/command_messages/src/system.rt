@@ -25,5 +25,6 @@ pub fn print(bytes: &[u8]) -> Status
     if io::write_all(STDOUT_FILENO, bytes) {
         return Status::Done;
     }
-    complain(b"standard output")
+    complain(b"standard output");
+    Status::Failed
 }

@@ -9,15 +9,19 @@ use crate::recorded::tell_stream;
 use crate::say;
 use crate::system::complain;
 use crate::system::print;
+use crate::tell_text;
 use command_arguments::Action;
 use command_arguments::Status;
 use command_arguments::View;
 use libc::STDERR_FILENO;
 use libc::STDOUT_FILENO;
+use sentences::put_sentence;
 
 // All actions.
-fn tell_all(file: i32) -> bool {
-    io::write_all(
+fn tell_all(file: i32) -> Status
+    ensures past { λ s. ⌜ statusOf s ≤ 1 ⌝ }
+{
+    tell_text(
         file,
         b"usage: sbc ACTION [ARGUMENT]...
   compile d k p q cap [OUT]              compile a run-length job to a record
@@ -46,16 +50,18 @@ A file named - is standard input or standard output.
 }
 
 // The actions that compile bytes and trace compiling.
-fn tell_compiling(file: i32, a: Action) -> bool {
+fn tell_compiling(file: i32, a: Action) -> Status
+    ensures past { λ s. ⌜ statusOf s ≤ 1 ⌝ }
+{
     match a {
-        Action::CompileJob => io::write_all(
+        Action::CompileJob => tell_text(
             file,
             b"usage: sbc compile-job FILE [OUT]
 Compiles the job in FILE to a code, and writes its record to OUT, or to standard output. A job is the bytes p, q, cap,
 K, then for each of K states the next states for channel bits 0 and 1, with 255 for none.
 ",
         ),
-        Action::CompileJoined => io::write_all(
+        Action::CompileJoined => tell_text(
             file,
             b"usage: sbc compile-joined FILE [OUT]
 Compiles the job in FILE to a code that obeys two constraints at once, and writes its record to OUT, or to standard
@@ -63,13 +69,13 @@ output. The job is the bytes p, q, cap, then each constraint: K, and for each of
 channel bits 0 and 1, with 255 for none. A bit is allowed when both constraints allow it; both start in state 0.
 ",
         ),
-        Action::Trace => io::write_all(
+        Action::Trace => tell_text(
             file,
             b"usage: sbc trace d k p q cap
 Prints how the run-length job is compiled, step by step. The last line of a job that is refused is its refusal.
 ",
         ),
-        _ => io::write_all(
+        _ => tell_text(
             file,
             b"usage: sbc compile d k p q cap [OUT]
 Compiles the run-length constraint (d, k) to a code of p data bits to q channel bits, with weights up to cap, and
@@ -80,21 +86,23 @@ writes its record to OUT, or to standard output. d and k: 0 to 15, d at most k; 
 }
 
 // The actions on a record.
-fn tell_record(file: i32, v: View) -> bool {
+fn tell_record(file: i32, v: View) -> Status
+    ensures past { λ s. ⌜ statusOf s ≤ 1 ⌝ }
+{
     match v {
-        View::Check => io::write_all(
+        View::Check => tell_text(
             file,
             b"usage: sbc check FILE
 Says whether the record in FILE is accepted.
 ",
         ),
-        View::Show => io::write_all(
+        View::Show => tell_text(
             file,
             b"usage: sbc show FILE
 Prints the code of the record in FILE: its rate, its window, its constraint, its tail datum and its table.
 ",
         ),
-        View::Draw => io::write_all(
+        View::Draw => tell_text(
             file,
             b"usage: sbc draw FILE
 Prints the states and edges of the record in FILE as a Graphviz digraph, or as an SVG matrix of states by words
@@ -104,15 +112,17 @@ if there are more than 24 states.
     }
 }
 
-// An action; the answer is whether all was written.
-fn tell(file: i32, a: Action) -> bool {
+// An action.
+fn tell(file: i32, a: Action) -> Status
+    ensures past { λ s. ⌜ statusOf s ≤ 1 ⌝ }
+{
     match a {
         Action::Compile => tell_compiling(file, a),
         Action::CompileJob => tell_compiling(file, a),
         Action::CompileJoined => tell_compiling(file, a),
         Action::Trace => tell_compiling(file, a),
         Action::Viewing(v) => tell_record(file, v),
-        Action::WithTail => io::write_all(
+        Action::WithTail => tell_text(
             file,
             b"usage: sbc with-tail RECORD DATUM OUT
 Writes the record in RECORD with another tail datum to OUT. DATUM is a number below 2^p. Nothing else of the record
@@ -122,7 +132,7 @@ changes. Recordings under OUT close with DATUM; a record that compile writes clo
         Action::Coding(w) => tell_coding(file, w),
         Action::Stream(s) => tell_stream(file, s),
         Action::Recordings(r) => tell_recordings(file, r),
-        Action::Collection => io::write_all(
+        Action::Collection => tell_text(
             file,
             b"usage: sbc set FILE
 Lists the records of the set in FILE: the number of each, its first byte, its length, p, q, states, m and a. A set is
@@ -151,14 +161,26 @@ pub fn misused_word(a: Action, word: &[u8], what: &[u8]) -> Status
     misused(a)
 }
 
+// Says that a number is above the most that is taken, and how an action is used.
+pub fn misused_above(a: Action, word: &[u8], most: usize) -> Status
+    ensures answer { λ s. ⌜ s ≡ Misused ⌝ }
+{
+    let mut what = [0u8; 64];
+    let n = put_sentence(&mut what, 0, b": above #", &[most]);
+    misused_word(a, word, &what[..n])
+}
+
 // Prints how an action is used.
 pub fn print_use(a: Action) -> Status
     ensures past { λ s. ⌜ statusOf s ≤ 1 ⌝ }
 {
-    if tell(STDOUT_FILENO, a) {
-        return Status::Done;
+    match tell(STDOUT_FILENO, a) {
+        Status::Done => Status::Done,
+        _ => {
+            complain(b"standard output");
+            Status::Failed
+        }
     }
-    complain(b"standard output")
 }
 
 // Prints the version.
