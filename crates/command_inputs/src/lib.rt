@@ -1,44 +1,48 @@
 // What the arguments say: numbers, and files and standard input read into lent bytes. A file named - is standard input.
+// Each answer says which argument it was read from.
 ghost use mathlib.Core.Path.{_≡_};
-ghost use Prim.Native.Nat.{min};
+ghost use mathlib.Core.Bool.{true, false};
+ghost use Prim.Native.Nat.{_≤_, _<_};
 ghost use lib.ListN.{length};
 ghost use Rattle.io.specs.Counts.{Counts};
 ghost use Rattle.files.specs.Files.{Fits};
+ghost use Rattle.command_arguments.specs.Parsing.{parsed};
+ghost use Rattle.command_arguments.specs.Shapes.{shapeOf};
+ghost use Rattle.command_inputs.specs.Inputs.{numberOf, inputOf};
 use command_arguments::Action;
 use command_arguments::Parsed;
 use command_arguments::numbers::parse;
+use command_arguments::read_place;
+use command_arguments::under_place;
 use command_messages::say_too_long;
 use command_messages::system::complain;
+use command_messages::usage::misused_above;
 use command_messages::usage::misused_word;
 use files::Loaded;
 use libc::STDIN_FILENO;
 use text::is_same;
 
-// What reading a file comes to: whether it went well, whether the file has more bytes than were lent, and how many of
-// the lent bytes it filled.
+// What reading a file comes to: whether it went well, whether the file has more bytes than were lent, how many of the
+// lent bytes it filled, and the argument that names it.
 pub struct Input {
     pub good: bool,
     pub more: bool,
     pub size: usize,
+    pub at: usize,
 }
 
-// Nothing was read.
-const NOTHING: Input = Input {
-    good: false,
-    more: false,
-    size: 0,
-};
-
-// A number, if the argument is one.
+// A number, if the argument is one that is taken, and which argument it is.
 pub struct Number {
     pub good: bool,
     pub value: usize,
+    pub at: usize,
 }
 
-// Five numbers, if all five arguments are numbers.
+// Five numbers, if all five arguments are numbers that a byte holds, and the first of these arguments.
 pub struct Numbers {
     pub good: bool,
     pub job: [u8; 5],
+    pub at: usize,
 }
 
 // 1,000,015 zeros: room for the words of 1,000,000 blocks.
@@ -55,45 +59,79 @@ pub fn page() -> [u8; 300000]
     [0; 300000]
 }
 
-// The number that argument i says. It says what is no number.
-pub fn number_at(a: Action, i: usize) -> Number {
-    let mut word = io::buffer();
-    let n = os::arg(i, &mut word);
-    match parse(&word[..n]) {
+// The number that the word of argument i says, up to `most`. It says what is no number, and what is above.
+fn number_in(a: Action, i: usize, word: &[u8], most: usize) -> Number
+    ensures answer { λ r. ⌜ r ≡ numberOf i most (parsed (now (word .entry))) ⌝ }
+    ensures past { λ r. ⌜ (r .at ≡ i) × (r .value ≤ most) ⌝ }
+{
+    match parse(word) {
         Parsed::Wrong => {
-            misused_word(a, &word[..n], b": not a number");
+            misused_word(a, word, b": not a number");
             Number {
                 good: false,
                 value: 0,
+                at: i,
             }
         }
-        Parsed::Number(value) => Number { good: true, value },
+        Parsed::Above => {
+            misused_above(a, word, most);
+            Number {
+                good: false,
+                value: 0,
+                at: i,
+            }
+        }
+        Parsed::Number(value) => {
+            if most < value {
+                misused_above(a, word, most);
+                return Number {
+                    good: false,
+                    value: 0,
+                    at: i,
+                };
+            }
+            Number {
+                good: true,
+                value,
+                at: i,
+            }
+        }
     }
 }
 
-// A number as a byte, 255 for a greater one, which no field of a job takes.
-fn byte_of(n: usize) -> u8
-    ensures answer { λ r. ⌜ r ≡ min n 255 ⌝ }
+// The number that argument i says, up to `most`. It says what is no number, and what is above.
+pub fn number_at(a: Action, i: usize, most: usize) -> Number
+    ensures answer { λ r. ⌜ r .at ≡ i ⌝ }
+    ensures past { λ r. ⌜ r .value ≤ most ⌝ }
 {
-    if n < 255 {
-        return n as u8;
-    }
-    255
+    let mut word = io::buffer();
+    let n = os::arg(i, &mut word);
+    number_in(a, i, &word[..n], most)
 }
 
-// The numbers that arguments 2 to 6 say. It says what is no number.
-pub fn numbers_said(a: Action) -> Numbers {
+// The numbers that arguments 2 to 6 say, up to 255. It says what is no number, and what is above.
+pub fn numbers_said(a: Action) -> Numbers
+    ensures answer { λ r. ⌜ (r .at ≡ 2) × (5 ≡ length (r .job)) ⌝ }
+{
     let mut job = [0u8; 5];
     let mut i = 0;
     while i < 5 {
-        let n = number_at(a, 2 + i);
+        let n = number_at(a, 2 + i, 255);
         if !n.good {
-            return Numbers { good: false, job };
+            return Numbers {
+                good: false,
+                job,
+                at: 2,
+            };
         }
-        job[i] = byte_of(n.value);
+        job[i] = n.value as u8;
         i += 1;
     }
-    Numbers { good: true, job }
+    Numbers {
+        good: true,
+        job,
+        at: 2,
+    }
 }
 
 // Whether argument i is -.
@@ -103,15 +141,52 @@ fn is_dash(i: usize) -> bool {
     is_same(&name[..n], b"-")
 }
 
-// Whether arguments i and j both name standard input, which can be read only once.
-pub fn is_twice(i: usize, j: usize) -> bool {
+// Whether the record of an action and the file it reads both are standard input, which can be read only once.
+pub fn is_twice(a: Action) -> bool
+    ensures answer { λ r. ⌜ (r ≡ true → (0 < shapeOf a .under) × (0 < shapeOf a .read)) ⌝ }
+{
+    let i = under_place(a);
+    let j = read_place(a);
+    if i == 0 {
+        return false;
+    }
+    if j == 0 {
+        return false;
+    }
     if is_dash(i) {
         return is_dash(j);
     }
     false
 }
 
-// Reads the file of this name.
+// What was read of the file that argument i names, with so much room.
+fn input_of(i: usize, room: usize, l: Loaded) -> Input
+    ensures answer { λ r. ⌜ r ≡ inputOf i room l ⌝ }
+    ensures past { λ r. ⌜ r .at ≡ i ⌝ }
+{
+    match l {
+        Loaded::Whole(n) => Input {
+            good: true,
+            more: false,
+            size: n,
+            at: i,
+        },
+        Loaded::TooLong => Input {
+            good: true,
+            more: true,
+            size: room,
+            at: i,
+        },
+        Loaded::Unreadable => Input {
+            good: false,
+            more: false,
+            size: 0,
+            at: i,
+        },
+    }
+}
+
+// Reads the file of this name. It says what goes wrong.
 fn load_from(name: &[u8], out: &mut [u8]) -> Loaded
     ensures past { λ r. ⌜ Fits r (now (out .exit)) ⌝ }
 {
@@ -121,61 +196,68 @@ fn load_from(name: &[u8], out: &mut [u8]) -> Loaded
     files::load(name, out)
 }
 
-// Reads the file of this name. It says what goes wrong.
-fn load_named(name: &[u8], out: &mut [u8]) -> Input
+// Reads the file of this name, which is argument i. It says what goes wrong.
+fn load_named(i: usize, name: &[u8], out: &mut [u8]) -> Input
+    ensures answer { λ r. ⌜ r .at ≡ i ⌝ }
     ensures past { λ r. ⌜ Counts (r .size) (now (out .exit)) ⌝ }
 {
-    match load_from(name, out) {
-        Loaded::Whole(n) => Input {
-            good: true,
-            more: false,
-            size: n,
-        },
-        Loaded::TooLong => Input {
-            good: true,
-            more: true,
-            size: out.len(),
-        },
-        Loaded::Unreadable => {
-            complain(name);
-            NOTHING
-        }
+    let l = load_from(name, out);
+    let r = input_of(i, out.len(), l);
+    if !r.good {
+        complain(name);
     }
+    r
 }
 
 // Reads the file that argument i names. It says what goes wrong.
 pub fn load(i: usize, out: &mut [u8]) -> Input
+    ensures answer { λ r. ⌜ r .at ≡ i ⌝ }
     ensures past { λ r. ⌜ Counts (r .size) (now (out .exit)) ⌝ }
 {
     let mut name = io::buffer();
     let n = os::arg(i, &mut name);
     if os::errno() != 0 {
         complain(b"argument");
-        return NOTHING;
+        return Input {
+            good: false,
+            more: false,
+            size: 0,
+            at: i,
+        };
     }
-    load_named(&name[..n], out)
+    load_named(i, &name[..n], out)
 }
 
 // Says that the file that argument i names has too many bytes.
-fn too_long(i: usize, most: usize) -> Input
-    ensures answer { λ r. ⌜ r .size ≡ 0 ⌝ }
-{
+fn tell_too_long(i: usize, most: usize) {
     let mut name = io::buffer();
     let n = os::arg(i, &mut name);
     say_too_long(&name[..n], most);
-    NOTHING
 }
 
 // As load, and a file of more bytes than `most` is too long.
 pub fn load_whole(i: usize, out: &mut [u8], most: usize) -> Input
-    ensures past { λ r. ⌜ Counts (r .size) (now (out .exit)) ⌝ }
+    ensures answer { λ r. ⌜ r .at ≡ i ⌝ }
+    ensures past { λ r. ⌜ Counts (r .size) (now (out .exit)) × (r .more ≡ false) × (r .size ≤ most) ⌝ }
 {
     let r = load(i, out);
     if r.more {
-        return too_long(i, most);
+        tell_too_long(i, most);
+        return Input {
+            good: false,
+            more: false,
+            size: 0,
+            at: i,
+        };
     }
     if most < r.size {
-        return too_long(i, most);
+        tell_too_long(i, most);
+        return Input {
+            good: false,
+            more: false,
+            size: 0,
+            at: i,
+        };
     }
     r
 }

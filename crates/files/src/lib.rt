@@ -1,7 +1,7 @@
 // Whole files read into lent bytes.
 ghost use mathlib.Core.Path.{_≡_};
 ghost use lib.ListN.{length};
-ghost use Rattle.files.specs.Files.{Fits};
+ghost use Rattle.files.specs.Files.{Fits, loadedOf};
 use libc::close;
 use libc::read;
 
@@ -22,6 +22,16 @@ pub enum Loaded {
     TooLong,
 }
 
+// What a file is of which n bytes were read, and `more` behind them: it is whole where there are no more.
+fn outcome(n: usize, more: usize) -> Loaded
+    ensures answer { λ r. ⌜ r ≡ loadedOf n more ⌝ }
+{
+    if more == 0 {
+        return Loaded::Whole(n);
+    }
+    Loaded::TooLong
+}
+
 // Reads to the end of an open file.
 pub fn load_open(file: i32, out: &mut [u8]) -> Loaded
     ensures written { λ r. ⌜ Fits r (now (out .exit)) ⌝ }
@@ -32,10 +42,8 @@ pub fn load_open(file: i32, out: &mut [u8]) -> Loaded
     if more < 0 {
         return Loaded::Unreadable;
     }
-    if more > 0 {
-        return Loaded::TooLong;
-    }
-    Loaded::Whole(n)
+    let k = io::count(more, &one);
+    outcome(n, k)
 }
 
 // Reads the file of this name.

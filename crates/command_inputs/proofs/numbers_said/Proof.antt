@@ -1,11 +1,11 @@
--- `numbers_said` is safe and ends. The measure is how many numbers are left.
+-- `numbers_said` meets its contract: five numbers, each of which a byte holds. The measure is how many are left.
 -- Assumes nothing.
-use Rattle.laws.proofs.All.{_-_, _≤_, needs}
+use Rattle.laws.proofs.All.{_≡_, _-_, _≤_, arith, length, needs}
 use Rattle.command_inputs.proofs.numbers_said.Statement.{statement}
 use Rattle.command_inputs.proofs.numbers_said.Tie as tie
 
 abbrev Inv-loop : tie.InvT-loop
-Inv-loop a job₀ i₀ job i = i ≤ 5
+Inv-loop a job₀ i₀ job i = (i ≤ 5) × (5 ≡ length job)
 
 abbrev μ-loop : tie.MeasureT-loop
 μ-loop a job₀ i₀ job i = 5 - i
@@ -15,5 +15,5 @@ numbers-said-spec =
     tie.close
     (tie.spec
     Inv-loop μ-loop (λ c. search needs) (λ c. search needs) (λ c κs. search needs) (λ c. search needs)
-    (λ c κs. search needs) (λ c. search needs) (λ c. search needs) (λ c. search needs) (λ c. search needs)
+    (λ c. search needs) (λ c. search needs) (λ c. search needs) (λ c. search needs) (λ c. search needs)
     (λ c. search needs))

@@ -1,0 +1,30 @@
+-- What reading an argument says, by what its word or its file is.
+-- In order: number-taken, number-above; input-counts.
+-- Assumes nothing.
+use Rattle.laws.proofs.All.{_≡_, refl, sym, ap, subst, _∙_, true, List, ℕ, _≤_, _<_, arith, le-leb, lt-leb, length}
+use Rattle.laws.proofs.All.{length-take-le}
+use Rattle.io.specs.Counts.{Counts}
+use Rattle.files.specs.declared.Loaded.{Loaded}
+use Rattle.files.specs.declared.Loaded.the-variants.{Whole, Unreadable, TooLong}
+use Rattle.files.specs.Files.{Fits}
+use Rattle.command_arguments.specs.declared.Parsed.{Parsed}
+use Rattle.command_arguments.specs.declared.Parsed.the-variants.{Number as Said}
+use Rattle.command_inputs.specs.declared.Input.{Input}
+use Rattle.command_inputs.specs.Inputs.{noNumber, numberOf, inputOf}
+
+module _ (i most n : ℕ) (p : Parsed) (e : p ≡ Said n) where
+  pub number-taken : n ≤ most → record { good = true; value = n; at = i } ≡ numberOf i most p
+  number-taken h = sym (ap (numberOf i most) e ∙ simp (le-leb _ _ h))
+
+  pub number-above : most < n → noNumber i ≡ numberOf i most p
+  number-above h = sym (ap (numberOf i most) e ∙ simp (lt-leb _ _ h))
+
+-- what was read is within the bytes that were lent
+pub input-counts : (i room : ℕ) (l : Loaded) (r : Input) (out : List ℕ) → room ≡ length out → Fits l out
+    → r ≡ inputOf i room l → Counts (r .size) out
+input-counts i room l r out k f e = subst (λ r. Counts (r .size) out) (sym e) (go l f)
+  where
+    go : (l : Loaded) → Fits l out → Counts (inputOf i room l .size) out
+    go (Whole n) f = f
+    go TooLong f = (omega arith, sym (length-take-le _ _ (omega arith)))
+    go Unreadable f = (omega arith, refl)

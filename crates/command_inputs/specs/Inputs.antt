@@ -1,0 +1,40 @@
+-- What reading an argument says: the number in its word, or how many bytes its file gave; and which argument it was.
+-- In order: noNumber, numberOf; nothingFrom, inputOf; From.
+-- Assumes nothing.
+use mathlib.Core.Path.{_≡_}
+use mathlib.Core.Bool.{true, false}
+use mathlib.Core.List.{List}
+use Prim.Native.Nat.{ℕ}
+use lib.Dec.{leb}
+use lib.ListN.{length}
+use Rattle.laws.specs.Lists.{if_then_else_}
+use Rattle.files.specs.declared.Loaded.{Loaded}
+use Rattle.files.specs.declared.Loaded.the-variants.{Whole, Unreadable, TooLong}
+use Rattle.command_arguments.specs.declared.Parsed.{Parsed}
+use Rattle.command_arguments.specs.declared.Parsed.the-variants.{Number as Said, Above, Wrong}
+use Rattle.command_inputs.specs.declared.Number.{Number}
+use Rattle.command_inputs.specs.declared.Input.{Input}
+
+-- argument i says no number that is taken
+abbrev pub noNumber : ℕ → Number
+noNumber i = record { good = false; value = 0; at = i }
+
+-- the number that argument i says, up to the most that is taken
+abbrev pub numberOf : ℕ → ℕ → Parsed → Number
+numberOf i most (Said n) = if leb n most then record { good = true; value = n; at = i } else noNumber i
+numberOf i most Above = noNumber i
+numberOf i most Wrong = noNumber i
+
+-- nothing was read of the file that argument i names
+abbrev pub nothingFrom : ℕ → Input
+nothingFrom i = record { good = false; more = false; size = 0; at = i }
+
+-- what was read of the file that argument i names, with so much room: all of it, or as much as there is room for
+abbrev pub inputOf : ℕ → ℕ → Loaded → Input
+inputOf i room (Whole n) = record { good = true; more = false; size = n; at = i }
+inputOf i room TooLong = record { good = true; more = true; size = room; at = i }
+inputOf i room Unreadable = nothingFrom i
+
+-- bytes as many as were read of the file that argument i names
+abbrev pub From : ℕ → Input → List ℕ → Type 0
+From i l xs = (l .at ≡ i) × (length xs ≡ l .size)
