@@ -1,5 +1,6 @@
--- A result lies within the bytes that were lent for it; a run that a call refuses fails.
--- In order: result-within, front-long; fails-refused, fails-done, fails-outcome.
+-- A result lies within the bytes that were lent for it; a run that a call refuses fails, so one that ends well had a
+-- result.
+-- In order: result-within, front-long; fails-refused, fails-done, fails-outcome, fails-well.
 -- Assumes nothing.
 use Rattle.laws.proofs.All.{_≡_, sym, ap, subst, _∙_, List, ℕ, _≤_, arith, length, drop, length-append}
 use Rattle.answer.specs.declared.Answer.{Answer}
@@ -7,8 +8,9 @@ use Rattle.answer.specs.declared.Answer.the-variants.{Done, Refused}
 use Rattle.answer.specs.declared.Refusal.{Refusal}
 use Rattle.answer.specs.Outcomes.{Outcome, done, refused, answerOf, outputOf}
 use Rattle.command_arguments.specs.declared.Status.{Status}
-use Rattle.command_arguments.specs.declared.Status.the-variants.{Failed}
-use Rattle.command_outputs.specs.Results.{Within, Fails}
+use Rattle.command_arguments.specs.declared.Status.the-variants.{Done as Ended, Failed, Misused}
+use Rattle.command_arguments.specs.Shapes.{statusOf}
+use Rattle.command_outputs.specs.Results.{Within, Fails, Gives, WellOnly}
 
 pub result-within : (o : Outcome (List ℕ)) (a : Answer) (B C : List ℕ) → a ≡ answerOf o → C ≡ outputOf o B → Within a C
 result-within o a B C e w = subst (λ a. Within a C) (sym e) (go o w)
@@ -29,3 +31,13 @@ fails-done a n s e = subst (λ a. Fails a s) (sym e) tt
 -- how a run ends is said of the call's outcome
 pub fails-outcome : (o : Outcome (List ℕ)) (a : Answer) (s : Status) → a ≡ answerOf o → Fails a s → Fails (answerOf o) s
 fails-outcome o a s e = subst (λ a. Fails a s) e
+
+pub fails-well : {P : Type 0} (o : Outcome (List ℕ)) (a : Answer) (s : Status) → a ≡ answerOf o → Fails a s
+    → (Gives o → P) → WellOnly P s
+fails-well {P} o a s e h f = go o s (fails-outcome o a s e h) f
+  where
+    go : (o : Outcome (List ℕ)) (s : Status) → Fails (answerOf o) s → (Gives o → P) → WellOnly P s
+    go (done xs) Ended h f = f tt
+    go (refused r) Ended h f = let z : _≡_ {A = ℕ} 0 1 = ap statusOf h in absurd (omega arith)
+    go o Failed h f = tt
+    go o Misused h f = tt

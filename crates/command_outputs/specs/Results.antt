@@ -1,5 +1,6 @@
--- What a call leaves: how many of the bytes are the result, and how a run ends that it refuses.
--- In order: Within; Fails.
+-- What a call leaves: how many of the bytes are the result; and how a run ends: where the call is refused, and by what
+-- writing the result came to.
+-- In order: Within; Fails; Gives, WellOnly; endedBy.
 -- Assumes nothing.
 use mathlib.Core.Path.{_≡_}
 use mathlib.Core.List.{List}
@@ -8,7 +9,10 @@ use lib.ListN.{length}
 use Rattle.answer.specs.declared.Answer.{Answer}
 use Rattle.answer.specs.declared.Answer.the-variants.{Done, Refused}
 use Rattle.command_arguments.specs.declared.Status.{Status}
-use Rattle.command_arguments.specs.declared.Status.the-variants.{Failed}
+use Rattle.answer.specs.Outcomes.{Outcome, done, refused}
+use Rattle.command_arguments.specs.declared.Status.the-variants.{Done as Ended, Failed, Misused}
+use Rattle.command_store.specs.declared.Stored.{Stored}
+use Rattle.command_store.specs.declared.Stored.the-variants.{Whole, Unwritten, Source}
 
 -- a result lies within the bytes
 abbrev pub Within : Answer → List ℕ → Type 0
@@ -19,3 +23,20 @@ Within (Refused r) xs = Unit {0}
 abbrev pub Fails : Answer → Status → Type 0
 Fails (Done n) s = Unit {0}
 Fails (Refused r) s = s ≡ Failed
+
+-- the call has a result
+abbrev pub Gives : {A : Type 0} → Outcome A → Type 0
+Gives (done x) = Unit {0}
+Gives (refused r) = ⊥
+
+-- a run ends well only where P holds
+abbrev pub WellOnly : Type 0 → Status → Type 0
+WellOnly P Ended = P
+WellOnly P Failed = Unit {0}
+WellOnly P Misused = Unit {0}
+
+-- how a run ends by what writing its result came to: well where all of it was written
+abbrev pub endedBy : Stored → Status
+endedBy (Whole n) = Ended
+endedBy Unwritten = Failed
+endedBy Source = Failed

@@ -2,7 +2,7 @@
 ghost use mathlib.Core.Path.{_≡_};
 ghost use Rattle.io.specs.Counts.{Counts};
 ghost use Rattle.command_arguments.specs.Shapes.{shapeOf};
-ghost use Rattle.command_outputs.specs.Results.{Within, Fails};
+ghost use Rattle.command_outputs.specs.Results.{Within, Fails, endedBy};
 use answer::Answer;
 use command_arguments::Action;
 use command_arguments::Status;
@@ -31,6 +31,17 @@ fn source(i: usize, out: &mut [u8]) -> usize
     n
 }
 
+// How a run ends whose result was written so to the file of this name. It says what went wrong.
+fn ended(name: &[u8], s: Stored) -> Status
+    ensures answer { λ r. ⌜ r ≡ endedBy s ⌝ }
+{
+    match s {
+        Stored::Whole(_) => Status::Done,
+        Stored::Unwritten => complain(name),
+        Stored::Source => say(name, b": it is read too, so it is left as it was"),
+    }
+}
+
 // Writes the file of this name, unless it is one that the action read.
 fn store_named(a: Action, name: &[u8], bytes: &[u8]) -> Status {
     if is_same(name, b"-") {
@@ -40,11 +51,7 @@ fn store_named(a: Action, name: &[u8], bytes: &[u8]) -> Status {
     let mut second = io::buffer();
     let n = source(under_place(a), &mut first);
     let k = source(read_place(a), &mut second);
-    match store(name, &first[..n], &second[..k], bytes) {
-        Stored::Whole(_) => Status::Done,
-        Stored::Unwritten => complain(name),
-        Stored::Source => say(name, b": it is read too, so it is left as it was"),
-    }
+    ended(name, store(name, &first[..n], &second[..k], bytes))
 }
 
 // Writes the result of an action to the file that argument i names; to standard output where there is no such argument.
