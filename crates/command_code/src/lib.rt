@@ -2,8 +2,11 @@
 ghost use mathlib.Core.Path.{_≡_};
 ghost use lib.ListN.{length};
 ghost use Rattle.answer.specs.Outcomes.{answerOf, outputOf};
-ghost use Rattle.command_outputs.specs.Results.{Fails};
-ghost use Rattle.command_code.specs.Coding.{coded};
+ghost use Rattle.command_arguments.specs.declared.Action.the-variants.{Coding};
+ghost use Rattle.command_arguments.specs.Shapes.{shapeOf};
+ghost use Rattle.command_inputs.specs.Inputs.{From};
+ghost use Rattle.command_outputs.specs.Results.{Fails, WellOnly};
+ghost use Rattle.command_code.specs.Coding.{coded, Coded, longestOf};
 use answer::Answer;
 use codec_record::decoding::decode;
 use codec_record::encoding::encode;
@@ -12,6 +15,7 @@ use command_arguments::Status;
 use command_arguments::Way;
 use command_arguments::read_place;
 use command_arguments::under_place;
+use command_inputs::Input;
 use command_inputs::is_twice;
 use command_inputs::load;
 use command_inputs::load_whole;
@@ -35,46 +39,53 @@ fn code(w: Way, under: &[u8], bytes: &[u8], out: &mut [u8]) -> Answer
 }
 
 // The most bytes that are taken: 1,000,000 blocks, and the words of as many.
-fn longest(w: Way) -> usize {
+fn longest(w: Way) -> usize
+    ensures answer { λ r. ⌜ r ≡ longestOf w ⌝ }
+{
     match w {
         Way::Encode => 1000000,
         Way::Decode => 1000015,
     }
 }
 
-// The words of blocks, or the blocks of words, under a record; the run fails where they are refused.
-fn code_bytes(w: Way, under: &[u8], bytes: &[u8], out: &mut [u8]) -> Status
+// The words of blocks, or the blocks of words, under a record; the run fails where they are refused. `u` and `b` are
+// what was read of the record and of the bytes.
+fn code_bytes(w: Way, u: Input, under: &[u8], b: Input, bytes: &[u8], out: &mut [u8]) -> Status
+    requires { ⌜
+        From (shapeOf (Coding w) .under) u (now under) × From (shapeOf (Coding w) .read) b (now bytes) ⌝ }
     ensures answer { λ s. ⌜
         Fails (answerOf (coded w (now (under .entry)) (length (now (out .entry))) (now (bytes .entry)))) s ⌝ }
     ensures written { λ s. ⌜
         now (out .exit)
         ≡ outputOf (coded w (now (under .entry)) (length (now (out .entry))) (now (bytes .entry)))
         (now (out .entry)) ⌝ }
+    ensures past { λ s. ⌜ WellOnly (Coded w) s ⌝ }
 {
     let r = code(w, under, bytes, out);
     finish_code(Action::Coding(w), w, r, out)
 }
 
 // encode RECORD DATA OUT, decode RECORD WORDS OUT
-pub fn code_files(w: Way) -> Status {
+pub fn code_files(w: Way) -> Status
+    ensures answer { λ s. ⌜ WellOnly (Coded w) s ⌝ }
+{
     let a = Action::Coding(w);
-    let i = under_place(a);
-    let j = read_place(a);
-    if is_twice(i, j) {
-        return misused_word(a, b"-", b": only one file can be standard input");
+    if is_twice(a) {
+        misused_word(a, b"-", b": only one file can be standard input");
+        return Status::Misused;
     }
     let mut under = [0u8; 3866];
-    let u = load(i, &mut under);
+    let u = load(under_place(a), &mut under);
     if !u.good {
         return Status::Failed;
     }
     let n = u.size;
     let mut bytes = recording();
-    let b = load_whole(j, &mut bytes, longest(w));
+    let b = load_whole(read_place(a), &mut bytes, longest(w));
     if !b.good {
         return Status::Failed;
     }
     let k = b.size;
     let mut out = recording();
-    code_bytes(w, &under[..n], &bytes[..k], &mut out)
+    code_bytes(w, u, &under[..n], b, &bytes[..k], &mut out)
 }

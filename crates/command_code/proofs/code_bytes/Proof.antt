@@ -3,7 +3,7 @@
 -- Assumes nothing.
 use Rattle.laws.proofs.All.{now, length, needs}
 use Rattle.command_code.specs.Coding.{coded}
-use Rattle.command_outputs.proofs.Results.{result-within, fails-outcome}
+use Rattle.command_outputs.proofs.Results.{result-within, fails-outcome, fails-well}
 use Rattle.command_code.proofs.code_bytes.Statement.{statement}
 use Rattle.command_code.proofs.code_bytes.Tie as tie
 
@@ -23,7 +23,11 @@ returns c =
     let a = called .before .before .before .before .before .args in
     let o = coded (a .w) (now (a .under)) (length (now (a .out))) (now (a .bytes)) in (
       fails-outcome o (call .result) (c .finish-code .result) (call .ensures .0) (c .finish-code .ensures),
-      call .ensures .1,
+      (
+        call .ensures .1,
+        fails-well o (call .result) (c .finish-code .result) (call .ensures .0) (c .finish-code .ensures)
+            (λ g. record { under = _; room = _; bytes = _; gives = g }),
+      ),
     )
 
 pub code-bytes-spec : {M : Type 1} → statement M
