@@ -1,6 +1,6 @@
 -- A result lies within the bytes that were lent for it; a run that a call refuses fails, so one that ends well had a
 -- result.
--- In order: result-within, front-long; fails-refused, fails-done, fails-outcome, fails-well.
+-- In order: result-within, front-long; fails-refused, fails-done, fails-outcome; failed-by, by-well, fails-well.
 -- Assumes nothing.
 use Rattle.laws.proofs.All.{_≡_, sym, ap, subst, _∙_, List, ℕ, _≤_, arith, length, drop, length-append}
 use Rattle.answer.specs.declared.Answer.{Answer}
@@ -10,7 +10,7 @@ use Rattle.answer.specs.Outcomes.{Outcome, done, refused, answerOf, outputOf}
 use Rattle.command_arguments.specs.declared.Status.{Status}
 use Rattle.command_arguments.specs.declared.Status.the-variants.{Done as Ended, Failed, Misused}
 use Rattle.command_arguments.specs.Shapes.{statusOf}
-use Rattle.command_outputs.specs.Results.{Within, Fails, Gives, WellOnly}
+use Rattle.command_outputs.specs.Results.{Within, Fails, FailsBy, Gives, WellOnly}
 
 pub result-within : (o : Outcome (List ℕ)) (a : Answer) (B C : List ℕ) → a ≡ answerOf o → C ≡ outputOf o B → Within a C
 result-within o a B C e w = subst (λ a. Within a C) (sym e) (go o w)
@@ -32,12 +32,21 @@ fails-done a n s e = subst (λ a. Fails a s) (sym e) tt
 pub fails-outcome : (o : Outcome (List ℕ)) (a : Answer) (s : Status) → a ≡ answerOf o → Fails a s → Fails (answerOf o) s
 fails-outcome o a s e = subst (λ a. Fails a s) e
 
+pub failed-by : {A : Type 0} (o : Outcome A) (s : Status) → s ≡ Failed → FailsBy o s
+failed-by (done x) s h = tt
+failed-by (refused r) s h = h
+
+-- a run that ends well had a result
+pub by-well : {A : Type 0} {P : Type 0} (o : Outcome A) (s : Status) → FailsBy o s → (Gives o → P) → WellOnly P s
+by-well (done x) Ended h f = f tt
+by-well (refused r) Ended h f = let z : _≡_ {A = ℕ} 0 1 = ap statusOf h in absurd (omega arith)
+by-well o Failed h f = tt
+by-well o Misused h f = tt
+
 pub fails-well : {P : Type 0} (o : Outcome (List ℕ)) (a : Answer) (s : Status) → a ≡ answerOf o → Fails a s
     → (Gives o → P) → WellOnly P s
-fails-well {P} o a s e h f = go o s (fails-outcome o a s e h) f
+fails-well o a s e h = by-well o s (go o (fails-outcome o a s e h))
   where
-    go : (o : Outcome (List ℕ)) (s : Status) → Fails (answerOf o) s → (Gives o → P) → WellOnly P s
-    go (done xs) Ended h f = f tt
-    go (refused r) Ended h f = let z : _≡_ {A = ℕ} 0 1 = ap statusOf h in absurd (omega arith)
-    go o Failed h f = tt
-    go o Misused h f = tt
+    go : (o : Outcome (List ℕ)) → Fails (answerOf o) s → FailsBy o s
+    go (done xs) h = tt
+    go (refused r) h = h

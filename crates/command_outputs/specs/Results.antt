@@ -1,6 +1,6 @@
 -- What a call leaves: how many of the bytes are the result; and how a run ends: where the call is refused, and by what
 -- writing the result came to.
--- In order: Within; Fails; Gives, WellOnly; endedBy.
+-- In order: Within; Fails; FailsBy, Gives, WellOnly; endedBy.
 -- Assumes nothing.
 use mathlib.Core.Path.{_≡_}
 use mathlib.Core.List.{List}
@@ -23,6 +23,11 @@ Within (Refused r) xs = Unit {0}
 abbrev pub Fails : Answer → Status → Type 0
 Fails (Done n) s = Unit {0}
 Fails (Refused r) s = s ≡ Failed
+
+-- the same of a call with a result of any kind
+abbrev pub FailsBy : {A : Type 0} → Outcome A → Status → Type 0
+FailsBy (done x) s = Unit {0}
+FailsBy (refused r) s = s ≡ Failed
 
 -- the call has a result
 abbrev pub Gives : {A : Type 0} → Outcome A → Type 0

@@ -2,14 +2,20 @@
 ghost use mathlib.Core.Path.{_≡_};
 ghost use lib.ListN.{length};
 ghost use Rattle.answer.specs.Outcomes.{answerOf, outputOf};
-ghost use Rattle.command_outputs.specs.Results.{Fails};
-ghost use Rattle.command_weave.specs.Weaves.{rearrangeInto};
+ghost use Rattle.command_arguments.specs.declared.Action.the-variants.{Recordings};
+ghost use Rattle.command_arguments.specs.Shapes.{shapeOf};
+ghost use Rattle.command_inputs.specs.Inputs.{From};
+ghost use Rattle.command_outputs.specs.Results.{Fails, WellOnly};
+ghost use Rattle.command_weave.specs.Weaves.{rearrangeInto, Rearranged};
 use answer::Answer;
 use command_arguments::Action;
 use command_arguments::OnRecordings;
 use command_arguments::Status;
+use command_arguments::numbers::GREATEST;
 use command_arguments::read_place;
 use command_arguments::written_place;
+use command_inputs::Input;
+use command_inputs::Number;
 use command_inputs::load_whole;
 use command_inputs::number_at;
 use command_inputs::recording;
@@ -31,23 +37,30 @@ fn rearrange(how: OnRecordings, d: usize, words: &[u8], out: &mut [u8]) -> Answe
     }
 }
 
-// The words of d recordings, woven or taken apart; the run fails where they are refused.
-fn rearrange_words(how: OnRecordings, d: usize, words: &[u8], out: &mut [u8]) -> Status
+// The words of d recordings, woven or taken apart; the run fails where they are refused. `l` is what was read of the
+// words.
+fn rearrange_words(how: OnRecordings, d: Number, l: Input, words: &[u8], out: &mut [u8]) -> Status
+    requires { ⌜
+        (d .at ≡ shapeOf (Recordings how) .number) × From (shapeOf (Recordings how) .read) l (now words) ⌝ }
     ensures answer { λ s. ⌜
-        Fails (answerOf (rearrangeInto how d (length (now (out .entry))) (now (words .entry)))) s ⌝ }
+        Fails (answerOf (rearrangeInto how (d .value) (length (now (out .entry))) (now (words .entry)))) s ⌝ }
     ensures written { λ s. ⌜
         now (out .exit)
-        ≡ outputOf (rearrangeInto how d (length (now (out .entry))) (now (words .entry))) (now (out .entry)) ⌝ }
+        ≡ outputOf (rearrangeInto how (d .value) (length (now (out .entry))) (now (words .entry)))
+        (now (out .entry)) ⌝ }
+    ensures past { λ s. ⌜ WellOnly (Rearranged how) s ⌝ }
 {
     let i = written_place(Action::Recordings(how));
-    let r = rearrange(how, d, words, out);
+    let r = rearrange(how, d.value, words, out);
     finish(Action::Recordings(how), i, r, out)
 }
 
 // weave D IN OUT, unweave D IN OUT
-pub fn rearrange_file(how: OnRecordings) -> Status {
+pub fn rearrange_file(how: OnRecordings) -> Status
+    ensures answer { λ s. ⌜ WellOnly (Rearranged how) s ⌝ }
+{
     let a = Action::Recordings(how);
-    let d = number_at(a, 2);
+    let d = number_at(a, 2, GREATEST);
     if !d.good {
         return Status::Misused;
     }
@@ -58,5 +71,5 @@ pub fn rearrange_file(how: OnRecordings) -> Status {
     }
     let n = l.size;
     let mut out = recording();
-    rearrange_words(how, d.value, &words[..n], &mut out)
+    rearrange_words(how, d, l, &words[..n], &mut out)
 }

@@ -2,7 +2,7 @@
 -- the action writes.
 -- Assumes nothing.
 use Rattle.laws.proofs.All.{needs}
-use Rattle.command_outputs.proofs.Results.{result-within, fails-outcome}
+use Rattle.command_outputs.proofs.Results.{result-within, fails-outcome, fails-well}
 use Rattle.command_weave.specs.Weaves.{rearrangeInto}
 use Rattle.command_weave.proofs.rearrange_words.Statement.{statement}
 use Rattle.command_weave.proofs.rearrange_words.Tie as tie
@@ -19,7 +19,11 @@ returns : tie.Need-returns
 returns c =
     let call = c .before .before .before .before .rearrange in (
       fails-outcome (rearrangeInto _ _ _ _) (call .result) (c .finish .result) (call .ensures .0) (c .finish .ensures),
-      call .ensures .1,
+      (
+        call .ensures .1,
+        fails-well (rearrangeInto _ _ _ _) (call .result) (c .finish .result) (call .ensures .0) (c .finish .ensures)
+            (λ g. record { depth = _; room = _; words = _; gives = g }),
+      ),
     )
 
 pub rearrange-words-spec : {M : Type 1} → statement M
