@@ -1,12 +1,22 @@
 // The action that tells how far damage to channel bits reaches.
 ghost use mathlib.Core.Path.{_≡_};
+ghost use Prim.Native.Nat.{_+_, _≤_};
 ghost use Rattle.text.specs.Texts.{Added};
 ghost use Rattle.stream_damage.specs.BitReach.{reachUnder, reachAnswer};
+ghost use Rattle.command_arguments.specs.declared.Action.the-variants.{Stream};
+ghost use Rattle.command_arguments.specs.declared.OnStream.the-variants.{Reach};
+ghost use Rattle.command_arguments.specs.Shapes.{shapeOf};
+ghost use Rattle.command_inputs.specs.Inputs.{From};
+ghost use Rattle.command_outputs.specs.Results.{FailsBy, WellOnly};
 ghost use Rattle.command_stream.specs.Reaching.{bitsFrom, reachLine};
+ghost use Rattle.command_stream.specs.Streamed.{Reached};
 use command_arguments::Action;
 use command_arguments::OnStream;
 use command_arguments::Status;
+use command_arguments::numbers::GREATEST;
 use command_arguments::under_place;
+use command_inputs::Input;
+use command_inputs::Number;
 use command_inputs::load;
 use command_inputs::number_at;
 use command_messages::refuse;
@@ -47,15 +57,32 @@ fn reach_of(under: &[u8], first: usize, last: usize) -> ReachAnswer
     )
 }
 
-// reach RECORD FIRST LAST
-pub fn reach_bits() -> Status {
+// Prints the blocks that overwriting channel bits can spoil, or says the refusal. `u` is what was read of the record.
+fn tell_reach(u: Input, under: &[u8], first: Number, last: Number) -> Status
+    requires { ⌜
+        From (shapeOf (Stream Reach) .under) u (now under) × (first .at ≡ shapeOf (Stream Reach) .number)
+        × (last .at ≡ shapeOf (Stream Reach) .number + 1) × (first .value ≤ last .value) ⌝ }
+    ensures answer { λ s. ⌜
+        FailsBy (reachUnder (now (under .entry)) (bitsFrom (first .value) (last .value))) s ⌝ }
+    ensures past { λ s. ⌜ WellOnly Reached s ⌝ }
+{
+    match reach_of(under, first.value, last.value) {
+        ReachAnswer::Refused(x) => refuse(x),
+        ReachAnswer::Blocks(b) => print_reach(b),
+    }
+}
+
+// reach RECORD FIRST LAST, where FIRST is at most LAST
+pub fn reach_bits() -> Status
+    ensures answer { λ s. ⌜ WellOnly Reached s ⌝ }
+{
     let a = Action::Stream(OnStream::Reach);
-    let first = number_at(a, 3);
-    if !first.good {
+    let last = number_at(a, 4, GREATEST);
+    if !last.good {
         return Status::Misused;
     }
-    let last = number_at(a, 4);
-    if !last.good {
+    let first = number_at(a, 3, last.value);
+    if !first.good {
         return Status::Misused;
     }
     let mut under = [0u8; 3866];
@@ -64,8 +91,5 @@ pub fn reach_bits() -> Status {
         return Status::Failed;
     }
     let n = u.size;
-    match reach_of(&under[..n], first.value, last.value) {
-        ReachAnswer::Refused(x) => refuse(x),
-        ReachAnswer::Blocks(b) => print_reach(b),
-    }
+    tell_reach(u, &under[..n], first, last)
 }

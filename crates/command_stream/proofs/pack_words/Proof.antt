@@ -3,7 +3,7 @@
 -- Assumes nothing.
 use Rattle.laws.proofs.All.{needs}
 use Rattle.stream_pack.specs.Streams.{packInto}
-use Rattle.command_outputs.proofs.Results.{result-within, fails-outcome}
+use Rattle.command_outputs.proofs.Results.{result-within, fails-outcome, fails-well}
 use Rattle.command_stream.proofs.pack_words.Statement.{statement}
 use Rattle.command_stream.proofs.pack_words.Tie as tie
 
@@ -19,7 +19,11 @@ returns : tie.Need-returns
 returns c =
     let call = c .before .before .before .before .pack in (
       fails-outcome (packInto _ _ _) (call .result) (c .finish .result) (call .ensures .0) (c .finish .ensures),
-      call .ensures .1,
+      (
+        call .ensures .1,
+        fails-well (packInto _ _ _) (call .result) (c .finish .result) (call .ensures .0) (c .finish .ensures)
+            (λ g. record { q = _; room = _; words = _; gives = g }),
+      ),
     )
 
 pub pack-words-spec : {M : Type 1} → statement M

@@ -3,7 +3,7 @@
 -- Assumes nothing.
 use Rattle.laws.proofs.All.{needs}
 use Rattle.stream_pack.specs.Streams.{unpackInto}
-use Rattle.command_outputs.proofs.Results.{result-within, fails-outcome}
+use Rattle.command_outputs.proofs.Results.{result-within, fails-outcome, fails-well}
 use Rattle.command_stream.proofs.unpack_words.Statement.{statement}
 use Rattle.command_stream.proofs.unpack_words.Tie as tie
 
@@ -19,7 +19,11 @@ returns : tie.Need-returns
 returns c =
     let call = c .before .before .before .before .unpack in (
       fails-outcome (unpackInto _ _ _ _) (call .result) (c .finish .result) (call .ensures .0) (c .finish .ensures),
-      call .ensures .1,
+      (
+        call .ensures .1,
+        fails-well (unpackInto _ _ _ _) (call .result) (c .finish .result) (call .ensures .0) (c .finish .ensures)
+            (λ g. record { q = _; count = _; room = _; stream = _; gives = g }),
+      ),
     )
 
 pub unpack-words-spec : {M : Type 1} → statement M
