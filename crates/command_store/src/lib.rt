@@ -5,7 +5,8 @@ ghost use mathlib.Core.Path.{_≡_};
 ghost use Prim.Native.Nat.{_≤_};
 ghost use lib.ListN.{length};
 ghost use Rattle.io.specs.Counts.{Counts};
-ghost use Rattle.command_store.specs.Storing.{Held};
+ghost use Rattle.text.specs.Texts.{Added};
+ghost use Rattle.command_store.specs.Storing.{Held, folderOf, asideName};
 use libc::ENOENT;
 use libc::SEEK_END;
 use libc::close;
@@ -115,6 +116,7 @@ fn store_by(name: &mut [u8], path: &[u8], bytes: &[u8]) -> Stored
 
 // How many bytes of a path name its folder, with the last /.
 fn folder(path: &[u8]) -> usize
+    ensures answer { λ r. ⌜ r ≡ folderOf (now (path .entry)) ⌝ }
     ensures past { λ r. ⌜ Counts r (now (path .entry)) ⌝ }
 {
     let mut n = path.len();
@@ -127,14 +129,22 @@ fn folder(path: &[u8]) -> usize
     n
 }
 
+// The name of a new file in the folder of a path, in front.
+fn put_aside(out: &mut [u8], path: &[u8]) -> usize
+    ensures written { λ e. ⌜
+        Added (asideName (now (path .entry))) 0 (now (out .entry)) (now (out .exit)) e ⌝ }
+{
+    let k = folder(path);
+    let at = put(out, 0, &path[..k]);
+    put(out, at, b".sbc-XXXXXX")
+}
+
 // Writes the file of this name by way of a new file beside it.
 fn store_aside(path: &[u8], bytes: &[u8]) -> Stored
     ensures answer { λ r. ⌜ Held r (now (bytes .entry)) ⌝ }
 {
     let mut name = [0u8; 4160];
-    let k = folder(path);
-    let at = put(&mut name, 0, &path[..k]);
-    let n = put(&mut name, at, b".sbc-XXXXXX");
+    let n = put_aside(&mut name, path);
     store_by(&mut name[..n], path, bytes)
 }
 
