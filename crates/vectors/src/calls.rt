@@ -6,6 +6,7 @@ use answer::answer_value;
 use answer::refusal_number;
 use codec_record::decoding::decode;
 use codec_record::encoding::encode;
+use codec_verify::verify;
 use compile::bytes::compile_job;
 use compile::bytes::compile_joined;
 use compile::bytes::compile_run_length;
@@ -19,6 +20,7 @@ use stream_pack::pack;
 use stream_pack::unpack;
 use stream_record::decode_stream;
 use stream_record::encode_stream;
+use stream_verify::verify_stream;
 use view_job::list_run_length;
 use view_job::tell_refusal;
 use weaving::unweave;
@@ -122,8 +124,25 @@ fn call_woven(kind: usize, depth: &[u8], words: &[u8], out: &mut [u8]) -> Answer
     unweave(d, words, out)
 }
 
+// How many words come back of a stream that stands after its number of words.
+fn verify_counted(record: &[u8], counted: &[u8]) -> Answer {
+    let count = number_at(counted, 0);
+    if counted.len() < 8 {
+        return verify_stream(record, count, b"");
+    }
+    verify_stream(record, count, &counted[8..])
+}
+
+// The call of a kind that verifies: 16 words, and any other a stream.
+fn call_verify(kind: usize, record: &[u8], words: &[u8]) -> Answer {
+    if kind == 16 {
+        return verify(record, words);
+    }
+    verify_counted(record, words)
+}
+
 // The call of a kind: 3 checks a record, 4 encodes, 5 decodes, 6 walks a set, 9 to 12 are on streams, 13 writes a
-// record with another tail datum, 14 and 15 are on several recordings, and any other takes a job.
+// record with another tail datum, 14 and 15 are on several recordings, 16 and 17 verify, and any other takes a job.
 pub fn call(kind: usize, first: &[u8], second: &[u8], out: &mut [u8]) -> Told {
     if kind == 3 {
         return told_by(check(first));
@@ -139,6 +158,9 @@ pub fn call(kind: usize, first: &[u8], second: &[u8], out: &mut [u8]) -> Told {
     }
     if kind == 13 {
         return told_by(with_tail(first, number_at(second, 0), out));
+    }
+    if 15 < kind {
+        return told_by(call_verify(kind, first, second));
     }
     if 13 < kind {
         return told_by(call_woven(kind, first, second, out));

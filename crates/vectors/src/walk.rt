@@ -64,9 +64,9 @@ fn known_agrees(bytes: &[u8], c: Case) -> bool
 // Whether a case comes out as it says. One of a kind that this program does not know never does: the kind is printed.
 fn case_agrees(bytes: &[u8], c: Case) -> bool
     requires { ⌜ Whole (now bytes) c ⌝ }
-    ensures known { λ r. ⌜ (r ≡ true → c .kind ≤ 15) ⌝ }
+    ensures known { λ r. ⌜ (r ≡ true → c .kind ≤ 17) ⌝ }
 {
-    if 15 < c.kind {
+    if 17 < c.kind {
         say_number(b"not known to this program: kind ", c.kind as u64);
         return false;
     }
@@ -137,8 +137,8 @@ fn is_end(bytes: &[u8], at: usize) -> bool
     bytes[at] == 0
 }
 
-// The numbers of a tally as they are printed: of kinds 1 to 15 and then of all, how many cases, and how many differ.
-fn numbers_of(t: Tally) -> [usize; 32] {
+// The numbers of a tally as they are printed: of kinds 1 to 17 and then of all, how many cases, and how many differ.
+fn numbers_of(t: Tally) -> [usize; 36] {
     [
         t.kinds[1] as usize,
         t.differ[1] as usize,
@@ -170,6 +170,10 @@ fn numbers_of(t: Tally) -> [usize; 32] {
         t.differ[14] as usize,
         t.kinds[15] as usize,
         t.differ[15] as usize,
+        t.kinds[16] as usize,
+        t.differ[16] as usize,
+        t.kinds[17] as usize,
+        t.differ[17] as usize,
         t.cases as usize,
         t.wrong as usize,
     ]
@@ -186,7 +190,8 @@ fn say_tally(t: Tally) {
         encode # cases, differ #\ndecode # cases, differ #\nset # cases, differ #\n\
         listing # cases, differ #\ncompile_joined # cases, differ #\npack # cases, differ #\n\
         unpack # cases, differ #\nencode_stream # cases, differ #\ndecode_stream # cases, differ #\n\
-        with_tail # cases, differ #\nweave # cases, differ #\nunweave # cases, differ #\nall # cases, differ #\n",
+        with_tail # cases, differ #\nweave # cases, differ #\nunweave # cases, differ #\n\
+        verify # cases, differ #\nverify_stream # cases, differ #\nall # cases, differ #\n",
         &numbers,
     );
     io::write_all(STDOUT_FILENO, &out[..size]);
