@@ -38,7 +38,7 @@ module _ (q : ℕ) (ws : List ℕ) where
 -- ---- the words of bytes
 -- fewer than 2^23 bits in all, and each word lies within them
 pub few-bits : (q count : ℕ) → q ≤ 8 → count ≤ limit → count * q ≤ 8000000
-few-bits q count h l = mul-le-mul l h
+few-bits q count h l = let k : count * q ≤ limit * 8 = mul-le-mul l h in omega arith
 
 pub place-in : (q count i : ℕ) → i < count → i * q + q ≤ count * q
 place-in q count i h = omega (arith, mul-le-mul-right {m = i + 1} {n = count} q (omega arith))

@@ -19,7 +19,7 @@ mul-if1 c = omega (arith, ranges (c .before .before) .q₂)
 blocks-of-requires : tie.Need-blocks-of-requires
 blocks-of-requires c κs =
     let r = ranges (c .before .before .before .before) in
-    (r .q₁, omega (arith, r .m), omega (arith, r .a), c .if1 .taken)
+    (r .q₁, omega (arith, r .m, r .a), omega (arith, r .m, r .a), c .if1 .taken)
 
 returns : tie.Need-returns
 unfolding reachIn
