@@ -1,2 +1,3 @@
 pub mod Onward
 pub mod Lengths
+pub mod Calls
