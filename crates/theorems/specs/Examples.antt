@@ -19,6 +19,7 @@ use Rattle.record.specs.Layout.{pack}
 use Rattle.record.specs.Parse.{packInto}
 use Rattle.record.specs.Checks.{fieldsChecked}
 use Rattle.record_check.specs.Parse.{parse}
+use Rattle.record_tail.specs.Closing.{closedWith}
 use Rattle.codec.specs.Answers.{encoded, decoded, encodeUnder, decodeUnder}
 use Rattle.compile_graph.specs.Arcs.{power}
 use Rattle.compile_graph.specs.Weights.{weights}
@@ -130,7 +131,7 @@ pub record Examples : Type 0 where
   pub e2-read : parse record2 ≡ done code2
   pub e2-packed : pack code2 ≡ record2
   pub e2-old : parse oldRecord2 ≡ refused Field
-  pub e2-short : packInto code2 11 ≡ refused ShortOutput
+  pub e2-short : closedWith record2 0 11 ≡ refused ShortOutput
   -- E3 blocks 1 0 1 1 under E1 give words 2 3 2 2, and under E2's record 2 2 3 2
   pub e3 : encodeUnder record1 4 (1 ∷ 0 ∷ 1 ∷ 1 ∷ []) ≡ done (2 ∷ 3 ∷ 2 ∷ 2 ∷ [])
   pub e3-old : encodeUnder record2 4 (1 ∷ 0 ∷ 1 ∷ 1 ∷ []) ≡ done (2 ∷ 2 ∷ 3 ∷ 2 ∷ [])
@@ -161,7 +162,7 @@ pub record Examples : Type 0 where
 
 -- they hold
 pub examples : Examples
-unfolding readJob readRunLength compile compileRunLength packInto pack fieldsChecked parse encoded decoded
+unfolding readJob readRunLength compile compileRunLength packInto pack fieldsChecked parse closedWith encoded decoded
     encodeUnder decodeUnder works sizes window obeys power weights componentStates componentGraph split splits
     splitAll tableStates tableOf dataOf relabelled
 examples = record {

@@ -4,40 +4,48 @@
 -- unstream-calls, stream-recognised, stream-clear, bits-reach, reach-quoted, reach-told; (c) labels, labels-rule,
 -- labels-hold; (d) decoded-blocks, marks, no-mark-ahead, clear-unmarked; (e) closes, tail-free, tail-place,
 -- closes-record; (f) depth-numbers, weave-calls, unweave-calls, weave-spreads, weave-returns, weave-places, weaving,
--- one-word-each, fewer-places, scratch; (g) state-sets, step-bits, back-bits; Verify: verified, verified-place,
--- verified-mark, verified-near, verified-stream.
+-- one-word-each, fewer-places, scratch; (g) state-sets, step-bits, back-bits, pair-step-bits, pair-hit-bits; Verify:
+-- verified, verified-place, verified-mark, verified-near, verified-stream; Calls: job-order, run-length-order,
+-- joined-order, listing-call; set-order, set-count; info-numbers, phrase-words, with-tail; answer-words, set-words,
+-- outputs.
 -- Assumes nothing.
 use mathlib.Core.Path.{_≡_}
 use mathlib.Core.Logic.{_⊎_, _↔_}
-use mathlib.Core.Bool.{not, _&&_, _||_}
-use mathlib.Core.List.{List, [], _∷_, _++_, map}
+use mathlib.Core.Bool.{true, not, _&&_}
+use mathlib.Core.List.{List, [], _∷_, _++_}
 use Prim.Native.Nat.{ℕ, _+_, _*_, _-_, _/_, _%_, _^_, _≤_, _<_}
 use lib.Count.{ones, trailingZeros}
 use lib.Dec.{T, eqb}
-use lib.ListN.{length, getD, take, replicate}
-use Rattle.laws.specs.Lists.{if_then_else_, range, any, first, sum, elem}
+use lib.ListN.{length, getD, take, drop, replicate}
+use Rattle.laws.specs.Lists.{if_then_else_, sum, elem}
 use Rattle.laws.specs.Sums.{Each, Once, Below}
 use Rattle.answer.specs.declared.Refusal.{Refusal}
-use Rattle.answer.specs.declared.Refusal.the-variants.{Parameters, BadByte, TooFewWords, ShortOutput, TooManyPairs}
-use Rattle.answer.specs.declared.Refusal.the-variants.{Stream, Depth}
-use Rattle.answer.specs.Refusals.{numberOf}
+use Rattle.answer.specs.declared.Refusal.the-variants.{Parameters, States, Field, Length, BadByte, TooFewWords}
+use Rattle.answer.specs.declared.Refusal.the-variants.{ShortOutput, TooManyPairs, Stream, Depth}
+use Rattle.answer.specs.declared.Answer.{Answer}
 use Rattle.answer.specs.declared.Answer.the-variants.{Done}
-use Rattle.answer.specs.Outcomes.{done, refused, answerOf}
+use Rattle.answer.specs.Refusals.{numberOf, placeOf}
+use Rattle.answer.specs.Answers.{answerValue}
+use Rattle.answer.specs.Outcomes.{done, refused, onward, answerOf, outputOf}
 use Rattle.answer.specs.FirstBad.{firstBad}
+use Rattle.answer.specs.Orders.{check, First}
 use Rattle.bits.specs.Fields.{field, bitsOf}
 use Rattle.constraint.specs.Walking.{Constraint, Lawful}
 use Rattle.constraint.specs.Follow.{Finds, channel}
 use Rattle.joining.specs.Joined.{pairOf, pairs, joined, Reachable, FirstMet}
 use Rattle.table.specs.Rows.{Rows, edges, Code, withTail}
 use Rattle.table.specs.Paths.{spells, Blocks, recording, Full}
-use Rattle.table.specs.Formed.{formed}
-use Rattle.table.specs.Edges.{Arrays, rowsOf}
+use Rattle.table.specs.Formed.{Formed}
+use Rattle.table.specs.Marks.{some}
+use Rattle.table.specs.Edges.{Arrays, Fits, places, isEdge, wordOf as wordAt, rowsOf}
 use Rattle.bitsets.specs.declared.BitSet.{BitSet}
-use Rattle.bitsets.specs.BitSets.{holds, membersOf, yesNo}
-use Rattle.bitsets.specs.StateSets.{Words, joined as joinedSets}
+use Rattle.bitsets.specs.BitSets.{holds, yesNo, setAt}
+use Rattle.bitsets.specs.StateSets.{Words, joined as joinedSets, yeses, firstYes, someYes, either}
+use Rattle.window.specs.Works.{into, reversed}
+use Rattle.window.specs.Search.{hits}
+use Rattle.window_pairs.specs.PairSets.{pairsIn, joinsBy, clashesBy}
 use Rattle.codec_groups.specs.Groups.{Grouped, between, stepsTo, leadsInto}
 use Rattle.record.specs.Layout.{pack}
-use Rattle.record_check.specs.Accepted.{Accepted}
 use Rattle.record_check.specs.Parse.{parse}
 use Rattle.codec_steps.specs.StateSets.{along, back}
 use Rattle.codec_steps.specs.Reading.{markAhead, block, decode}
@@ -46,8 +54,8 @@ use Rattle.codec.specs.Follows.{Follows}
 use Rattle.codec.specs.Damage.{StandsClear, Recording, SameOutside, differences}
 use Rattle.compile_table.specs.TableOf.{tableOf}
 use Rattle.compile_labels.specs.Labels.{relabelledRow, relabelled, Rearranged}
-use Rattle.compile_job.specs.Jobs.{Job, Allowed, readJoined, Joins}
-use Rattle.compile.specs.Compile.{ways, componentOf, finishedOf, compile, compileJoined}
+use Rattle.compile_job.specs.Jobs.{Job, Allowed, statesOf, readRunLength, readJoined, Joins}
+use Rattle.compile.specs.Compile.{ways, componentOf, finishedOf, compile, compileJob, compileRunLength, compileJoined}
 use Rattle.stream_pack.specs.Streams.{packed, unpacked, goodStream, packInto, unpackInto}
 use Rattle.weaving.specs.Weaving.{woven, unwoven, part, goodDepth, weaveInto, unweaveInto}
 use Rattle.stream.specs.Recorded.{encodeStream, decodeStream}
@@ -58,6 +66,17 @@ use Rattle.stream_damage.specs.declared.BlockRange.{BlockRange}
 use Rattle.stream_damage.specs.BitReach.{reachUnder, reachAnswer, reachNumber, reachValues}
 use Rattle.record_tail.specs.Closing.{closedWith}
 use Rattle.codec_verify.specs.Verify.{verifyUnder, verifyStream}
+use Rattle.set_places.specs.Offsets.{offsetOf}
+use Rattle.set_check.specs.declared.SetAnswer.the-variants.{Good, Bad}
+use Rattle.set_check.specs.Sets.{readSet}
+use Rattle.set_check.specs.Results.{setAnswer}
+use Rattle.set_check.specs.Outcomes.{recordOf}
+use Rattle.view_refusals.specs.Phrases.{wordsOf}
+use Rattle.view_listing.specs.Listing.{listing}
+use Rattle.view_job.specs.Listings.{listInto}
+use Rattle.info.specs.Info.{infoUnder, phraseInto}
+use Rattle.word.specs.Words.{held, wordOf}
+use Rattle.sbc.specs.Words.{setWordOf}
 
 -- ---- (a) Two constraints on one medium. What the main page says of a `Kind` of job holds of this kind too: its record
 -- passes the checker (`compiled-passes`), and 3 to 6 and 13 come exactly where they are due.
@@ -85,9 +104,10 @@ pub too-many-pairs : (xs : List ℕ) (room : ℕ) → (compileJoined xs room ≡
     × ((zs : List ℕ) × Once zs × Each (λ z. Reachable c d (z / 16) (z % 16)) zs × (16 < length zs)))
 too-many-pairs = Rattle.compile.proofs.Joined.too-many-pairs
 
--- The job that is read has the two constraints of its bytes, joined: what is said above holds of every call.
+-- The job that is read has p, q, cap and the two constraints of its bytes, joined: the above holds of every call.
 pub joined-job : (xs : List ℕ) (j : Job) → readJoined xs ≡ done j → (c : Constraint) × (d : Constraint) × Joins xs c d
     × Lawful c × Lawful d × (length (pairs c d) ≤ 16) × (j .constraint ≡ joined c d)
+    × (j .p ≡ getD xs 0 0) × (j .q ≡ getD xs 1 0) × (j .cap ≡ getD xs 2 0)
 joined-job = Rattle.compile_job.proofs.Joining.joined-job
 
 -- Every recording under the record obeys both constraints, each from its state of the pair that is the record's start.
@@ -296,14 +316,15 @@ pub closes : ((c : Code) (ds : List ℕ)
     × ((j : Job) (c : Code) → compile j ≡ done c → c .tail ≡ 0)
 closes = (Rattle.table.proofs.Paths.closes, Rattle.compile.proofs.Accepted.compiled-tail)
 
--- What is refused does not depend on the tail datum once it is below 2^p.
-pub tail-free : (c : Code) (k : ℕ) → T (formed c) → k < 2 ^ c .p → Accepted c ↔ Accepted (withTail c k)
+-- With another tail datum below 2^p a record is refused exactly as before, or read as its code with that datum.
+pub tail-free : (c : Code) (k : ℕ) → Formed c → k < 2 ^ c .p
+    → parse (pack (withTail c k)) ≡ onward (parse (pack c)) (λ d. done (withTail d k))
 tail-free = Rattle.record_check.proofs.Tail.tail-free
 
 -- The tail datum stands in the 4 bits straight after the constraint start, which are bits 30 to 33 of the record.
-pub tail-place : (c : Code) → T (formed c)
+pub tail-place : (c : Code) → Formed c
     → (field (bitsOf (pack c)) 26 4 ≡ c .start) × (field (bitsOf (pack c)) 30 4 ≡ c .tail)
-tail-place = Rattle.record.proofs.RecordWrite.tail-place
+tail-place c f = Rattle.record.proofs.RecordWrite.tail-place c (Rattle.table.proofs.Formed.→formed c f)
 
 -- A record that passes, with room and a datum below 2^p, is written with that tail datum; it stays as long and passes.
 pub closes-record : (rec : List ℕ) → Below 256 rec → (c : Code) → parse rec ≡ done c → (k room : ℕ) → k < 2 ^ c .p
@@ -385,12 +406,11 @@ scratch = Rattle.stream_damage.proofs.Scratch.scratch
 -- no, one a state, for the first n states. What Main says of windows and decoding is said of such lists, and stays.
 
 -- Counting by ones, the lowest by trailing zeros, emptiness by the words and joining by "or" are those of the list.
-pub state-sets : ((s : BitSet) → Words s → (ones (s .low) + ones (s .high) ≡ length (membersOf s))
+pub state-sets : ((s : BitSet) → Words s → (ones (s .low) + ones (s .high) ≡ yeses (yesNo 128 s))
     × ((if eqb (s .low) 0 then 64 + trailingZeros 64 (s .high) else trailingZeros 64 (s .low))
-    ≡ first (holds s) 128 (range 128))
-    × ((eqb (s .low) 0 && eqb (s .high) 0) ≡ not (any (holds s) (range 128))))
-    × ((r s : BitSet) → Words r → Words s
-    → yesNo 128 (joinedSets r s) ≡ map (λ i. holds r i || holds s i) (range 128))
+    ≡ firstYes (yesNo 128 s))
+    × ((eqb (s .low) 0 && eqb (s .high) 0) ≡ not (someYes (yesNo 128 s))))
+    × ((r s : BitSet) → Words r → Words s → yesNo 128 (joinedSets r s) ≡ either (yesNo 128 r) (yesNo 128 s))
 state-sets =
     let p = Rattle.bitsets.proofs.StateSets.stateSets in
     (λ s w. (p .number s w, p .lowest s w, p .empty s w), p .joining)
@@ -406,6 +426,18 @@ pub back-bits : (t : Arrays) (start edge low high : List ℕ) → Grouped t star
     → w < 256 → ((s : ℕ) → holds R s ≡ between (leadsInto edge low high S s) (getD start w 0) (getD start (w + 1) 0))
     → yesNo (t .states) R ≡ back (rowsOf t) (yesNo (t .states) S) w
 back-bits = Rattle.codec_steps.proofs.SetSteps.back-bits
+
+-- The pair check's own step: the rows that hold where two edges with one word lead from the pairs are the list stepped.
+pub pair-step-bits : (t : Arrays) → Fits t → ((e : ℕ) → e < places t → isEdge t e ≡ true → wordAt t e < 256)
+    → (P R : List ℕ) → ((u v : ℕ) → u < t .states → holds (setAt R u) v ≡ some (joinsBy t P 16 u v) 256)
+    → pairsIn (t .states) R ≡ into (reversed (rowsOf t)) (pairsIn (t .states) P)
+pair-step-bits = Rattle.window_test.proofs.StepPairs.step-pairs
+
+-- Its own hit: where two edges with one word and different data lead from the pairs is where a clash leads.
+pub pair-hit-bits : (t : Arrays) → Fits t → ((e : ℕ) → e < places t → isEdge t e ≡ true → wordAt t e < 256)
+    → (P R : List ℕ) → ((u v : ℕ) → u < t .states → holds (setAt R u) v ≡ some (clashesBy t P u v) 256)
+    → pairsIn (t .states) R ≡ hits (rowsOf t) (pairsIn (t .states) P)
+pair-hit-bits = Rattle.window_test.proofs.StepPairs.hits-pairs
 
 -- ---- Verify: the words in front that come back when the decoded blocks are encoded, as a call answers them.
 
@@ -444,3 +476,115 @@ verified-near = Rattle.codec_verify.proofs.Near.verify-near
 pub verified-stream : (rec : List ℕ) → Below 256 rec → (c : Code) → parse rec ≡ done c → (count : ℕ) (xs : List ℕ)
     → T (goodStream (c .q) count xs) → verifyStream rec count xs ≡ verifyUnder rec (unpacked (c .q) count xs)
 verified-stream = Rattle.codec_verify.proofs.Near.verify-words
+
+-- ---- Calls: what the exported calls answer besides. `First checks r` says that r is the refusal of the first check
+-- that fails. `recordOf s i` is what record i of a set comes to, and `offsetOf s i` where its length stands.
+
+-- A job: "8 below four bytes, 1, K by 2, 8, next states by 2"; these refusals come in this order and nowhere else.
+pub job-order : (xs : List ℕ) (room : ℕ) (r : Refusal)
+    → (numberOf r < 3) ⊎ ((numberOf r ≡ 8) ⊎ (numberOf r ≡ 14)) → let n = length xs in let p = getD xs 0 0 in
+    let q = getD xs 1 0 in let cap = getD xs 2 0 in let K = getD xs 3 0 in (compileJob xs room ≡ refused r)
+    ↔ First (check Length (4 ≤ n)
+    ∷ check Parameters ((1 ≤ p) × (p ≤ 4) × (1 ≤ q) × (q ≤ 8) × (1 ≤ cap) × (cap ≤ 16))
+    ∷ check States ((1 ≤ K) × (K ≤ 16)) ∷ check Length (n ≡ 4 + 2 * K)
+    ∷ check States ((i : ℕ) → i < 2 * K → let s = getD (drop 4 xs) i 0 in (s < K) ⊎ (s ≡ 255)) ∷ []) r
+job-order = Rattle.compile.proofs.Orders.job-order
+
+-- "Run-length job: 8, 1, 2": five bytes d, k, p, q, cap, with d at most k and k at most 15.
+pub run-length-order : (xs : List ℕ) (room : ℕ) (r : Refusal)
+    → (numberOf r < 3) ⊎ ((numberOf r ≡ 8) ⊎ (numberOf r ≡ 14)) → let d = getD xs 0 0 in let k = getD xs 1 0 in
+    let p = getD xs 2 0 in let q = getD xs 3 0 in let cap = getD xs 4 0 in (compileRunLength xs room ≡ refused r)
+    ↔ First (check Length (length xs ≡ 5)
+    ∷ check Parameters ((1 ≤ p) × (p ≤ 4) × (1 ≤ q) × (q ≤ 8) × (1 ≤ cap) × (cap ≤ 16))
+    ∷ check States ((d ≤ k) × (k ≤ 15)) ∷ []) r
+run-length-order = Rattle.compile.proofs.Orders.run-length-order
+
+-- Two constraints: "for each constraint 8 for a missing K, K by 2, 8, next states by 2"; the first K is byte 3.
+pub joined-order : (xs : List ℕ) (room : ℕ) (r : Refusal)
+    → (numberOf r < 3) ⊎ ((numberOf r ≡ 8) ⊎ (numberOf r ≡ 14)) → let n = length xs in let p = getD xs 0 0 in
+    let q = getD xs 1 0 in let cap = getD xs 2 0 in let K = getD xs 3 0 in let L = getD xs (4 + 2 * K) 0 in
+    (compileJoined xs room ≡ refused r)
+    ↔ First (check Length (4 ≤ n)
+    ∷ check Parameters ((1 ≤ p) × (p ≤ 4) × (1 ≤ q) × (q ≤ 8) × (1 ≤ cap) × (cap ≤ 16))
+    ∷ check States ((1 ≤ K) × (K ≤ 16)) ∷ check Length (4 + 2 * K ≤ n)
+    ∷ check States ((i : ℕ) → i < 2 * K → let s = getD (drop 4 xs) i 0 in (s < K) ⊎ (s ≡ 255))
+    ∷ check Length (5 + 2 * K ≤ n) ∷ check States ((1 ≤ L) × (L ≤ 16)) ∷ check Length (n ≡ 5 + 2 * K + 2 * L)
+    ∷ check States ((i : ℕ) → i < 2 * L → let s = getD (drop (5 + 2 * K) xs) i 0 in (s < L) ⊎ (s ≡ 255))
+    ∷ check TooManyPairs (length (pairs (statesOf K (drop 4 xs)) (statesOf L (drop (5 + 2 * K) xs))) ≤ 16) ∷ []) r
+joined-order = Rattle.compile.proofs.Orders.joined-order
+
+-- The listing is that of the code to which a run-length job compiles, with room; else as reading, compiling, 13 say.
+pub listing-call : (xs : List ℕ) (room : ℕ) → ((ls : List ℕ) → (listInto xs room ≡ done ls)
+    ↔ ((j : Job) × (c : Code) × (readRunLength xs ≡ done j) × (compile j ≡ done c) × (length (listing c) ≤ room)
+    × (listing c ≡ ls))) × ((r : Refusal) → (listInto xs room ≡ refused r)
+    ↔ ((readRunLength xs ≡ refused r) ⊎ ((j : Job) × (readRunLength xs ≡ done j) × ((compile j ≡ refused r)
+    ⊎ ((c : Code) × (compile j ≡ done c) × First (check ShortOutput (length (listing c) ≤ room) ∷ []) r)))))
+listing-call xs room =
+    (Rattle.view_job.proofs.Calls.listing-done xs room, Rattle.view_job.proofs.Calls.listing-refused xs room)
+
+-- A set's first bad record with its number (8 if cut off); 8 with 0 for no bytes, with the count for bytes left over.
+pub set-order : (s : List ℕ) (i : ℕ) (r : Refusal) → (setAnswer (readSet s) ≡ Bad i r)
+    ↔ (((length s ≡ 0) × (i ≡ 0) × (r ≡ Length))
+    ⊎ (((i < getD s 0 0) × ((k : ℕ) → k < i → (c : Code) × (recordOf s k ≡ done c)) × (recordOf s i ≡ refused r))
+    ⊎ ((0 < length s) × (i ≡ getD s 0 0) × ((k : ℕ) → k < i → (c : Code) × (recordOf s k ≡ done c))
+    × (offsetOf s i < length s) × (r ≡ Length))))
+set-order = Rattle.set_check.proofs.Orders.set-order
+
+-- A good set is answered with its count: so many records, all good, and its bytes end with the last.
+pub set-count : (s : List ℕ) (n : ℕ) → (setAnswer (readSet s) ≡ Good n)
+    ↔ ((0 < length s) × (n ≡ getD s 0 0) × ((k : ℕ) → k < n → (c : Code) × (recordOf s k ≡ done c))
+    × (offsetOf s n ≡ length s))
+set-count = Rattle.set_check.proofs.Orders.set-count
+
+-- The eight numbers of a record that passes, with room for eight; else the record's refusal, then 13.
+pub info-numbers : (rec : List ℕ) (room : ℕ) → ((ns : List ℕ) → (infoUnder rec room ≡ done ns)
+    ↔ ((c : Code) × (parse rec ≡ done c) × (8 ≤ room)
+    × (c .p ∷ c .q ∷ (length (c .table) - 1) ∷ c .window .memory ∷ c .window .lookahead ∷ length (c .constraint)
+    ∷ c .start ∷ c .tail ∷ [] ≡ ns))) × ((r : Refusal) → (infoUnder rec room ≡ refused r)
+    ↔ ((parse rec ≡ refused r) ⊎ ((c : Code) × (parse rec ≡ done c) × First (check ShortOutput (8 ≤ room) ∷ []) r)))
+info-numbers rec room = (Rattle.info.proofs.Calls.info-done rec room, Rattle.info.proofs.Calls.info-refused rec room)
+
+-- The words of a number with room for them, else 13; they are at most 60 bytes, and none for 0 and from 17 on.
+pub phrase-words : (n room : ℕ)
+    → ((ws : List ℕ) → (phraseInto n room ≡ done ws) ↔ ((length (wordsOf n) ≤ room) × (wordsOf n ≡ ws)))
+    × ((r : Refusal) → (phraseInto n room ≡ refused r) ↔ First (check ShortOutput (length (wordsOf n) ≤ room) ∷ []) r)
+    × (length (wordsOf n) ≤ 60) × ((wordsOf n ≡ []) ↔ ((n ≡ 0) ⊎ (16 < n)))
+phrase-words n room = (
+  Rattle.info.proofs.Calls.phrase-done n room,
+  Rattle.info.proofs.Calls.phrase-refused n room,
+  Rattle.view_refusals.proofs.Rows.words-short n,
+  Rattle.view_refusals.proofs.Rows.words-none n,
+)
+
+-- Another tail datum is written exactly if the record passes, it is below 2^p and there is room; else refusal, 7, 13.
+pub with-tail : (rec : List ℕ) → Below 256 rec → (k room : ℕ) → ((out : List ℕ) → (closedWith rec k room ≡ done out)
+    ↔ ((c : Code) × (parse rec ≡ done c) × (k < 2 ^ c .p) × (length rec ≤ room) × (pack (withTail c k) ≡ out)))
+    × ((r : Refusal) → (closedWith rec k room ≡ refused r) ↔ ((parse rec ≡ refused r)
+    ⊎ ((c : Code) × (parse rec ≡ done c)
+    × First (check Field (k < 2 ^ c .p) ∷ check ShortOutput (length rec ≤ room) ∷ []) r)))
+with-tail rec b k room = (
+  Rattle.record_tail.proofs.Calls.closed-done rec b k room,
+  Rattle.record_tail.proofs.Calls.closed-refused rec b k room,
+)
+
+-- A result's word has number 0 and its length, a refusal's its number, 1 to 16, and place; words tell answers apart.
+pub answer-words : ((xs : List ℕ) → let w = wordOf (answerOf (done xs)) in
+    (w / 2 ^ 56 ≡ 0) × (w % 2 ^ 56 ≡ held (length xs))) × ((r : Refusal) → let w = wordOf (answerOf (refused r)) in
+    (w / 2 ^ 56 ≡ numberOf r) × (w % 2 ^ 56 ≡ held (placeOf r)) × (1 ≤ numberOf r) × (numberOf r ≤ 16))
+    × ((a b : Answer) → answerValue a < 2 ^ 56 → answerValue b < 2 ^ 56 → wordOf a ≡ wordOf b → a ≡ b)
+answer-words = (
+  Rattle.word.proofs.Words.word-done,
+  Rattle.word.proofs.Words.word-refused,
+  Rattle.word.proofs.Words.words-apart,
+)
+
+-- The word of a set has number 0 and the count of a good set, or the refusal's number and that of the record.
+pub set-words : ((n : ℕ) → (setWordOf (Good n) / 2 ^ 56 ≡ 0) × (setWordOf (Good n) % 2 ^ 56 ≡ held n))
+    × ((i : ℕ) (r : Refusal) → (setWordOf (Bad i r) / 2 ^ 56 ≡ numberOf r) × (setWordOf (Bad i r) % 2 ^ 56 ≡ held i))
+set-words = Rattle.sbc.proofs.Words.set-words
+
+-- A result fills the output from its first byte and leaves the bytes past its end; a refusal leaves all as lent.
+pub outputs : (out : List ℕ) → ((xs : List ℕ) → (take (length xs) (outputOf (done xs) out) ≡ xs)
+    × (drop (length xs) (outputOf (done xs) out) ≡ drop (length xs) out))
+    × ((r : Refusal) → outputOf (refused r) out ≡ out)
+outputs = Rattle.answer.proofs.Answered.output-bytes

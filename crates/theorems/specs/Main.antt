@@ -20,7 +20,7 @@ use Rattle.table.specs.declared.Table.{Table}
 use Rattle.table.specs.Rows.{Size, Code}
 use Rattle.table.specs.Paths.{Blocks, recording}
 use Rattle.table.specs.Value.{codeIn}
-use Rattle.table.specs.Formed.{formed, Formed}
+use Rattle.table.specs.Formed.{Formed}
 use Rattle.window.specs.Window.{Window, NoLater}
 use Rattle.record_obeys.specs.Obeys.{Obeys, Breaks}
 use Rattle.record.specs.Layout.{pack}
@@ -123,20 +123,20 @@ compiled-passes = Rattle.compile.proofs.Written.passes
 
 -- The checker accepts exactly the tables whose every recording obeys and whose every window settles its block.
 pub checker-exact : (xs : List ℕ) → Below 256 xs → (checkedOnly xs ≡ done [])
-    ↔ ((c : Code) × T (formed c) × (pack c ≡ xs) × Rattle.record_check.specs.Accepted.Accepted c)
+    ↔ ((c : Code) × Formed c × (pack c ≡ xs) × Rattle.record_check.specs.Accepted.Accepted c)
 checker-exact = Rattle.record_check.proofs.Accepted.check-exact
 
 -- A record's refusals: 8 below five bytes, 7, 8, 7; 9 exactly if a recording disobeys, 10 exactly if the window fails.
 pub record-order : (xs : List ℕ) → Below 256 xs → Rattle.record_check.specs.Reasons.Reason xs (parse xs)
-    × ((parse xs ≡ refused Disobeys) ↔ ((c : Code) × T (formed c) × (pack c ≡ xs) × Breaks c))
+    × ((parse xs ≡ refused Disobeys) ↔ ((c : Code) × Formed c × (pack c ≡ xs) × Breaks c))
     × ((parse xs ≡ refused WindowFails)
-    ↔ ((c : Code) × T (formed c) × (pack c ≡ xs) × Obeys c × (Window (c .table) (c .window) → ⊥)))
+    ↔ ((c : Code) × Formed c × (pack c ≡ xs) × Obeys c × (Window (c .table) (c .window) → ⊥)))
 record-order = Rattle.record_check.proofs.Meanings.order
 
 -- A record is read as it was written, up to refusals 9 and 10, and written as it was read.
-pub records : ((c : Code) → T (formed c) → parse (pack c) ≡ judged c)
+pub records : ((c : Code) → Formed c → parse (pack c) ≡ judged c)
     × ((xs : List ℕ) → Below 256 xs → (c : Code) → parse xs ≡ done c → pack c ≡ xs)
-records = (Rattle.record_check.proofs.Parse.parse-pack, Rattle.record_check.proofs.Accepted.parse-canonical)
+records = (Rattle.record_check.proofs.Parse.pack-judged, Rattle.record_check.proofs.Accepted.parse-canonical)
 
 -- Under an accepted record good blocks and room give their recording, N + a words for N blocks.
 pub encodes : (rec : List ℕ) (c : Code) → parse rec ≡ done c → (room : ℕ) (ds : List ℕ) → Blocks c ds
