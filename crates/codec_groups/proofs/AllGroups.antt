@@ -6,10 +6,10 @@ use Rattle.laws.proofs.All.{ℕ-discrete, decLt, ltb-true, length, getD, set, l
 use Rattle.laws.proofs.All.{getD-set-other, replicate, length-replicate}
 use Rattle.table.specs.Edges.{Arrays, Fits, places, wordOf}
 use Rattle.table.proofs.Edges.{bears-edge, bears-word}
-use Rattle.codec_groups.specs.Groups.{targetsAt, Within, Grouped}
+use Rattle.codec_groups.specs.Groups.{targetsAt, Within, haveAt, Sources, Grouped}
 use Rattle.codec_groups.specs.Counts.{count, before}
 use Rattle.codec_groups.proofs.Counts.{before-more, before-zero, before-le}
-use Rattle.codec_groups.proofs.WordGroups.{GroupOf, OfWord, word-same}
+use Rattle.codec_groups.proofs.WordGroups.{GroupOf, OfWord, word-same, sources-same}
 
 -- the groups of the words below v stand below k, those of each word where `start` says
 pub record Laying (t : Arrays) (v k : ℕ) (start first low high : List ℕ) : Type 0 where
@@ -21,6 +21,8 @@ pub record Laying (t : Arrays) (v k : ℕ) (start first low high : List ℕ) : T
   pub rise : (w : ℕ) → w ≤ v → getD start w 0 ≤ k
   pub room : k ≤ before t v (places t)
   pub words : (w : ℕ) → w < v → OfWord t w (getD start w 0) (getD start (w + 1) 0) first low high
+  pub sources : (w : ℕ) → w < v → 2304 ≤ length low → 2304 ≤ length high
+      → Sources first (getD start w 0) (getD start (w + 1) 0) (haveAt low high w)
   pub others : (w : ℕ) → v < w → getD start w 0 ≡ 0
 
 zeros : (n w : ℕ) → _≡_ {A = ℕ} (getD (replicate n 0) w 0) 0
@@ -40,6 +42,7 @@ laying-start t first low high b c d = record {
   rise = λ w h. omega (arith, zeros 257 w);
   room = omega (arith, before-zero t (places t));
   words = λ w h. absurd (omega arith);
+  sources = λ w h. absurd (omega arith);
   others = λ w h. zeros 257 w;
 }
 
@@ -53,8 +56,10 @@ module _ (t : Arrays) (v k : ℕ) (start first low high : List ℕ) (y : Laying 
       → length l ≡ length low → length h ≡ length high → OfWord t v k (k + m) f l h
       → ((j : ℕ) → j < k → getD f j 0 ≡ getD first j 0)
       → ((j : ℕ) → j < k → targetsAt l h j ≡ targetsAt low high j)
+      → (2304 ≤ length low → 2304 ≤ length high → Sources f k (k + m) (haveAt l h v))
+      → ((w : ℕ) → w < v → haveAt l h w ≡ haveAt low high w)
       → Laying t (v + 1) (k + m) (set start (v + 1) (k + m)) f l h
-  laying-more b m few f l h a c d o p q = record {
+  laying-more b m few f l h a c d o p q s r = record {
     startLong = length-set start (v + 1) (k + m) ∙ y .startLong;
     firstLong = a;
     lowLong = omega (arith, c, y .lowLong);
@@ -63,6 +68,7 @@ module _ (t : Arrays) (v k : ℕ) (start first low high : List ℕ) (y : Laying 
     rise = λ w i. at-rise w i (ℕ-discrete w (v + 1));
     room = omega (arith, y .room, before-more t v (places t));
     words = λ w i. at-word w i (ℕ-discrete w v);
+    sources = λ w i y z. at-sources w i (omega (arith, c)) (omega (arith, d)) (ℕ-discrete w v);
     others = λ w i. getD-set-other start (v + 1) w (k + m) 0 (λ e. omega arith) ∙ y .others w (omega arith);
   }
     where
@@ -89,6 +95,20 @@ module _ (t : Arrays) (v k : ℕ) (start first low high : List ℕ) (y : Laying 
           (word-same t w (getD start w 0) (getD start (w + 1) 0) first low high f l h (y .words w n)
           (λ j z. p j (omega arith)) (λ j z. q j (omega arith)))
 
+      at-sources : (w : ℕ) → w < v + 1 → 2304 ≤ length low → 2304 ≤ length high → Dec (w ≡ v)
+          → Sources f (getD (set start (v + 1) (k + m)) w 0) (getD (set start (v + 1) (k + m)) (w + 1) 0) (haveAt l h w)
+      at-sources w i x z (yes e) =
+          subst (λ u. Sources f (getD (set start (v + 1) (k + m)) u 0) (getD (set start (v + 1) (k + m)) (u + 1) 0)
+          (haveAt l h u)) (sym e)
+          (subst₂ (λ from to. Sources f from to (haveAt l h v)) (sym (old v (omega arith) ∙ y .last)) (sym new) (s x z))
+      at-sources w i x z (no e) =
+          let n : w < v = omega arith in
+          let g = y .rise (w + 1) (omega arith) in
+          subst₂ (λ from to. Sources f from to (haveAt l h w)) (sym (old w (omega arith)))
+          (sym (old (w + 1) (omega arith)))
+          (sources-same first f (getD start w 0) (getD start (w + 1) 0) (haveAt low high w) (haveAt l h w) (r w n)
+          (y .sources w n x z) (λ j u. p j (omega (arith, g))))
+
 -- the groups of all words, where none from v on is in use
 pub laid : (t : Arrays) (v k : ℕ) (start first low high : List ℕ) → Fits t → v ≤ 256
     → ((e : ℕ) → e < places t → e % 16 < t .ways → wordOf t e < v) → Laying t v k start first low high
@@ -105,6 +125,7 @@ laid t v k start first low high g few bound y = record {
       let (j, a, b, r) = y .words w (omega (arith, bound e l (ltb-true _ _ (bears-edge t w e q)))) .whole e l q in
       (j, (h, a, b), r);
   targets = λ w j u i. group w j i .targets u;
+  sources = λ w j i. y .sources w (used w j i);
 }
   where
     fits : (w : ℕ) → Dec (w < v) → getD start (w + 1) 0 ≤ places t

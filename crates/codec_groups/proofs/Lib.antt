@@ -5,3 +5,4 @@ pub mod Puts
 pub mod WordGroups
 pub mod AllGroups
 pub mod ReadyWords
+pub mod Ranks

@@ -24,7 +24,7 @@ put-made first low high k e l h a b c = record {
 
 -- ---- the groups of the first members
 -- of the list `states` the part `left` is still to come, s is its first or 128; the groups of the others stand below k,
--- and those below `at` are as they were
+-- and those below `at` and the sets after all groups are as they were
 pub record Putting (first low high : List ℕ) (at : ℕ) (states : List ℕ) (edgeOf : ℕ → ℕ) (sets left : List ℕ)
     (s k : ℕ) (f l h : List ℕ) : Type 0 where
   pub begun : at ≤ k
@@ -37,6 +37,7 @@ pub record Putting (first low high : List ℕ) (at : ℕ) (states : List ℕ) (e
   pub targets : (j : ℕ) → at + j < k → targetsAt l h (at + j) ≡ setAt sets (getD states j 0)
   pub edges : (j : ℕ) → j < at → getD f j 0 ≡ getD first j 0
   pub others : (j : ℕ) → j < at → targetsAt l h j ≡ targetsAt low high j
+  pub after : (j : ℕ) → 2048 ≤ j → targetsAt l h j ≡ targetsAt low high j
 
 module _ (first low high : List ℕ) (at : ℕ) (states : List ℕ) (edgeOf : ℕ → ℕ) (sets : List ℕ) where
   -- no group yet
@@ -55,6 +56,7 @@ module _ (first low high : List ℕ) (at : ℕ) (states : List ℕ) (edgeOf : �
         targets = λ j h. absurd (omega arith);
         edges = λ j h. refl;
         others = λ j h. refl;
+        after = λ j h. refl;
       }
 
   module _ (left : List ℕ) (s k : ℕ) (f l h : List ℕ)
@@ -80,10 +82,11 @@ module _ (first low high : List ℕ) (at : ℕ) (states : List ℕ) (edgeOf : �
     putting-some q = omega (arith, putting-at q .0, ap length (p .rest), length-drop (k - at) states)
 
     -- the next group written
-    pub putting-more : (left′ : List ℕ) (s′ e : ℕ) (S : BitSet) (f′ l′ h′ : List ℕ) → s < 128 → left′ ≡ drop 1 left
+    pub putting-more : (left′ : List ℕ) (s′ e : ℕ) (S : BitSet) (f′ l′ h′ : List ℕ) → s < 128 → k < 2048
+        → left′ ≡ drop 1 left
         → s′ ≡ getD left′ 0 128 → e ≡ edgeOf s → S ≡ setAt sets s → Put f l h k e S f′ l′ h′
         → Putting first low high at states edgeOf sets left′ s′ (k + 1) f′ l′ h′
-    putting-more left′ s′ e S f′ l′ h′ q d t x y w = record {
+    putting-more left′ s′ e S f′ l′ h′ q r d t x y w = record {
       begun = omega (arith, p .begun);
       rest = d ∙ ap (drop 1) (p .rest) ∙ drop-drop 1 (k - at) states ∙ ap (λ i. drop i states) up;
       lowest = t;
@@ -94,6 +97,7 @@ module _ (first low high : List ℕ) (at : ℕ) (states : List ℕ) (edgeOf : �
       targets = λ j b. at-targets j b (ℕ-discrete (at + j) k);
       edges = λ j b. w .edges j (λ z. omega (arith, p .begun)) ∙ p .edges j b;
       others = λ j b. w .others j (λ z. omega (arith, p .begun)) ∙ p .others j b;
+      after = λ j b. w .others j (λ z. omega arith) ∙ p .after j b;
     }
       where
         up : k - at + 1 ≡ k + 1 - at
@@ -125,6 +129,7 @@ module _ (first low high : List ℕ) (at : ℕ) (states : List ℕ) (edgeOf : �
       targets = λ j b. p .targets j (omega (arith, p .begun, done));
       edges = p .edges;
       others = p .others;
+      after = p .after;
     }
       where
         done : length states ≤ k - at

@@ -1,6 +1,6 @@
 -- The groups of one word, as the code writes them.
 -- In order: GroupOf, one group; targets-same, member-source, member-group, the group of one state; states-few, no more
--- states than edges; OfWord, word-laid, word-same, the groups of one word.
+-- states than edges; OfWord, word-laid, word-sources, word-same, sources-same, the groups of one word.
 -- Assumes nothing.
 use Rattle.laws.proofs.All.{_≡_, refl, sym, ap, ap₂, subst, subst₂, _∙_, Bool, true, false, not, _&&_, and-false}
 use Rattle.laws.proofs.All.{List, ℕ}
@@ -14,7 +14,8 @@ use Rattle.bitsets.specs.declared.BitSet.{BitSet}
 use Rattle.bitsets.specs.BitSets.{placesOf, valueOf, holds, membersOf, setAt}
 use Rattle.bitsets.proofs.Sets.{members-rising, members-find, members-hold}
 use Rattle.table_words.specs.Gathered.{leaves, besideFrom, besideTo, Gathered}
-use Rattle.codec_groups.specs.Groups.{goesTo, hasAt, firstEdge, targetsAt, sourceAt, PutAll}
+use Rattle.codec_groups.specs.Groups.{goesTo, hasAt, firstEdge, targetsAt, sourceAt, haveAt}
+use Rattle.codec_groups.specs.Groups.{Sources, PutAll, PutHave}
 use Rattle.codec_groups.specs.Counts.{count}
 use Rattle.codec_groups.proofs.Counts.{members-count}
 use Rattle.codec_groups.proofs.FirstEdges.{Least, edge-least}
@@ -172,6 +173,18 @@ module _ (t : Arrays) (g : Fits t) (w : ℕ) (have : BitSet) (sets : List ℕ) (
   pub word-laid : (m : ℕ) → m ≡ length (membersOf have) → OfWord t w at (at + m) f l h
   word-laid m e = subst (λ x. OfWord t w at (at + x) f l h) (sym e) groups-laid
 
+  -- the states that have the word, written after the groups, are those of its groups
+  pub word-sources : (m : ℕ) → m ≡ length (membersOf have) → (l′ h′ : List ℕ) → PutHave l h w have l′ h′
+      → 2304 ≤ length low → 2304 ≤ length high → Sources f at (at + m) (haveAt l′ h′ w)
+  word-sources m e l′ h′ H x y =
+      subst (Sources f at (at + m))
+      (sym (H .here (omega (arith, P .lowLong)) (omega (arith, P .highLong)))) (
+        ap (λ n. at + n) (sym e),
+        λ j b.
+            let i : at + j - at ≡ j = omega arith in
+            source-at (at + j) (omega arith) (omega arith) ∙ ap (λ n. getD (membersOf have) n 0) i,
+      )
+
 -- the same groups in arrays that are the same below their end
 pub word-same : (t : Arrays) (w at end : ℕ) (first low high f l h : List ℕ) → OfWord t w at end first low high
     → ((j : ℕ) → j < end → getD f j 0 ≡ getD first j 0)
@@ -186,3 +199,9 @@ word-same t w at end first low high f l h o p q = record {
       let (k, a, c, z) = o .whole e b r in
       (k, a, c, ap (λ e. e / 16) (p k c) ∙ z);
 }
+
+-- and the same states
+pub sources-same : (first f : List ℕ) (at end : ℕ) (S R : BitSet) → R ≡ S → Sources first at end S
+    → ((j : ℕ) → j < end → getD f j 0 ≡ getD first j 0) → Sources f at end R
+sources-same first f at end S R e (a, b) p =
+    subst (Sources f at end) (sym e) (a, λ j c. ap (λ x. x / 16) (p (at + j) (omega (arith, a, c))) ∙ b j c)

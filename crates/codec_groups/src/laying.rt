@@ -7,6 +7,7 @@ ghost use Rattle.table.specs.Edges.{borrowed, Fits};
 ghost use Rattle.bitsets.specs.BitSets.{holds, membersOf};
 ghost use Rattle.codec_groups.specs.Groups.{firstEdge, Grouped, PutAll};
 use crate::put_group;
+use crate::put_have;
 use bitsets::BitSet;
 use bitsets::count;
 use bitsets::lowest;
@@ -104,6 +105,7 @@ pub fn lay(
     while w < words {
         let have = gather(states, n, word, next, &head, &link, w, 16, &mut targets);
         put_groups(n, word, w, k, have, &targets, first, low, high);
+        put_have(w, have, low, high);
         k += count(have) as usize;
         w += 1;
         start[w] = k as u16;

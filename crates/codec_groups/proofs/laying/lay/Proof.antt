@@ -4,7 +4,8 @@ use Rattle.laws.proofs.All.{pow-mono, needs}
 use Rattle.table.specs.Edges.{Arrays, arrays, places, Linked}
 use Rattle.bitsets.specs.BitSets.{membersOf}
 use Rattle.codec_groups.specs.Counts.{count}
-use Rattle.codec_groups.proofs.WordGroups.{member-group, states-few, word-laid}
+use Rattle.codec_groups.proofs.WordGroups.{member-group, states-few, word-laid, word-sources}
+use Rattle.codec_groups.proofs.WordGroups.{word-same}
 use Rattle.codec_groups.proofs.AllGroups.{Laying, laying-start, laying-room, laying-more, laid}
 use Rattle.codec_groups.proofs.laying.lay.Statement.{statement}
 use Rattle.codec_groups.proofs.laying.lay.Tie as tie
@@ -84,9 +85,18 @@ put-groups-requires c κs =
       omega (arith, room g, l .inv .5 .highLong),
     )
 
+put-have-requires : tie.Need-put-have-requires Inv-loop μ-loop
+put-have-requires c κs =
+    let i = turn (c .before .before .before .before .before .before .before .before .before .before .before) in
+    omega (arith, i .loop-test .taken, i .before .loop .inv .2)
+
+-- where its groups are written
+abbrev put : tie.After-count Inv-loop μ-loop → tie.After-put-groups Inv-loop μ-loop
+put c = c .before .before .before .before .before .before .before .before .before .before .before .before
+
 -- where the set of the states that have the word is found
 abbrev gathered : tie.After-count Inv-loop μ-loop → tie.After-gather Inv-loop μ-loop
-gathered c = c .before .before .before .before .before .before .before .before .before .before
+gathered c = put c .before .before .before .before .before
 
 fits : (c : tie.After-count Inv-loop μ-loop) → turn (gathered c) .before .loop .k + c .count .result ≤ 2048
 fits c =
@@ -105,18 +115,26 @@ loop-again c =
     let l = i .before .loop in
     let s = begin (i .before) in
     let G = g .gather .ensures in
-    let P = c .before .before .before .before .before .put-groups .ensures in (
+    let P = put c .put-groups .ensures in
+    let H = c .before .before .before .before .before .put-have .ensures in
+    let away : (j : ℕ) → j < 2048 → (j ≡ 2048 + l .w → ⊥) = λ j b e. omega arith in (
       omega (arith, below c),
       l .inv .1,
       l .inv .2,
       G .long,
       l .inv .4,
       laying-more _ _ _ _ _ _ _ (l .inv .5) (below c) (c .count .result)
-          (omega (arith, few g, c .count .ensures)) _ _ _ (P .firstLong) (P .lowLong) (P .highLong)
+          (omega (arith, few g, c .count .ensures)) _ _ _ (P .firstLong) (H .lowLong ∙ P .lowLong)
+          (H .highLong ∙ P .highLong)
+          (word-same (table s) (l .w) (l .k) (l .k + c .count .result) _ _ _ _ _ _
           (word-laid (table s) (s .pre .0) (l .w) (g .gather .result) _ G _ _ _ (l .k) _ _ _ P (c .count .result)
-          (c .count .ensures)) (P .edges) (P .others),
-      P .lowLong ∙ l .inv .6,
-      P .highLong ∙ l .inv .7,
+          (c .count .ensures)) (λ j b. refl) (λ j b. H .others j (away j (omega (arith, fits c)))))
+          (P .edges) (λ j b. H .others j (away j (omega (arith, fits c))) ∙ P .others j b)
+          (word-sources (table s) (s .pre .0) (l .w) (g .gather .result) _ G _ _ _ (l .k) _ _ _ P (c .count .result)
+          (c .count .ensures) _ _ H)
+          (λ v b. H .others (2048 + v) (λ e. omega arith) ∙ P .after (2048 + v) (omega arith)),
+      H .lowLong ∙ P .lowLong ∙ l .inv .6,
+      H .highLong ∙ P .highLong ∙ l .inv .7,
     )
 
 returns : tie.Need-returns Inv-loop μ-loop
@@ -132,6 +150,6 @@ lay-spec =
     tie.close
     (tie.spec
     Inv-loop μ-loop (λ c κs. search needs) (λ c κs. search needs) loop-holds gather-requires put-groups-requires
-    (λ c κs. search needs) (λ c. omega (arith, fits c)) (λ c. omega (arith, fits c)) (λ c. omega (arith, below c))
+    put-have-requires (λ c κs. search needs) (λ c. omega (arith, fits c)) (λ c. omega (arith, fits c)) (λ c. omega (arith, below c))
     (λ c. omega (arith, fits c)) (λ c. search needs) (λ c. omega (arith, below c)) (λ c. omega (arith, below c))
     loop-again (λ c. c .before .loop .inv .6) (λ c. c .before .loop .inv .7) returns)

@@ -74,7 +74,7 @@ loop-again c =
     let p = c .before .before .before .before .before .before in
     let i = turn p in
     let g = p .before .before .before .before in
-    putting-more _ _ _ _ _ _ _ _ _ _ _ _ _ (i .before .loop .inv) _ _ _ _ _ _ _ (i .loop-test .taken)
+    putting-more _ _ _ _ _ _ _ _ _ _ _ _ _ (i .before .loop .inv) _ _ _ _ _ _ _ (i .loop-test .taken) (room i)
     (c .before .rest .ensures) (c .lowest2 .ensures) (g .before .first-edge .ensures) (g .set-at .ensures)
     (p .put-group .ensures)
 
