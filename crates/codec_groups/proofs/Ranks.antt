@@ -1,11 +1,11 @@
 -- The groups of one word by the states that have it: the group of a state stands as many places after the first as
 -- there are states below it that have the word.
--- In order: below-members, group-counted; places-up, groups-members; group-source; groups-of, the groups of the
+-- In order: below-members, group-counted; places-up, groups-members; group-source, group-below; groups-of, the groups of the
 -- states of a set.
 -- Assumes nothing.
 use Rattle.laws.proofs.All.{_≡_, refl, sym, ap, ap₂, _∙_, Bool, true, false, _&&_, and-true, and-false, List, []}
 use Rattle.laws.proofs.All.{_∷_, _++_, append-nil, map, ℕ, zero, suc, _+_, _-_, _/_, _≤_, _<_, add-one, add-zero}
-use Rattle.laws.proofs.All.{not-suc-le-zero, le-of-suc-le-suc, arith, lt-ltb, le-ltb, ltb, length, getD}
+use Rattle.laws.proofs.All.{not-suc-le-zero, le-of-suc-le-suc, arith, lt-ltb, le-ltb, T, ltb, length, getD}
 use Rattle.laws.proofs.All.{length-append, if_then_else_, from, range, filter, Each, each-range, each-map}
 use Rattle.laws.proofs.All.{each-always, filter-append, filter-same, filter-map, filter-never, filter-fuse}
 use Rattle.laws.proofs.All.{range-more, getD-map-lt}
@@ -13,6 +13,7 @@ use Rattle.laws.proofs.Tests.{getD-from}
 use Rattle.laws.proofs.Ranges.{from-append}
 use Rattle.bitsets.specs.declared.BitSet.{BitSet}
 use Rattle.bitsets.specs.BitSets.{bitAt, placesOf, valueOf, holds, membersOf}
+use Rattle.bitsets.proofs.Sets.{members-find}
 use Rattle.codec_groups.specs.Groups.{sourceAt, Sources, groupOf}
 
 -- ---- the members below a state, counted
@@ -106,9 +107,11 @@ module _ (first : List ℕ) (at end : ℕ) (H : BitSet) (g : Sources first at en
       each-getD (λ s. sourceAt first (groupOf at H s) ≡ s) (membersOf H)
       (λ j b. ap (sourceAt first) (group-at j b) ∙ g .1 j b)
 
-  pub group-inside : Each (λ s. groupOf at H s < end) (membersOf H)
-  group-inside =
-      each-getD (λ s. groupOf at H s < end) (membersOf H) (λ j b. omega (arith, group-at j b, g .0))
+  -- the group of a state of the set is one of them
+  pub group-below : (s : ℕ) → s < 128 → T (holds H s) → groupOf at H s < end
+  group-below s l h =
+      let (j, b, e) = members-find H s l h in
+      omega (arith, ap (groupOf at H) (sym e) ∙ group-at j b, b, g .0)
 
   -- the members of one set that are in another
   members-meet : (q : ℕ → Bool) (d n m : ℕ) → ((x : ℕ) → bitAt m x ≡ (bitAt n x && q x))

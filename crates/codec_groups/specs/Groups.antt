@@ -1,7 +1,8 @@
 -- The edges of a table by word as sets: for each word its groups, one for each state that has it, in rising order.
 -- In order: goesTo; hasAt, firstEdge; targetsAt, sourceAt, a group; Within, a group of a word; haveAt, Sources, the
 -- states that have a word; Grouped, a table with all its groups; Put, PutAll, PutHave, one group written, those of one
--- word, and the states that have it; between; stepsTo, leadsInto, one group in a step forward and back; groupOf.
+-- word, and the states that have it; between; stepsTo, leadsInto, one group in a step forward and back; groupOf,
+-- memberTo, the group of a state.
 -- Assumes nothing.
 use mathlib.Core.Path.{_≡_}
 use mathlib.Core.Bool.{Bool, true, false, _&&_}
@@ -112,3 +113,7 @@ leadsInto first low high S s k = meeting 128 (targetsAt low high k) S && eqb (so
 -- the group of the state s, where those of the states of S stand from `at` on
 unfoldable pub groupOf : ℕ → BitSet → ℕ → ℕ
 groupOf at S s = at + length (filter (holds S) (range s))
+
+-- the group of the state s leads to u
+abbrev pub memberTo : List ℕ → List ℕ → ℕ → BitSet → ℕ → ℕ → Bool
+memberTo low high at S u s = holds (targetsAt low high (groupOf at S s)) u

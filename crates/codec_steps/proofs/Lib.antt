@@ -3,3 +3,4 @@ pub mod SetSteps
 pub mod GroupTurns
 pub mod StateWords
 pub mod Readings
+pub mod Shorter

@@ -1,17 +1,19 @@
 -- A set of states stepped by a word along the groups of the word, forward and back.
--- In order: group-edge, edge-group, a group and its edges; step→ to →back; step-bits, back-bits.
+-- In order: group-edge, edge-group, a group and its edges; step→ to →back; step-bits, step-members, back-bits.
 -- Assumes nothing.
-use Rattle.laws.proofs.All.{_≡_, sym, subst, _∙_, true, _&&_, List, ℕ, _+_, _/_, _<_, arith, T, eqb, eqb→eq, eqb-refl}
-use Rattle.laws.proofs.All.{getD, and→, →and, T→true, bool-eq}
+use Rattle.laws.proofs.All.{_≡_, sym, ap, subst, _∙_, true, _&&_, List, map, ℕ, _+_, _-_, _/_, _<_, arith, T, eqb, eqb→eq}
+use Rattle.laws.proofs.All.{eqb-refl, getD, from, filter, any, any-filter, any-map, and→, →and, T→true, bool-eq}
 use Rattle.table.specs.Marks.{some}
 use Rattle.table.specs.Edges.{Arrays, rowsOf, places, nextOf, bears}
 use Rattle.table.proofs.Marks.{found, some-at}
 use Rattle.table.proofs.Edges.{bears-edge}
 use Rattle.bitsets.specs.declared.BitSet.{BitSet}
-use Rattle.bitsets.specs.BitSets.{holds, yesNo, meeting}
+use Rattle.bitsets.specs.BitSets.{holds, membersOf, yesNo, meeting}
 use Rattle.bitsets.proofs.Sets.{meeting→, →meeting}
 use Rattle.codec_groups.specs.Groups.{goesTo, targetsAt, sourceAt, Within, Grouped, between, stepsTo, leadsInto}
+use Rattle.codec_groups.specs.Groups.{Sources, groupOf, memberTo}
 use Rattle.codec_groups.proofs.Between.{between→, →between}
+use Rattle.codec_groups.proofs.Ranks.{groups-of}
 use Rattle.codec_steps.specs.StateSets.{along, back}
 use Rattle.codec_steps.proofs.StateSteps.{leadsAt, along-places, entersAt, back-places}
 
@@ -98,6 +100,27 @@ step-bits t start first low high g S R w hw h =
     ∙ bool-eq (between (stepsTo first low high S u) (getD start w 0) (getD start (w + 1) 0))
     (some (leadsAt t S w u) (places t)) (step→ t start first low high g w S hw u)
     (→step t start first low high g w S hw u))
+
+-- the same by members: a set of the targets of the groups of the states of S that have the word, these being H
+members-step : (start first low high : List ℕ) (S H B : BitSet) (w u : ℕ)
+    → Sources first (getD start w 0) (getD start (w + 1) 0) H → ((x : ℕ) → holds B x ≡ (holds H x && holds S x))
+    → any (memberTo low high (getD start w 0) H u) (membersOf B)
+    ≡ between (stepsTo first low high S u) (getD start w 0) (getD start (w + 1) 0)
+unfolding between
+members-step start first low high S H B w u g h =
+    let i = getD start w 0 in
+    let j = getD start (w + 1) 0 in
+    sym (any-map (λ k. holds (targetsAt low high k) u) (groupOf i H) (membersOf B))
+    ∙ ap (any (λ k. holds (targetsAt low high k) u)) (sym (groups-of first i j H g S B h))
+    ∙ any-filter (λ k. holds (targetsAt low high k) u) (λ k. holds S (sourceAt first k)) (from i (j - i))
+
+pub step-members : (t : Arrays) (start first low high : List ℕ) → Grouped t start first low high
+    → (S H B R : BitSet) (w : ℕ) → w < 256 → Sources first (getD start w 0) (getD start (w + 1) 0) H
+    → ((x : ℕ) → holds B x ≡ (holds H x && holds S x))
+    → ((u : ℕ) → holds R u ≡ any (memberTo low high (getD start w 0) H u) (membersOf B))
+    → yesNo (t .states) R ≡ along (rowsOf t) (yesNo (t .states) S) w
+step-members t start first low high g S H B R w hw q h r =
+    step-bits t start first low high g S R w hw (λ u. r u ∙ members-step start first low high S H B w u q h)
 
 -- back: a set of the states of the groups that lead into S
 pub back-bits : (t : Arrays) (start first low high : List ℕ) → Grouped t start first low high → (S R : BitSet) (w : ℕ)
