@@ -3,3 +3,4 @@ pub mod FirstReading
 pub mod GroupReading
 pub mod GroupMarks
 pub mod Windowed
+pub mod MemberSearch

@@ -1,7 +1,7 @@
 -- The window of a block as the code cuts it.
--- In order: past-start, past-later, past-set; block-datum, block-mark, the block by its readings.
+-- In order: past-start, past-later, past-set; block-read, the block by its readings.
 -- Assumes nothing.
-use Rattle.laws.proofs.All.{_≡_, sym, ap, ap₂, _∙_, Bool, List, [], ℕ, _+_, _-_, _≤_, _<_, arith, decLt, lt-ltb}
+use Rattle.laws.proofs.All.{_≡_, sym, ap, ap₂, _∙_, Bool, List, ℕ, _+_, _-_, _≤_, _<_, arith, decLt, lt-ltb}
 use Rattle.laws.proofs.All.{le-ltb, eqb, ltb, getD, take, drop, slice, if_then_else_, drop-take}
 use Rattle.table.specs.Rows.{Rows}
 use Rattle.table.specs.Edges.{Arrays, rowsOf, Fits}
@@ -49,19 +49,7 @@ past-set t g m a ws i R k one all e P q = q ∙ go (decLt i m)
 
 module _ (t : Rows) (m a : ℕ) (ws : List ℕ) (i : ℕ) (P A : List Bool) (p : P ≡ past (under t m a) ws i)
     (q : A ≡ able t (slice (i + 1) (i + 1 + a) ws)) where
-  abbrev mark : ℕ
-  mark = markFor t P (getD ws i 0)
-
-  cut : getD (readings t P (getD ws i 0) A) 0 mark ≡ block (under t m a) ws i
-  cut =
+  pub block-read : getD (readings t P (getD ws i 0) A) 0 (markFor t P (getD ws i 0)) ≡ block (under t m a) ws i
+  block-read =
       ap₂ (λ S B. getD (readings t S (getD ws i 0) B) 0 (markFor t S (getD ws i 0))) p
       (q ∙ ap (able t) (drop-take (i + 1) a ws))
-
-  -- the first reading, whatever stands for none, is the block
-  pub block-datum : (v : ℕ) → ((d : ℕ) → v ≡ getD (readings t P (getD ws i 0) A) 0 d)
-      → v ≡ block (under t m a) ws i
-  block-datum v h = h mark ∙ cut
-
-  -- with no reading the block is the mark
-  pub block-mark : readings t P (getD ws i 0) A ≡ [] → (r : ℕ) → r ≡ mark → r ≡ block (under t m a) ws i
-  block-mark h r k = k ∙ sym (ap (λ l. getD l 0 mark) h) ∙ cut

@@ -8,7 +8,7 @@ ghost use lib.ListN.{length, getD};
 ghost use Rattle.table.specs.Edges.{Arrays, borrowed, rowsOf};
 ghost use Rattle.bitsets.specs.BitSets.{holds, yesNo};
 ghost use Rattle.codec_groups.specs.Groups.{sourceAt, Grouped, between};
-ghost use Rattle.codec_steps.specs.Reading.{markFor, past, block};
+ghost use Rattle.codec_steps.specs.Reading.{readings, markFor, past, block};
 ghost use Rattle.codec_steps.specs.BlockParts.{joinsAt, firstGroup, entersAt, firstInto, holdsFrom, under};
 use bitsets::BitSet;
 use bitsets::every;
@@ -20,6 +20,9 @@ use codec_groups::targets_at;
 use codec_steps::index;
 use codec_steps::readers;
 use codec_steps::step_all;
+use crate::shorter::first_shorter;
+use crate::shorter::is_large;
+use crate::shorter::past_shorter;
 use table::chains::wide;
 
 // Group k leads from a state of the one set into the other.
@@ -43,7 +46,7 @@ fn joins(
 }
 
 // The first group of the word w from the one set into the other, or 2048 where there is none.
-fn first_group(
+pub fn first_group(
     start: &[u16; 257],
     first: &[u16; 2048],
     low: &[u64],
@@ -144,7 +147,7 @@ pub fn less(i: usize, m: usize) -> usize
 }
 
 // The states from which a window of memory m starts at block i: all, or state 0 where fewer words were before.
-fn past_start(i: usize, m: usize) -> BitSet
+pub fn past_start(i: usize, m: usize) -> BitSet
     ensures answer { λ r. ⌜
         (i < m → (s : ℕ) → holds r s ≡ eqb 0 s) × (m ≤ i → (s : ℕ) → holds r s ≡ ltb s 128) ⌝ }
 {
@@ -182,6 +185,38 @@ fn past_set(
     )
 }
 
+// The datum of the first edge with the word w in group k, the first group from the past set into the set ahead, or the
+// mark where k is 2048.
+fn told(
+    n: usize,
+    word: &[u8; 2048],
+    next: &[u8; 2048],
+    start: &[u16; 257],
+    first: &[u16; 2048],
+    past: BitSet,
+    w: u8,
+    ahead: BitSet,
+    k: usize,
+) -> u8
+    requires { ⌜
+        ((states : ℕ) × (low high : List ℕ)
+        × Grouped (borrowed states n word next) (now start) (now first) low high
+        × (k ≡ firstGroup (now start) (now first) low high past w ahead)) ⌝ }
+    ensures answer { λ r. ⌜
+        ((states : ℕ) (low high : List ℕ)
+        → Grouped (borrowed states n (word .entry) (next .entry)) (now (start .entry)) (now (first .entry)) low high
+        → k ≡ firstGroup (now (start .entry)) (now (first .entry)) low high past w ahead
+        → r ≡ getD (readings (rowsOf (borrowed states n (word .entry) (next .entry))) (yesNo states past) w
+        (yesNo states ahead)) 0
+        (markFor (rowsOf (borrowed states n (word .entry) (next .entry))) (yesNo states past) w)) ⌝ }
+{
+    if k < 2048 {
+        let e = first[k] as usize;
+        return (first_into(word, next, w, ahead, e, e / 16 * 16 + n) % 16) as u8;
+    }
+    mark_for(start, first, past, w)
+}
+
 // Block i of the words, in a window of memory m and lookahead a.
 pub fn read_block(
     states: usize,
@@ -204,12 +239,14 @@ pub fn read_block(
         r ≡ block (under (rowsOf (borrowed states n (word .entry) (next .entry))) m a)
         (now (words .entry)) i ⌝ }
 {
-    let past = past_set(start, first, low, high, words, i, m);
     let ahead = readers(start, first, low, high, words, i + 1, i + 1 + a);
-    let k = first_group(start, first, low, high, past, words[i], ahead);
-    if k < 2048 {
-        let e = first[k] as usize;
-        return (first_into(word, next, words[i], ahead, e, e / 16 * 16 + n) % 16) as u8;
+    let w = words[i];
+    if is_large(states, low, high) {
+        let near = past_shorter(start, first, low, high, words, i, m);
+        let g = first_shorter(start, first, low, high, near, w, ahead);
+        return told(n, word, next, start, first, near, w, ahead, g);
     }
-    mark_for(start, first, past, words[i])
+    let past = past_set(start, first, low, high, words, i, m);
+    let k = first_group(start, first, low, high, past, w, ahead);
+    told(n, word, next, start, first, past, w, ahead, k)
 }

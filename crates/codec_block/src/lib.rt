@@ -1,2 +1,3 @@
 // The reading rule: one block from its window of words.
 pub mod blocks;
+pub mod shorter;

@@ -1,109 +1,72 @@
--- The past set, the states that can read the words ahead, the first group between them and in it the first edge, or
--- the mark.
-use Rattle.laws.proofs.All.{ℕ, _<_, arith, now, getD, needs}
+-- The states that can read the words ahead, the past set, the first group between them and in it the first edge, or the
+-- mark.
+use Rattle.laws.proofs.All.{_∙_, arith, now, needs}
 use Rattle.table.specs.Edges.{Arrays, arrays, rowsOf}
-use Rattle.bitsets.specs.declared.BitSet.{BitSet}
 use Rattle.bitsets.specs.BitSets.{yesNo}
-use Rattle.codec_groups.specs.Groups.{Within}
-use Rattle.codec_steps.proofs.GroupTurns.{edge-small}
-use Rattle.codec_block.proofs.GroupReading.{end-small, entry-next, found-within, found-datum, found-none}
-use Rattle.codec_block.proofs.Windowed.{block-datum, block-mark}
+use Rattle.codec_block.proofs.Windowed.{block-read}
 use Rattle.codec_block.proofs.blocks.read_block.Statement.{statement}
 use Rattle.codec_block.proofs.blocks.read_block.Tie as tie
 
-module _ (c : tie.After-first-group) where
+module _ (c : tie.After-is-large) where
+  abbrev reading : tie.After-readers
+  reading = c .before .before
+
   abbrev start : tie.Start
-  start = c .before .before .before .before .before .before .before
+  start = reading .before .before .before .before
 
   abbrev table : Arrays
   table = arrays (start .args .states) (start .args .n) (now (start .args .word)) (now (start .args .next))
 
-  -- the word of the block
-  abbrev word : ℕ
-  word = getD (now (start .args .words)) (start .args .i) 0
+past-shorter-requires : tie.Need-past-shorter-requires
+past-shorter-requires c κs =
+    let s = start (c .before) in
+    let (x, y) = c .before .is-large .ensures (c .if1 .taken) in
+    ((table (c .before), s .pre .0), omega (arith, s .pre .1), x, y)
 
-  abbrev past : BitSet
-  past = c .before .before .before .past-set .result
+first-shorter-requires : tie.Need-first-shorter-requires
+first-shorter-requires c κs =
+    let l = c .before .before in
+    let (x, y) = l .is-large .ensures (c .before .if1 .taken) in
+    ((table l, start l .pre .0), x, y)
 
-  abbrev ahead : BitSet
-  ahead = c .before .before .readers .result
-
--- a group is found, and it is one of the word
-within : (c : tie.Then1)
-    → Within (now (start (c .before) .args .start)) (word (c .before)) (c .before .first-group .result)
-within c =
-    let f = c .before in
-    let a = start f .args in
-    found-within (table f) (now (a .start)) (now (a .first)) (now (a .low)) (now (a .high)) (start f .pre .0) (past f)
-    (ahead f) (word f) (f .first-group .ensures .1) (f .first-group .result) (f .first-group .ensures .0)
-    (omega (arith, c .if1 .taken))
-
-edge-inside : (c : tie.Then1) → getD (now (start (c .before) .args .first)) (c .before .first-group .result) 0 < 2048
-edge-inside c =
-    let f = c .before in
-    let a = start f .args in
-    edge-small (table f) (now (a .start)) (now (a .first)) (now (a .low)) (now (a .high)) (start f .pre .0) (word f) _
-    (within c)
-
-cast-e : tie.Need-cast-e
-cast-e c = omega (arith, edge-inside (c .before))
-
-mul-first-into : tie.Need-mul-first-into
-mul-first-into c = omega (arith, edge-inside (c .before .before))
-
-add-first-into : tie.Need-add-first-into
-add-first-into c =
-    omega (arith, edge-inside (c .before .before), start (c .before .before .before) .pre .0 .fits .narrow)
-
-first-into-requires : tie.Need-first-into-requires
-first-into-requires c κs =
-    let i = c .before .before in
-    let f = i .before in
-    let a = start f .args in (
-      end-small (table f) (now (a .start)) (now (a .first)) (now (a .low)) (now (a .high)) (start f .pre .0) (past f)
-          (ahead f) (word f) (f .first-group .ensures .1) (f .first-group .result) (within i),
-      entry-next (table f) (now (a .start)) (now (a .first)) (now (a .low)) (now (a .high)) (start f .pre .0) (past f)
-          (ahead f) (word f) (f .first-group .ensures .1) (f .first-group .result) (within i),
-    )
+told-requires : tie.Need-told-requires
+told-requires c κs =
+    let s = start (c .before .before .before) in
+    (s .args .states, now (s .args .low), now (s .args .high), s .pre .0, c .first-shorter .ensures .0)
 
 returns : tie.Need-returns
 returns c =
-    let i = c .before .before .before in
-    let f = i .before in
-    let r = f .before .before in
-    let a = start f .args in
-    let t = table f in
-    let g = start f .pre .0 in
-    block-datum (rowsOf t) (a .m) (a .a) (now (a .words)) (a .i) (yesNo (t .states) (past f))
-    (yesNo (t .states) (ahead f)) (r .before .past-set .ensures t g) (r .readers .ensures t g) _
-    (found-datum t (now (a .start)) (now (a .first)) (now (a .low)) (now (a .high)) g (past f) (ahead f) (word f)
-    (f .first-group .ensures .1) (f .first-group .result) (f .first-group .ensures .0)
-    (omega (arith, i .if1 .taken)) (c .first-into .result) (c .first-into .ensures))
+    let f = c .before in
+    let p = f .before in
+    let l = p .before .before in
+    let a = start l .args in
+    let g = start l .pre .0 in
+    c .told .ensures (a .states) (now (a .low)) (now (a .high)) g (f .first-shorter .ensures .0)
+    ∙ block-read (rowsOf (table l)) (a .m) (a .a) (now (a .words)) (a .i) (yesNo (a .states) (p .past-shorter .result))
+    (yesNo (a .states) (reading l .readers .result)) (p .past-shorter .ensures (table l) g)
+    (reading l .readers .ensures (table l) g)
 
-mark-for-requires : tie.Need-mark-for-requires
-mark-for-requires c κs =
-    let s = start (c .before .before) in
-    (table (c .before .before), now (s .args .low), now (s .args .high), s .pre .0)
+told-requires-2 : tie.Need-told-requires-2
+told-requires-2 c κs =
+    let s = start (c .before .before .before) in
+    (s .args .states, now (s .args .low), now (s .args .high), s .pre .0, c .first-group .ensures .0)
 
 returns-2 : tie.Need-returns-2
 returns-2 c =
-    let i = c .before .before in
-    let f = i .before in
-    let r = f .before .before in
-    let a = start f .args in
-    let t = table f in
-    let g = start f .pre .0 in
-    block-mark (rowsOf t) (a .m) (a .a) (now (a .words)) (a .i) (yesNo (t .states) (past f))
-    (yesNo (t .states) (ahead f)) (r .before .past-set .ensures t g) (r .readers .ensures t g)
-    (found-none t (now (a .start)) (now (a .first)) (now (a .low)) (now (a .high)) g (past f) (ahead f) (word f)
-    (f .first-group .ensures .1) (f .first-group .result) (f .first-group .ensures .0) (i .if1 .left))
-    (c .mark-for .result) (c .mark-for .ensures t (now (a .low)) (now (a .high)) g)
+    let f = c .before in
+    let p = f .before in
+    let l = p .before .before in
+    let a = start l .args in
+    let g = start l .pre .0 in
+    c .told2 .ensures (a .states) (now (a .low)) (now (a .high)) g (f .first-group .ensures .0)
+    ∙ block-read (rowsOf (table l)) (a .m) (a .a) (now (a .words)) (a .i) (yesNo (a .states) (p .past-set .result))
+    (yesNo (a .states) (reading l .readers .result)) (p .past-set .ensures (table l) g)
+    (reading l .readers .ensures (table l) g)
 
 pub read-block-spec : {M : Type 1} → statement M
 read-block-spec =
     tie.close
     (tie.spec
-    (λ c κs. search needs) (λ c. search needs) (λ c. search needs) (λ c. search needs) (λ c κs. search needs)
-    (λ c. search needs) (λ c κs. search needs) (λ c. search needs) (λ c. search needs) cast-e (λ c. search needs)
-    mul-first-into add-first-into first-into-requires (λ c. search needs) returns (λ c. search needs)
-    mark-for-requires returns-2)
+    (λ c. search needs) (λ c. search needs) (λ c. search needs) (λ c κs. search needs) (λ c. search needs)
+    (λ c κs. search needs) past-shorter-requires first-shorter-requires told-requires returns
+    (λ c κs. search needs) (λ c κs. search needs) told-requires-2 returns-2)
