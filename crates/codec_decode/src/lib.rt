@@ -124,8 +124,8 @@ fn read_many(
         ≡ map (block (under (rowsOf (borrowed states n (word .entry) (next .entry))) m a)
         (now (words .entry))) (range count) ++ drop count (now (out .entry)) ⌝ }
 {
-    let mut low = [0u64; 2048];
-    let mut high = [0u64; 2048];
+    let mut low = [0u64; 2304];
+    let mut high = [0u64; 2304];
     read_with(
         states,
         n,
