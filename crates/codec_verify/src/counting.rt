@@ -136,8 +136,8 @@ fn count_many(k: Sizes, word: &[u8; 2048], next: &[u8; 2048], words: &[u8]) -> u
     ensures answer { λ r. ⌜
         r ≡ comeBack k (now (word .entry)) (now (next .entry)) (now (words .entry)) ⌝ }
 {
-    let mut low = [0u64; 2048];
-    let mut high = [0u64; 2048];
+    let mut low = [0u64; 2304];
+    let mut high = [0u64; 2304];
     count_with(k, word, next, words, &mut low, &mut high)
 }
 

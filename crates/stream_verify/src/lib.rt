@@ -41,8 +41,8 @@ fn count_stream(
 {
     let mut start = [0u16; 257];
     let mut first = [0u16; 2048];
-    let mut low = [0u64; 2048];
-    let mut high = [0u64; 2048];
+    let mut low = [0u64; 2304];
+    let mut high = [0u64; 2304];
     lay(
         k.states,
         k.ways,
