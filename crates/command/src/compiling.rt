@@ -1,13 +1,21 @@
 // The actions that compile.
 ghost use mathlib.Core.Path.{_≡_};
 ghost use lib.ListN.{length};
-ghost use Rattle.compile.specs.Compile.{compileRunLength};
+ghost use Rattle.answer.specs.Outcomes.{answerOf, outputOf};
+ghost use Rattle.compile.specs.Compile.{compileRunLength, compileJob, compileJoined};
+ghost use Rattle.command_arguments.specs.declared.Action.the-variants.{Compile, CompileJob, CompileJoined, Trace};
+ghost use Rattle.command_arguments.specs.Shapes.{shapeOf};
+ghost use Rattle.command_inputs.specs.Inputs.{From};
+ghost use Rattle.command_outputs.specs.Results.{Fails, WellOnly};
 ghost use Rattle.command.specs.Ending.{endOf};
+ghost use Rattle.command.specs.Acting.{CompiledNumbers, CompiledJob, CompiledJoined};
 use answer::Answer;
 use command_arguments::Action;
 use command_arguments::Status;
 use command_arguments::read_place;
 use command_arguments::written_place;
+use command_inputs::Input;
+use command_inputs::Numbers;
 use command_inputs::load;
 use command_inputs::numbers_said;
 use command_inputs::page;
@@ -19,39 +27,64 @@ use compile::bytes::compile_run_length;
 use trace::tracing::trace_run_length;
 
 // The record of a run-length job.
-fn compile_numbers(job: &[u8], out: &mut [u8]) -> Status {
+fn compile_numbers(said: Numbers, out: &mut [u8]) -> Status
+    requires { ⌜ said .at ≡ shapeOf Compile .number ⌝ }
+    ensures answer { λ s. ⌜ Fails (answerOf (compileRunLength (said .job) (length (now (out .entry))))) s ⌝ }
+    ensures written { λ s. ⌜
+        now (out .exit)
+        ≡ outputOf (compileRunLength (said .job) (length (now (out .entry)))) (now (out .entry)) ⌝ }
+    ensures past { λ s. ⌜ WellOnly CompiledNumbers s ⌝ }
+{
     let i = written_place(Action::Compile);
-    let r = compile_run_length(job, out);
+    let job = said.job;
+    let r = compile_run_length(&job, out);
     finish(Action::Compile, i, r, out)
 }
 
-// The record of a job.
-fn compile_bytes(job: &[u8], out: &mut [u8]) -> Status {
+// The record of a job. `l` is what was read of the job.
+fn compile_bytes(l: Input, job: &[u8], out: &mut [u8]) -> Status
+    requires { ⌜ From (shapeOf CompileJob .read) l (now job) ⌝ }
+    ensures answer { λ s. ⌜ Fails (answerOf (compileJob (now (job .entry)) (length (now (out .entry))))) s ⌝ }
+    ensures written { λ s. ⌜
+        now (out .exit)
+        ≡ outputOf (compileJob (now (job .entry)) (length (now (out .entry)))) (now (out .entry)) ⌝ }
+    ensures past { λ s. ⌜ WellOnly CompiledJob s ⌝ }
+{
     let i = written_place(Action::CompileJob);
     let r = compile_job(job, out);
     finish(Action::CompileJob, i, r, out)
 }
 
-// The record of a job with two constraints.
-fn compile_both(job: &[u8], out: &mut [u8]) -> Status {
+// The record of a job with two constraints. `l` is what was read of the job.
+fn compile_both(l: Input, job: &[u8], out: &mut [u8]) -> Status
+    requires { ⌜ From (shapeOf CompileJoined .read) l (now job) ⌝ }
+    ensures answer { λ s. ⌜ Fails (answerOf (compileJoined (now (job .entry)) (length (now (out .entry))))) s ⌝ }
+    ensures written { λ s. ⌜
+        now (out .exit)
+        ≡ outputOf (compileJoined (now (job .entry)) (length (now (out .entry)))) (now (out .entry)) ⌝ }
+    ensures past { λ s. ⌜ WellOnly CompiledJoined s ⌝ }
+{
     let i = written_place(Action::CompileJoined);
     let r = compile_joined(job, out);
     finish(Action::CompileJoined, i, r, out)
 }
 
 // compile d k p q cap [OUT]
-pub fn compile() -> Status {
+pub fn compile() -> Status
+    ensures answer { λ s. ⌜ WellOnly CompiledNumbers s ⌝ }
+{
     let said = numbers_said(Action::Compile);
     if !said.good {
         return Status::Misused;
     }
-    let job = said.job;
     let mut out = [0u8; 3865];
-    compile_numbers(&job, &mut out)
+    compile_numbers(said, &mut out)
 }
 
 // compile-job FILE [OUT]
-pub fn compile_file() -> Status {
+pub fn compile_file() -> Status
+    ensures answer { λ s. ⌜ WellOnly CompiledJob s ⌝ }
+{
     let mut job = [0u8; 37];
     let l = load(read_place(Action::CompileJob), &mut job);
     if !l.good {
@@ -59,11 +92,13 @@ pub fn compile_file() -> Status {
     }
     let n = l.size;
     let mut out = [0u8; 3865];
-    compile_bytes(&job[..n], &mut out)
+    compile_bytes(l, &job[..n], &mut out)
 }
 
 // compile-joined FILE [OUT]
-pub fn compile_joined_file() -> Status {
+pub fn compile_joined_file() -> Status
+    ensures answer { λ s. ⌜ WellOnly CompiledJoined s ⌝ }
+{
     let mut job = [0u8; 70];
     let l = load(read_place(Action::CompileJoined), &mut job);
     if !l.good {
@@ -71,21 +106,26 @@ pub fn compile_joined_file() -> Status {
     }
     let n = l.size;
     let mut out = [0u8; 3865];
-    compile_both(&job[..n], &mut out)
+    compile_both(l, &job[..n], &mut out)
 }
 
 // How a trace ends: as compiling the job does.
-fn traced(job: &[u8], out: &mut [u8]) -> Status
-    ensures answer { λ s. ⌜ s ≡ endOf (compileRunLength (now (job .entry)) (length (now (out .entry)))) ⌝ }
+fn traced(said: Numbers, out: &mut [u8]) -> Status
+    requires { ⌜ said .at ≡ shapeOf Trace .number ⌝ }
+    ensures answer { λ s. ⌜ s ≡ endOf (compileRunLength (said .job) (length (now (out .entry)))) ⌝ }
+    ensures past { λ s. ⌜ WellOnly CompiledNumbers s ⌝ }
 {
-    match compile_run_length(job, out) {
+    let job = said.job;
+    match compile_run_length(&job, out) {
         Answer::Refused(_) => Status::Failed,
         Answer::Done(_) => Status::Done,
     }
 }
 
 // trace d k p q cap
-pub fn trace_numbers() -> Status {
+pub fn trace_numbers() -> Status
+    ensures answer { λ s. ⌜ WellOnly CompiledNumbers s ⌝ }
+{
     let said = numbers_said(Action::Trace);
     if !said.good {
         return Status::Misused;
@@ -96,8 +136,8 @@ pub fn trace_numbers() -> Status {
     match print(&out[..n]) {
         Status::Done => {
             let mut record = [0u8; 3865];
-            traced(&job, &mut record)
+            traced(said, &mut record)
         }
-        s => s,
+        _ => Status::Failed,
     }
 }

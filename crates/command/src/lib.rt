@@ -1,7 +1,11 @@
 // The command `sbc`: one action for each call of the library, on files.
 ghost use mathlib.Core.Path.{_≡_};
 ghost use Prim.Native.Nat.{_≤_};
+ghost use Rattle.command_arguments.specs.declared.Action.the-variants.{Collection, Coding, Stream, Recordings};
+ghost use Rattle.command_arguments.specs.declared.OnStream.the-variants.{Pack, Unpack, Encode, Decode};
+ghost use Rattle.command_arguments.specs.declared.OnRecordings.the-variants.{Weave, Unweave};
 ghost use Rattle.command.specs.Ending.{decoding, wayBy};
+ghost use Rattle.command.specs.Acting.{EndsWell, Acted};
 
 mod compiling;
 mod records;
@@ -56,6 +60,7 @@ fn way_by(back: bool) -> Way
 // encode or decode. It is exported so that it has a stack frame of its own.
 #[no_mangle]
 pub extern "C" fn sbc_action_code(back: bool) -> u32
+    ensures answer { λ r. ⌜ (r ≡ 0 → EndsWell (Coding (wayBy back))) ⌝ }
     ensures past { λ r. ⌜ r ≤ 2 ⌝ }
 {
     status_number(command_code::code_files(way_by(back)))
@@ -64,6 +69,7 @@ pub extern "C" fn sbc_action_code(back: bool) -> u32
 // set. It is exported so that it has a stack frame of its own.
 #[no_mangle]
 pub extern "C" fn sbc_action_set() -> u32
+    ensures answer { λ r. ⌜ (r ≡ 0 → EndsWell Collection) ⌝ }
     ensures past { λ r. ⌜ r ≤ 2 ⌝ }
 {
     status_number(records::set_file())
@@ -72,6 +78,7 @@ pub extern "C" fn sbc_action_set() -> u32
 // pack. It is exported so that it has a stack frame of its own.
 #[no_mangle]
 pub extern "C" fn sbc_action_pack() -> u32
+    ensures answer { λ r. ⌜ (r ≡ 0 → EndsWell (Stream Pack)) ⌝ }
     ensures past { λ r. ⌜ r ≤ 2 ⌝ }
 {
     status_number(command_stream::pack_file())
@@ -80,6 +87,7 @@ pub extern "C" fn sbc_action_pack() -> u32
 // unpack. It is exported so that it has a stack frame of its own.
 #[no_mangle]
 pub extern "C" fn sbc_action_unpack() -> u32
+    ensures answer { λ r. ⌜ (r ≡ 0 → EndsWell (Stream Unpack)) ⌝ }
     ensures past { λ r. ⌜ r ≤ 2 ⌝ }
 {
     status_number(command_stream::unpack_file())
@@ -88,6 +96,7 @@ pub extern "C" fn sbc_action_unpack() -> u32
 // encode-stream. It is exported so that it has a stack frame of its own.
 #[no_mangle]
 pub extern "C" fn sbc_action_encode_stream() -> u32
+    ensures answer { λ r. ⌜ (r ≡ 0 → EndsWell (Stream Encode)) ⌝ }
     ensures past { λ r. ⌜ r ≤ 2 ⌝ }
 {
     status_number(command_stream::encode_file())
@@ -96,6 +105,7 @@ pub extern "C" fn sbc_action_encode_stream() -> u32
 // decode-stream. It is exported so that it has a stack frame of its own.
 #[no_mangle]
 pub extern "C" fn sbc_action_decode_stream() -> u32
+    ensures answer { λ r. ⌜ (r ≡ 0 → EndsWell (Stream Decode)) ⌝ }
     ensures past { λ r. ⌜ r ≤ 2 ⌝ }
 {
     status_number(command_stream::decode_file())
@@ -104,6 +114,7 @@ pub extern "C" fn sbc_action_decode_stream() -> u32
 // weave. It is exported so that it has a stack frame of its own.
 #[no_mangle]
 pub extern "C" fn sbc_action_weave() -> u32
+    ensures answer { λ r. ⌜ (r ≡ 0 → EndsWell (Recordings Weave)) ⌝ }
     ensures past { λ r. ⌜ r ≤ 2 ⌝ }
 {
     status_number(command_weave::rearrange_file(OnRecordings::Weave))
@@ -112,6 +123,7 @@ pub extern "C" fn sbc_action_weave() -> u32
 // unweave. It is exported so that it has a stack frame of its own.
 #[no_mangle]
 pub extern "C" fn sbc_action_unweave() -> u32
+    ensures answer { λ r. ⌜ (r ≡ 0 → EndsWell (Recordings Unweave)) ⌝ }
     ensures past { λ r. ⌜ r ≤ 2 ⌝ }
 {
     status_number(command_weave::rearrange_file(OnRecordings::Unweave))
@@ -119,6 +131,7 @@ pub extern "C" fn sbc_action_unweave() -> u32
 
 // Does an action on bit streams; the answer is the exit status.
 fn act_on_stream(s: OnStream) -> u32
+    ensures answer { λ r. ⌜ (r ≡ 0 → EndsWell (Stream s)) ⌝ }
     ensures past { λ r. ⌜ r ≤ 2 ⌝ }
 {
     match s {
@@ -132,6 +145,7 @@ fn act_on_stream(s: OnStream) -> u32
 
 // Does an action on several recordings at once; the answer is the exit status.
 fn act_on_recordings(how: OnRecordings) -> u32
+    ensures answer { λ r. ⌜ (r ≡ 0 → EndsWell (Recordings how)) ⌝ }
     ensures past { λ r. ⌜ r ≤ 2 ⌝ }
 {
     match how {
@@ -142,6 +156,7 @@ fn act_on_recordings(how: OnRecordings) -> u32
 
 // Does an action; the answer is the exit status.
 fn act(a: Action) -> u32
+    ensures answer { λ r. ⌜ (r ≡ 0 → EndsWell a) ⌝ }
     ensures past { λ r. ⌜ r ≤ 2 ⌝ }
 {
     match a {
@@ -163,6 +178,7 @@ fn act(a: Action) -> u32
 
 // Does an action, if there are as many arguments as it takes.
 fn act_fitting(a: Action) -> u32
+    ensures answer { λ r. ⌜ (r ≡ 0 → EndsWell a) ⌝ }
     ensures past { λ r. ⌜ r ≤ 2 ⌝ }
 {
     let s = shape_of(a);
@@ -174,6 +190,7 @@ fn act_fitting(a: Action) -> u32
 
 // Does what the arguments say; the answer is the exit status: 0, 1 or 2.
 pub fn run() -> u32
+    ensures answer { λ r. ⌜ (r ≡ 0 → Acted) ⌝ }
     ensures past { λ r. ⌜ r ≤ 2 ⌝ }
 {
     let mut word = io::buffer();
@@ -194,6 +211,7 @@ pub fn run() -> u32
 // Does what the arguments say; the answer is the exit status: 0, 1 or 2.
 #[no_mangle]
 pub extern "C" fn sbc_main() -> u32
+    ensures answer { λ r. ⌜ (r ≡ 0 → Acted) ⌝ }
     ensures past { λ r. ⌜ r ≤ 2 ⌝ }
 {
     run()

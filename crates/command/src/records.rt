@@ -3,14 +3,23 @@ ghost use mathlib.Core.Path.{_≡_};
 ghost use lib.ListN.{length};
 ghost use Rattle.answer.specs.Outcomes.{answerOf, outputOf};
 ghost use Rattle.record_tail.specs.Closing.{closedWith};
-ghost use Rattle.command_outputs.specs.Results.{Fails};
+ghost use Rattle.record_check.specs.Parse.{parse};
+ghost use Rattle.set_check.specs.Sets.{readSet};
+ghost use Rattle.command_arguments.specs.declared.Action.the-variants.{Viewing, WithTail, Collection};
+ghost use Rattle.command_arguments.specs.Shapes.{shapeOf};
+ghost use Rattle.command_inputs.specs.Inputs.{From};
+ghost use Rattle.command_outputs.specs.Results.{Fails, FailsBy, WellOnly};
+ghost use Rattle.command.specs.Acting.{Viewed, Closed, SetFails, Listed};
 use answer::Verdict;
 use command_arguments::Action;
 use command_arguments::Status;
 use command_arguments::View;
+use command_arguments::numbers::GREATEST;
 use command_arguments::read_place;
 use command_arguments::under_place;
 use command_arguments::written_place;
+use command_inputs::Input;
+use command_inputs::Number;
 use command_inputs::load;
 use command_inputs::load_whole;
 use command_inputs::number_at;
@@ -33,15 +42,13 @@ fn print_view(v: View, t: Table) -> Status {
     print(&out[..n])
 }
 
-// check FILE, show FILE, draw FILE: prints a view of a record, or says its refusal.
-pub fn view_file(v: View) -> Status {
-    let mut bytes = [0u8; 3866];
-    let l = load(under_place(Action::Viewing(v)), &mut bytes);
-    if !l.good {
-        return Status::Failed;
-    }
-    let n = l.size;
-    let r = record_check::load(&bytes[..n]);
+// Prints a view of the record in the bytes, or says its refusal. `l` is what was read of the record.
+fn view_bytes(v: View, l: Input, bytes: &[u8]) -> Status
+    requires { ⌜ From (shapeOf (Viewing v) .under) l (now bytes) ⌝ }
+    ensures answer { λ s. ⌜ FailsBy (parse (now (bytes .entry))) s ⌝ }
+    ensures past { λ s. ⌜ WellOnly Viewed s ⌝ }
+{
+    let r = record_check::load(bytes);
     let verdict = r.verdict;
     let t = r.table;
     match verdict {
@@ -50,22 +57,41 @@ pub fn view_file(v: View) -> Status {
     }
 }
 
-// The record in the bytes with another tail datum; the run fails where it is refused.
-fn close_bytes(bytes: &[u8], datum: usize, out: &mut [u8]) -> Status
+// check FILE, show FILE, draw FILE
+pub fn view_file(v: View) -> Status
+    ensures answer { λ s. ⌜ WellOnly Viewed s ⌝ }
+{
+    let mut bytes = [0u8; 3866];
+    let l = load(under_place(Action::Viewing(v)), &mut bytes);
+    if !l.good {
+        return Status::Failed;
+    }
+    let n = l.size;
+    view_bytes(v, l, &bytes[..n])
+}
+
+// The record in the bytes with another tail datum; the run fails where it is refused. `l` is what was read of the
+// record.
+fn close_bytes(l: Input, bytes: &[u8], datum: Number, out: &mut [u8]) -> Status
+    requires { ⌜ From (shapeOf WithTail .under) l (now bytes) × (datum .at ≡ shapeOf WithTail .number) ⌝ }
     ensures answer { λ s. ⌜
-        Fails (answerOf (closedWith (now (bytes .entry)) datum (length (now (out .entry))))) s ⌝ }
+        Fails (answerOf (closedWith (now (bytes .entry)) (datum .value) (length (now (out .entry))))) s ⌝ }
     ensures written { λ s. ⌜
         now (out .exit)
-        ≡ outputOf (closedWith (now (bytes .entry)) datum (length (now (out .entry)))) (now (out .entry)) ⌝ }
+        ≡ outputOf (closedWith (now (bytes .entry)) (datum .value) (length (now (out .entry))))
+        (now (out .entry)) ⌝ }
+    ensures past { λ s. ⌜ WellOnly Closed s ⌝ }
 {
     let i = written_place(Action::WithTail);
-    let r = with_tail(bytes, datum, out);
+    let r = with_tail(bytes, datum.value, out);
     finish(Action::WithTail, i, r, out)
 }
 
 // with-tail RECORD DATUM OUT
-pub fn close_file() -> Status {
-    let datum = number_at(Action::WithTail, 3);
+pub fn close_file() -> Status
+    ensures answer { λ s. ⌜ WellOnly Closed s ⌝ }
+{
+    let datum = number_at(Action::WithTail, 3, GREATEST);
     if !datum.good {
         return Status::Misused;
     }
@@ -76,11 +102,15 @@ pub fn close_file() -> Status {
     }
     let n = l.size;
     let mut out = [0u8; 3865];
-    close_bytes(&bytes[..n], datum.value, &mut out)
+    close_bytes(l, &bytes[..n], datum, &mut out)
 }
 
-// Prints a good set, or says the refusal of a bad one.
-fn tell_set(set: &[u8]) -> Status {
+// Prints a good set, or says the refusal of a bad one. `l` is what was read of the set.
+fn tell_set(l: Input, set: &[u8]) -> Status
+    requires { ⌜ From (shapeOf Collection .read) l (now set) ⌝ }
+    ensures answer { λ s. ⌜ SetFails (readSet (now (set .entry))) s ⌝ }
+    ensures past { λ s. ⌜ WellOnly Listed s ⌝ }
+{
     match check_set(set) {
         SetAnswer::Bad { number, refusal } => refuse_set(number, refusal),
         SetAnswer::Good(n) => {
@@ -92,12 +122,14 @@ fn tell_set(set: &[u8]) -> Status {
 }
 
 // set FILE
-pub fn set_file() -> Status {
+pub fn set_file() -> Status
+    ensures answer { λ s. ⌜ WellOnly Listed s ⌝ }
+{
     let mut bytes = files::buffer();
     let l = load_whole(read_place(Action::Collection), &mut bytes, 1000000);
     if !l.good {
         return Status::Failed;
     }
     let n = l.size;
-    tell_set(&bytes[..n])
+    tell_set(l, &bytes[..n])
 }

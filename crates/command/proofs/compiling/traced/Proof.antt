@@ -2,32 +2,28 @@
 -- Assumes nothing.
 use Rattle.laws.proofs.All.{sym, _∙_, now, length, needs}
 use Rattle.compile.specs.Compile.{compileRunLength}
-use Rattle.command.proofs.Ending.{end-refused, end-done}
+use Rattle.command.proofs.Ending.{end-refused, end-done, done-gives}
 use Rattle.command.proofs.compiling.traced.Statement.{statement}
 use Rattle.command.proofs.compiling.traced.Tie as tie
 
 returns : tie.Need-returns
 returns c =
     let call = c .before .before .before .before in
-    let a = call .before .before .before .before .args in
-    end-refused (compileRunLength (now (a .job)) (length (now (a .out)))) _
-    (sym (call .compile-run-length .ensures .0) ∙ c .enum-told .given .1)
+    let a = call .before .before .before .before .before .args in
+    let o = compileRunLength (a .said .job) (length (now (a .out))) in
+    (end-refused o _ (sym (call .compile-run-length .ensures .0) ∙ c .enum-told .given .1), tt)
 
 returns-2 : tie.Need-returns-2
 returns-2 c =
     let call = c .before .before .before .before in
-    let a = call .before .before .before .before .args in
-    end-done (compileRunLength (now (a .job)) (length (now (a .out)))) _
-    (sym (call .compile-run-length .ensures .0) ∙ c .enum-told2 .given .1)
+    let a = call .before .before .before .before .before .args in
+    let o = compileRunLength (a .said .job) (length (now (a .out))) in
+    let e = sym (call .compile-run-length .ensures .0) ∙ c .enum-told2 .given .1 in
+    (end-done o _ e, record { job = _; room = _; gives = done-gives o _ e })
 
 pub traced-spec : {M : Type 1} → statement M
 traced-spec =
     tie.close
     (tie.spec
-    (λ c κs. search needs)
-    (λ c. search needs)
-    (λ c. search needs)
-    (λ c. search needs)
-    returns
-    (λ c. search needs)
-    returns-2)
+    (λ c. search needs) (λ c κs. search needs) (λ c. search needs) (λ c. search needs) (λ c. search needs) returns
+    (λ c. search needs) returns-2)

@@ -3,7 +3,7 @@
 -- Assumes nothing.
 use Rattle.laws.proofs.All.{needs}
 use Rattle.record_tail.specs.Closing.{closedWith}
-use Rattle.command_outputs.proofs.Results.{result-within, fails-outcome}
+use Rattle.command_outputs.proofs.Results.{result-within, fails-outcome, fails-well}
 use Rattle.command.proofs.records.close_bytes.Statement.{statement}
 use Rattle.command.proofs.records.close_bytes.Tie as tie
 
@@ -19,7 +19,11 @@ returns : tie.Need-returns
 returns c =
     let call = c .before .before .before .before .with-tail in (
       fails-outcome (closedWith _ _ _) (call .result) (c .finish .result) (call .ensures .0) (c .finish .ensures),
-      call .ensures .1,
+      (
+        call .ensures .1,
+        fails-well (closedWith _ _ _) (call .result) (c .finish .result) (call .ensures .0) (c .finish .ensures)
+            (λ g. record { bytes = _; datum = _; room = _; gives = g }),
+      ),
     )
 
 pub close-bytes-spec : {M : Type 1} → statement M

@@ -1,0 +1,32 @@
+-- `run` meets its contract: the action that the first argument names ended well.
+-- Assumes nothing.
+use Rattle.laws.proofs.All.{ap, _∙_, arith, needs}
+use Rattle.command_arguments.specs.Shapes.{statusOf}
+use Rattle.command.proofs.run.Statement.{statement}
+use Rattle.command.proofs.run.Tie as tie
+
+returns : tie.Need-returns
+returns c =
+    let n = c .status-number .ensures in
+    let e = n .0 ∙ ap statusOf (c .before .misused .ensures) in
+    (λ z. absurd (omega arith), n .1)
+
+returns-2 : tie.Need-returns-2
+returns-2 c =
+    let n = c .status-number2 .ensures in
+    let e = n .0 ∙ ap statusOf (c .before .misused-word .ensures) in
+    (λ z. absurd (omega arith), n .1)
+
+returns-3 : tie.Need-returns-3
+returns-3 c =
+    let e = c .act-fitting .ensures in
+    (λ z. record { action = c .before .before .action-of .result; well = e .0 z }, e .1)
+
+pub run-spec : {M : Type 1} → statement M
+run-spec =
+    tie.close
+    (tie.spec
+    (λ c κs. search needs) (λ c. search needs) (λ c κs. search needs) (λ c κs. search needs) (λ c κs. search needs)
+    (λ c κs. search needs) returns (λ c. search needs) (λ c. search needs) (λ c κs. search needs)
+    (λ c. search needs) (λ c. search needs) (λ c. search needs) (λ c. search needs) (λ c κs. search needs)
+    (λ c κs. search needs) (λ c κs. search needs) returns-2 returns-3)
