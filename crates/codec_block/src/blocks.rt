@@ -10,6 +10,9 @@ ghost use Rattle.bitsets.specs.BitSets.{holds, yesNo};
 ghost use Rattle.codec_groups.specs.Groups.{sourceAt, Grouped, between};
 ghost use Rattle.codec_steps.specs.Reading.{readings, markFor, past, block};
 ghost use Rattle.codec_steps.specs.BlockParts.{joinsAt, firstGroup, entersAt, firstInto, holdsFrom, under};
+use crate::shorter::first_shorter;
+use crate::shorter::is_large;
+use crate::shorter::past_shorter;
 use bitsets::BitSet;
 use bitsets::every;
 use bitsets::has;
@@ -20,9 +23,6 @@ use codec_groups::targets_at;
 use codec_steps::index;
 use codec_steps::readers;
 use codec_steps::step_all;
-use crate::shorter::first_shorter;
-use crate::shorter::is_large;
-use crate::shorter::past_shorter;
 use table::chains::wide;
 
 // Group k leads from a state of the one set into the other.

@@ -10,6 +10,9 @@ ghost use Rattle.bitsets.specs.BitSets.{holds, yesNo};
 ghost use Rattle.codec_groups.specs.Groups.{Grouped, groupOf};
 ghost use Rattle.codec_steps.specs.Reading.{past};
 ghost use Rattle.codec_steps.specs.BlockParts.{firstGroup, firstMember, under};
+use crate::blocks::first_group;
+use crate::blocks::less;
+use crate::blocks::past_start;
 use bitsets::BitSet;
 use bitsets::lowest;
 use bitsets::meet;
@@ -20,9 +23,6 @@ use codec_groups::targets_at;
 use codec_steps::index;
 use codec_steps::is_shorter;
 use codec_steps::step_all_shorter;
-use crate::blocks::first_group;
-use crate::blocks::less;
-use crate::blocks::past_start;
 
 // Whether it can be shorter to walk members: the table has many states, and the arrays have the states by word.
 pub fn is_large(states: usize, low: &[u64], high: &[u64]) -> bool

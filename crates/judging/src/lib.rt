@@ -57,7 +57,7 @@ pub fn is_same(a: Told, out: &[u8], refusal: usize, value: usize, output: &[u8])
 }
 
 // A name and a number on a line.
-pub fn say_number(name: &[u8], n: u64) {
+fn say_number(name: &[u8], n: u64) {
     let mut out = [0u8; 128];
     let size = put_line(&mut out, 0, name, n);
     io::write_all(STDOUT_FILENO, &out[..size]);

@@ -1,5 +1,8 @@
 // The calls that cases of test vectors make, by kind.
+ghost use mathlib.Core.Path.{_≡_};
 ghost use Prim.Native.Nat.{_≤_};
+ghost use lib.ListN.{length};
+ghost use Rattle.vectors.specs.Calling.{toldOf, toldOfSet, Called};
 use answer::Answer;
 use answer::answer_number;
 use answer::answer_value;
@@ -27,7 +30,9 @@ use weaving::unweave;
 use weaving::weave;
 
 // The number and the value of an answer.
-fn told_by(a: Answer) -> Told {
+fn told_by(a: Answer) -> Told
+    ensures answer { λ r. ⌜ r ≡ toldOf a ⌝ }
+{
     Told {
         number: answer_number(a),
         value: answer_value(a),
@@ -35,7 +40,9 @@ fn told_by(a: Answer) -> Told {
 }
 
 // The walk of a set.
-fn walk_set(set: &[u8]) -> Told {
+fn walk_set(set: &[u8]) -> Told
+    ensures answer { λ r. ⌜ r ≡ toldOfSet (now (set .entry)) ⌝ }
+{
     let a = check_set(set);
     Told {
         number: set_number(a),
@@ -143,7 +150,10 @@ fn call_verify(kind: usize, record: &[u8], words: &[u8]) -> Answer {
 
 // The call of a kind: 3 checks a record, 4 encodes, 5 decodes, 6 walks a set, 9 to 12 are on streams, 13 writes a
 // record with another tail datum, 14 and 15 are on several recordings, 16 and 17 verify, and any other takes a job.
-pub fn call(kind: usize, first: &[u8], second: &[u8], out: &mut [u8]) -> Told {
+pub fn call(kind: usize, first: &[u8], second: &[u8], out: &mut [u8]) -> Told
+    ensures answer { λ a. ⌜
+        Called kind (now (first .entry)) (now (second .entry)) (length (now (out .entry))) a ⌝ }
+{
     if kind == 3 {
         return told_by(check(first));
     }

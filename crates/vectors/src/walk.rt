@@ -4,17 +4,14 @@ ghost use mathlib.Core.Bool.{true};
 ghost use Prim.Native.Nat.{_≤_, _<_};
 ghost use lib.ListN.{length};
 ghost use Rattle.cases.specs.Placing.{Whole};
-ghost use Rattle.vectors.specs.Counting.{Few, Counted};
+ghost use Rattle.vectors.specs.Counting.{Few, Counted, endsAt};
 use crate::calls::call;
-use crate::report::say_file;
+use crate::say_number;
 use cases::Case;
 use cases::case_at;
 use cases::is_case;
 use judging::is_same;
 use judging::judge;
-use judging::say_number;
-use libc::STDOUT_FILENO;
-use sentences::put_sentence;
 use std::num::wrapping_add_u64;
 
 // The place that the walk reached; how many cases there were, and how many of them differ; and for each kind how many
@@ -112,7 +109,7 @@ fn step(bytes: &[u8], t: Tally, c: Case) -> Tally
 }
 
 // The tally of all cases.
-fn walk(bytes: &[u8]) -> Tally
+pub fn walk(bytes: &[u8]) -> Tally
     requires { ⌜ length (now bytes) ≤ 1000000 ⌝ }
     ensures past { λ r. ⌜ r .at ≤ length (now (bytes .entry)) ⌝ }
 {
@@ -128,83 +125,12 @@ fn walk(bytes: &[u8]) -> Tally
 }
 
 // Whether the file ends at a place, with the kind 0.
-fn is_end(bytes: &[u8], at: usize) -> bool
+pub fn is_end(bytes: &[u8], at: usize) -> bool
     requires { ⌜ at ≤ length (now bytes) ⌝ }
+    ensures answer { λ r. ⌜ r ≡ endsAt at (now (bytes .entry)) ⌝ }
 {
     if bytes.len() - at != 1 {
         return false;
     }
     bytes[at] == 0
-}
-
-// The numbers of a tally as they are printed: of kinds 1 to 17 and then of all, how many cases, and how many differ.
-fn numbers_of(t: Tally) -> [usize; 36] {
-    [
-        t.kinds[1] as usize,
-        t.differ[1] as usize,
-        t.kinds[2] as usize,
-        t.differ[2] as usize,
-        t.kinds[3] as usize,
-        t.differ[3] as usize,
-        t.kinds[4] as usize,
-        t.differ[4] as usize,
-        t.kinds[5] as usize,
-        t.differ[5] as usize,
-        t.kinds[6] as usize,
-        t.differ[6] as usize,
-        t.kinds[7] as usize,
-        t.differ[7] as usize,
-        t.kinds[8] as usize,
-        t.differ[8] as usize,
-        t.kinds[9] as usize,
-        t.differ[9] as usize,
-        t.kinds[10] as usize,
-        t.differ[10] as usize,
-        t.kinds[11] as usize,
-        t.differ[11] as usize,
-        t.kinds[12] as usize,
-        t.differ[12] as usize,
-        t.kinds[13] as usize,
-        t.differ[13] as usize,
-        t.kinds[14] as usize,
-        t.differ[14] as usize,
-        t.kinds[15] as usize,
-        t.differ[15] as usize,
-        t.kinds[16] as usize,
-        t.differ[16] as usize,
-        t.kinds[17] as usize,
-        t.differ[17] as usize,
-        t.cases as usize,
-        t.wrong as usize,
-    ]
-}
-
-// What is printed of a tally.
-fn say_tally(t: Tally) {
-    let mut out = [0u8; 1024];
-    let numbers = numbers_of(t);
-    let size = put_sentence(
-        &mut out,
-        0,
-        b"compile_job # cases, differ #\ncompile_run_length # cases, differ #\ncheck # cases, differ #\n\
-        encode # cases, differ #\ndecode # cases, differ #\nset # cases, differ #\n\
-        listing # cases, differ #\ncompile_joined # cases, differ #\npack # cases, differ #\n\
-        unpack # cases, differ #\nencode_stream # cases, differ #\ndecode_stream # cases, differ #\n\
-        with_tail # cases, differ #\nweave # cases, differ #\nunweave # cases, differ #\n\
-        verify # cases, differ #\nverify_stream # cases, differ #\nall # cases, differ #\n",
-        &numbers,
-    );
-    io::write_all(STDOUT_FILENO, &out[..size]);
-}
-
-// Runs every case and prints what came out.
-pub fn run(bytes: &[u8])
-    requires { ⌜ length (now bytes) ≤ 1000000 ⌝ }
-{
-    say_file(bytes);
-    let t = walk(bytes);
-    if !is_end(bytes, t.at) {
-        say_number(b"neither a whole case nor the end: case ", t.cases);
-    }
-    say_tally(t);
 }
