@@ -1,10 +1,10 @@
 -- E1 to E10 as one statement, proved by computing: from bytes where the documents give bytes.
 -- In order: compiled, weighed, what run-length jobs come to; codeAt; code1, record1; code2, record2, oldRecord2;
--- code7, record7; code8; job9, ladder, ladderRows, code9; code10, record10; Examples, the statement; examples, its
--- proof.
+-- code7, record7; code8; job9, ladder, ladderRows, code9; code10, record10, listing10; Examples, the statement;
+-- examples, its proof.
 -- Assumes nothing.
 use mathlib.Core.Path.{_≡_, refl}
-use mathlib.Core.List.{List, [], _∷_}
+use mathlib.Core.List.{List, [], _∷_, _++_}
 use Prim.Native.Nat.{ℕ}
 use Rattle.laws.specs.Lists.{sum}
 use Rattle.answer.specs.declared.Refusal.the-variants.{NoCode, Field, ShortOutput}
@@ -28,6 +28,9 @@ use Rattle.compile_graph.specs.Splitting.{split, splits, splitAll}
 use Rattle.compile_table.specs.TableOf.{tableStates, tableOf}
 use Rattle.compile_labels.specs.Labels.{dataOf, relabelled}
 use Rattle.compile_job.specs.Jobs.{readJob, readRunLength}
+use Rattle.text.specs.Texts.{bytes, decimal}
+use Rattle.view_listing.specs.Listing.{entry, listing}
+use Rattle.view_job.specs.Listings.{listInto}
 use Rattle.compile.specs.Compile.{weightsOf, componentOf, compile, compileRunLength}
 use mathlib.Core.Bool.{true}
 
@@ -120,6 +123,12 @@ record10 =
     0x46 ∷ 0x08 ∷ 0x04 ∷ 0x40 ∷ 0x23 ∷ 0x00 ∷ 0x41 ∷ 0x80 ∷ 0x60 ∷ 0xA8 ∷ 0x0A ∷ 0x0B ∷ 0x01 ∷ 0xE0 ∷ 0x28
     ∷ 0x0A ∷ 0x0B ∷ 0x01 ∷ 0xE0 ∷ 0x10 ∷ 0x1E ∷ 0x08 ∷ []
 
+-- the listing of that table
+abbrev pub listing10 : List ℕ
+listing10 =
+    bytes "2 3 3 0 1\n0 0 011 0\n0 1 011 2\n0 2 101 0\n0 3 101 2\n1 0 110 1\n1 1 111 0\n"
+    ++ bytes "1 2 101 0\n1 3 101 2\n2 0 110 1\n2 1 111 0\n2 2 010 1\n2 3 111 2\n"
+
 -- document 01's examples, as document 02 has worked them anew
 pub record Examples : Type 0 where
   -- E1 (0,1), p 1, q 2, cap 1: weights 1, 1; the table; its record
@@ -156,6 +165,7 @@ pub record Examples : Type 0 where
   -- E10 no data under the table of the listing gives one word, 3
   pub e10-table : compiled 0 1 2 3 2 ≡ done code10
   pub e10-packed : pack code10 ≡ record10
+  pub e10-listed : listInto (0 ∷ 1 ∷ 2 ∷ 3 ∷ 2 ∷ []) 130 ≡ done listing10
   pub e10 : encodeUnder record10 1 [] ≡ done (3 ∷ [])
   -- and 5 where the record states the tail datum 2
   pub e10-closed : encodeUnder (pack (withTail code10 2)) 1 [] ≡ done (5 ∷ [])
@@ -164,7 +174,7 @@ pub record Examples : Type 0 where
 pub examples : Examples
 unfolding readJob readRunLength compile compileRunLength packInto pack fieldsChecked parse closedWith encoded decoded
     encodeUnder decodeUnder works sizes window obeys power weights componentStates componentGraph split splits
-    splitAll tableStates tableOf dataOf relabelled
+    splitAll tableStates tableOf dataOf relabelled decimal entry listing listInto
 examples = record {
   e1-weights = refl;
   e1-table = refl;
@@ -189,6 +199,7 @@ examples = record {
   e9-table = refl;
   e10-table = refl;
   e10-packed = refl;
+  e10-listed = refl;
   e10 = refl;
   e10-closed = refl;
 }

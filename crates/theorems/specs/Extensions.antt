@@ -6,8 +6,8 @@
 -- closes-record; (f) depth-numbers, weave-calls, unweave-calls, weave-spreads, weave-returns, weave-places, weaving,
 -- one-word-each, fewer-places, scratch; (g) state-sets, step-bits, back-bits, pair-step-bits, pair-hit-bits; Verify:
 -- verified, verified-place, verified-mark, verified-near, verified-stream; Calls: job-order, run-length-order,
--- joined-order, listing-call; set-order, set-count; info-numbers, phrase-words, with-tail; answer-words, set-words,
--- outputs.
+-- joined-order, listing-call; set-order, set-count; encode-calls, decode-calls; info-numbers, phrase-words, with-tail;
+-- answer-words, set-words, outputs.
 -- Assumes nothing.
 use mathlib.Core.Path.{_≡_}
 use mathlib.Core.Logic.{_⊎_, _↔_}
@@ -535,6 +535,26 @@ pub set-count : (s : List ℕ) (n : ℕ) → (setAnswer (readSet s) ≡ Good n)
     ↔ ((0 < length s) × (n ≡ getD s 0 0) × ((k : ℕ) → k < n → (c : Code) × (recordOf s k ≡ done c))
     × (offsetOf s n ≡ length s))
 set-count = Rattle.set_check.proofs.Orders.set-count
+
+-- Encoding is done exactly with room for N + a words and good blocks; else the record's refusal, 13, 11 with its place.
+pub encode-calls : (rec : List ℕ) (room : ℕ) (ds : List ℕ) → let o = encodeUnder rec room ds in
+    ((c : Code) → parse rec ≡ done c → let n = length ds + c .window .lookahead in
+    ((R : List ℕ) → (o ≡ done R) ↔ ((n ≤ room) × Below (2 ^ c .p) ds × (recording c ds ≡ R)))
+    × ((o ≡ refused ShortOutput) ↔ (room < n))
+    × ((k : ℕ) → (o ≡ refused (BadByte k))
+    ↔ ((n ≤ room) × (k < length ds) × Below (2 ^ c .p) (take k ds) × (2 ^ c .p ≤ getD ds k 0))))
+    × ((r : Refusal) → parse rec ≡ refused r → o ≡ refused r)
+encode-calls = Rattle.codec.proofs.Calls.encode-calls
+
+-- Decoding is done exactly with a or more good words and room; else the record's refusal, 12, 13, 11 with its place.
+pub decode-calls : (rec : List ℕ) (room : ℕ) (L : List ℕ) → let o = decodeUnder rec room L in
+    ((c : Code) → parse rec ≡ done c → let a = c .window .lookahead in let W = length L in
+    ((out : List ℕ) → (o ≡ done out) ↔ ((a ≤ W) × (W - a ≤ room) × Below (2 ^ c .q) L × (decode c L ≡ out)))
+    × ((o ≡ refused TooFewWords) ↔ (W < a)) × ((o ≡ refused ShortOutput) ↔ ((a ≤ W) × (room < W - a)))
+    × ((k : ℕ) → (o ≡ refused (BadByte k))
+    ↔ ((a ≤ W) × (W - a ≤ room) × (k < W) × Below (2 ^ c .q) (take k L) × (2 ^ c .q ≤ getD L k 0))))
+    × ((r : Refusal) → parse rec ≡ refused r → o ≡ refused r)
+decode-calls = Rattle.codec.proofs.Calls.decode-calls
 
 -- The eight numbers of a record that passes, with room for eight; else the record's refusal, then 13.
 pub info-numbers : (rec : List ℕ) (room : ℕ) → ((ns : List ℕ) → (infoUnder rec room ≡ done ns)
