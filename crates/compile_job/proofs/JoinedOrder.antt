@@ -3,12 +3,12 @@
 -- In order: statesAt, row, onward-row, one constraint at an offset; after, joined-rows; told-there, told-fits,
 -- told-whole; first-again; joined-order.
 -- Assumes nothing.
-use Rattle.laws.proofs.All.{_≡_, refl, sym, ap, ap₂, subst, _∙_, _⊎_, inl, inr, _↔_, Bool, _&&_, List, [], _∷_, ℕ, _+_, true, false}
-use Rattle.laws.proofs.All.{_*_, _-_, _≤_, _<_, arith, leb, eqb, leb→le, le→leb, eqb→eq, length, getD, drop, add-zero}
+use Rattle.laws.proofs.All.{_≡_, refl, sym, ap, ap₂, _∙_, _⊎_, inl, inr, _↔_, Bool, true, false, _&&_, List, [], _∷_, ℕ}
+use Rattle.laws.proofs.All.{_+_, _*_, _-_, _≤_, arith, leb, eqb, leb→le, le→leb, eqb→eq, length, getD, drop, add-zero}
 use Rattle.laws.proofs.All.{length-drop, getD-drop, drop-drop, all}
 use Rattle.answer.specs.declared.Refusal.{Refusal}
 use Rattle.answer.specs.declared.Refusal.the-variants.{Parameters, States, Length, TooManyPairs}
-use Rattle.answer.specs.Outcomes.{Outcome, done, refused, unless, onward}
+use Rattle.answer.specs.Outcomes.{Outcome, refused, unless, onward}
 use Rattle.answer.specs.Orders.{check, First}
 use Rattle.answer.proofs.Due.{Told, told-le, told-eq}
 use Rattle.answer.proofs.Orders.{first-none, first-unless}
@@ -17,7 +17,7 @@ use Rattle.joining.specs.Joined.{pairs}
 use Rattle.table.specs.Formed.{goodNext}
 use Rattle.compile_job.specs.Jobs.{Job, goodParameters, statesOf, constraintFrom, fronted, joinedJob, readJoined}
 use Rattle.compile_job.specs.Ranges.{Ranged, Few, Nexts}
-use Rattle.compile_job.proofs.Constraints.{checked, from-checked, length-statesOf}
+use Rattle.compile_job.proofs.Constraints.{from-checked, length-statesOf}
 use Rattle.compile_job.proofs.Jobs.{checked-onward}
 use Rattle.compile_job.proofs.Orders.{told-by, told-ranged, told-few, told-nexts}
 

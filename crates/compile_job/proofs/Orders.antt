@@ -1,12 +1,13 @@
 -- A job of each kind is refused by reading exactly with the refusal of the first check that its bytes do not meet.
--- In order: told-by, told-ranged, told-few, told-nexts, what the tests say; read-order; run-length-order.
+-- In order: told-by, told-ranged, told-few, state-fact, nexts-from, told-nexts, what the tests say; read-order;
+-- run-length-order.
 -- Assumes nothing.
 use Rattle.laws.proofs.All.{_≡_, refl, sym, ap, subst, _∙_, _⊎_, inl, inr, _↔_, Bool, true, false, _&&_, List, [], _∷_}
-use Rattle.laws.proofs.All.{ℕ, zero, suc, _+_, _*_, _-_, _≤_, _<_, arith, T, leb, ltb, eqb, eqb→eq, ltb→lt, lt→ltb}
-use Rattle.laws.proofs.All.{eqb-refl, length, getD, drop, length-drop, getD-drop, drop-drop, all, and→, →and, or→, →orL, →orR}
+use Rattle.laws.proofs.All.{ℕ, zero, suc, _+_, _*_, _≤_, _<_, arith, T, leb, ltb, eqb, eqb→eq, ltb→lt, lt→ltb, length}
+use Rattle.laws.proofs.All.{getD, drop, getD-drop, all, and→, →and, or→, →orL, →orR}
 use Rattle.answer.specs.declared.Refusal.{Refusal}
 use Rattle.answer.specs.declared.Refusal.the-variants.{Parameters, States, Length}
-use Rattle.answer.specs.Outcomes.{Outcome, done, refused, unless, onward}
+use Rattle.answer.specs.Outcomes.{refused}
 use Rattle.answer.specs.Orders.{check, First}
 use Rattle.answer.proofs.Due.{Told, told-le, told-eq, told-and}
 use Rattle.answer.proofs.Orders.{first-none, first-unless}

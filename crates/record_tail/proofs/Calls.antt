@@ -1,11 +1,11 @@
 -- What writing a record with another tail datum answers, exactly.
 -- In order: closed-done, closed-refused.
 -- Assumes nothing.
-use Rattle.laws.proofs.All.{_≡_, sym, ap, subst, _∙_, _⊎_, inl, inr, _↔_, List, [], _∷_, ℕ, _^_, _≤_, _<_, leb, ltb, length}
-use Rattle.laws.proofs.All.{Below}
+use Rattle.laws.proofs.All.{_≡_, sym, ap, subst, _∙_, _⊎_, inl, inr, _↔_, List, [], _∷_, ℕ, _^_, _≤_, _<_, leb, ltb}
+use Rattle.laws.proofs.All.{length, Below}
 use Rattle.answer.specs.declared.Refusal.{Refusal}
 use Rattle.answer.specs.declared.Refusal.the-variants.{Field, ShortOutput}
-use Rattle.answer.specs.Outcomes.{done, refused, onward, fitting}
+use Rattle.answer.specs.Outcomes.{done, refused, fitting}
 use Rattle.answer.specs.Orders.{check, First}
 use Rattle.answer.proofs.Due.{told-le, told-lt, done-past, done-onward}
 use Rattle.answer.proofs.Orders.{first-none, first-unless, onward-exact, fitting-done}
@@ -27,8 +27,9 @@ module _ (rec : List ℕ) (b : Below 256 rec) (k room : ℕ) where
       ↔ ((c : Code) × (parse rec ≡ done c) × (k < 2 ^ c .p) × (length rec ≤ room) × (pack (withTail c k) ≡ out))
   unfolding closedWith packInto
   closed-done out =
-      let d = done-onward (parse rec) (λ c. closed c k room) out (λ c. done-past Field (ltb k (2 ^ c .p))
-      (fitting room (pack (withTail c k))) (told-lt k (2 ^ c .p)) out (fitting-done room (pack (withTail c k)) out)) in (
+      let d = done-onward (parse rec) (λ c. closed c k room) out (λ c.
+      done-past Field (ltb k (2 ^ c .p)) (fitting room (pack (withTail c k))) (told-lt k (2 ^ c .p)) out
+      (fitting-done room (pack (withTail c k)) out)) in (
         (λ e.
             let (c, p, (h, (l, q))) = d .0 e in (c, p, h, subst (λ n. n ≤ room) (long c p) l, q)),
         (λ (c, p, h, l, q). d .1 (c, p, (h, (subst (λ n. n ≤ room) (sym (long c p)) l, q)))),

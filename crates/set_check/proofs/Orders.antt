@@ -1,20 +1,20 @@
 -- What a set answers: the first bad record with its number, bytes left over with the count, or the count.
--- In order: step-placed, step-record; reached, the walk over good records; set-bare, set-bad, set-left, set-good; Stops,
--- Counts, why; set-order; set-count.
+-- In order: step-placed, step-record; reached, the walk over good records; set-bare, set-bad, set-left, set-good;
+-- Stops, Counts, why; set-order; set-count.
 -- Assumes nothing.
-use Rattle.laws.proofs.All.{_≡_, refl, sym, ap, subst, _∙_, _⊎_, inl, inr, _↔_, Bool, true, false, List, [], _∷_, ℕ, zero}
-use Rattle.laws.proofs.All.{suc, _+_, _≤_, _<_, arith, decLt, leb, length, getD, take, drop, if_then_else_}
+use Rattle.laws.proofs.All.{_≡_, refl, sym, ap, subst, _∙_, _⊎_, inl, inr, _↔_, Bool, true, false, List, [], _∷_, ℕ}
+use Rattle.laws.proofs.All.{zero, suc, _+_, _≤_, _<_, arith, decLt, leb, length, getD, take, drop, if_then_else_}
 use Rattle.answer.specs.declared.Refusal.{Refusal}
 use Rattle.answer.specs.declared.Refusal.the-variants.{Length}
 use Rattle.answer.specs.Outcomes.{Outcome, done, refused}
 use Rattle.table.specs.Rows.{Code}
 use Rattle.record_check.specs.Parse.{parse}
 use Rattle.set_places.specs.declared.Place.the-variants.{At, Nowhere}
-use Rattle.set_places.specs.Offsets.{lengthAt, endAt, placeAt, offsetOf, recordPlace}
+use Rattle.set_places.specs.Offsets.{lengthAt, endAt, placeAt, offsetOf}
 use Rattle.set_places.proofs.Offsets.{record-at}
 use Rattle.set_check.specs.declared.SetAnswer.{SetAnswer}
 use Rattle.set_check.specs.declared.SetAnswer.the-variants.{Good, Bad}
-use Rattle.set_check.specs.declared.Step.the-variants.{On, Stop}
+use Rattle.set_check.specs.declared.Step.the-variants.{Stop}
 use Rattle.set_check.specs.Sets.{readSet}
 use Rattle.set_check.specs.Results.{setAnswer, stepOf, stepAt}
 use Rattle.set_check.specs.Outcomes.{outcomeIn, recordOf, GoodTo}

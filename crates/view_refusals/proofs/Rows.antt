@@ -2,7 +2,8 @@
 -- In order: row; line-is; no-words; words-short; words-none.
 -- Assumes nothing.
 use Rattle.laws.proofs.All.{_≡_, refl, sym, ap, _∙_, _⊎_, inl, inr, _↔_, Bool, List, [], _∷_, _++_, map, ℕ, zero, suc}
-use Rattle.laws.proofs.All.{_≤_, _<_, arith, decLe, T, leb, leb→le, ltb, ltb→lt, length, getD, drop, List·getD-eq-default, range, all, all→, map-range-at}
+use Rattle.laws.proofs.All.{_≤_, _<_, arith, decLe, T, leb, leb→le, ltb, ltb→lt, length, getD, drop}
+use Rattle.laws.proofs.All.{List·getD-eq-default, range, all, all→, map-range-at}
 use Rattle.answer.specs.Refusals.{most}
 use Rattle.view_refusals.specs.TextLines.{lineOf}
 use Rattle.view_refusals.specs.Phrases.{phrases, wordsOf}
