@@ -443,7 +443,8 @@ pair-hit-bits = Rattle.window_test.proofs.StepPairs.hits-pairs
 
 -- All words come back exactly when they are a recording, so the value is then their number; otherwise it is smaller.
 pub verified : (rec : List ℕ) → Below 256 rec → (c : Code) → parse rec ≡ done c → (L : List ℕ)
-    → ((verifyUnder rec L ≡ done L) ↔ Recording c L) × ((answerOf (verifyUnder rec L) ≡ Done (length L)) ↔ Recording c L)
+    → ((verifyUnder rec L ≡ done L) ↔ Recording c L)
+    × ((answerOf (verifyUnder rec L) ≡ Done (length L)) ↔ Recording c L)
     × ((F : List ℕ) → verifyUnder rec L ≡ done F → (length F ≤ length L) × (take (length F) L ≡ F))
 verified rec b c p L = (
   Rattle.codec_verify.proofs.Verified.verify-exact rec b c p L,
