@@ -1,5 +1,5 @@
--- Which definition the status of an action comes from: a run ends with status 0 only where the action's definition has a
--- result, for some of what the action can be given. What it was given is the system's to say, so no contract names it.
+-- Which definition the status of an action comes from: a run ends with status 0 only where the action's definition has
+-- a result, for some of what the action can be given. What it was given is the system's to say: no contract names it.
 -- In order: CompiledNumbers, CompiledJob, CompiledJoined; Viewed, Closed; SetFails, Listed; EndsWell, Acted.
 -- Assumes nothing.
 use mathlib.Core.Path.{_≡_}

@@ -12,7 +12,7 @@ use Rattle.files.specs.declared.Loaded.{Loaded}
 use Rattle.files.specs.declared.Loaded.the-variants.{Whole, Unreadable, TooLong}
 use Rattle.command_arguments.specs.declared.Parsed.{Parsed}
 use Rattle.command_arguments.specs.declared.Parsed.the-variants.{Number as Said, Above, Wrong}
-use Rattle.command_inputs.specs.declared.Number.{Number}
+use Rattle.command_inputs.specs.declared.numbers.Number.{Number}
 use Rattle.command_inputs.specs.declared.Input.{Input}
 
 -- argument i says no number that is taken

@@ -1,8 +1,8 @@
 -- How long the rest of a list is; the folder of a path, byte by byte from its end.
 -- In order: rest-long; folder-here, folder-back.
 -- Assumes nothing.
-use Rattle.laws.proofs.All.{_≡_, sym, ap, subst, _∙_, List, ℕ, zero, suc, _-_, _<_, arith, length, getD, take, drop, length-drop}
-use Rattle.laws.proofs.All.{length-take-le, eq-eqb, ne-eqb, if_then_else_}
+use Rattle.laws.proofs.All.{_≡_, sym, ap, subst, _∙_, List, ℕ, zero, suc, _-_, _<_, arith, length, getD, take, drop}
+use Rattle.laws.proofs.All.{length-drop, length-take-le, eq-eqb, ne-eqb, if_then_else_}
 use Rattle.command_store.specs.Storing.{folderIn}
 
 pub rest-long : (n : ℕ) (xs : List ℕ) → length (take (length xs - n) (drop n xs)) ≡ length xs - n

@@ -9,13 +9,15 @@ returns : tie.Need-returns
 returns c =
     let r = c .before .before .before in
     let l = r .before .before .before in
-    (r .input-of .ensures .1, input-counts _ _ (l .load-from .result) _ _ (omega arith) (l .load-from .ensures) (r .input-of .ensures .0))
+    let e = r .input-of .ensures in
+    (e .1, input-counts _ _ (l .load-from .result) _ _ (omega arith) (l .load-from .ensures) (e .0))
 
 returns-2 : tie.Need-returns-2
 returns-2 c =
     let r = c .before .before in
     let l = r .before .before .before in
-    (r .input-of .ensures .1, input-counts _ _ (l .load-from .result) _ _ (omega arith) (l .load-from .ensures) (r .input-of .ensures .0))
+    let e = r .input-of .ensures in
+    (e .1, input-counts _ _ (l .load-from .result) _ _ (omega arith) (l .load-from .ensures) (e .0))
 
 pub load-named-spec : {M : Type 1} → statement M
 load-named-spec =

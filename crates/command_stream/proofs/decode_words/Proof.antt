@@ -19,8 +19,8 @@ returns c =
           (c .finish-code .ensures),
       (
         call .ensures .1,
-        fails-well (decodeStream _ _ _ _) (call .result) (c .finish-code .result) (call .ensures .0) (c .finish-code .ensures)
-            (λ g. record { under = _; count = _; room = _; stream = _; gives = g }),
+        fails-well (decodeStream _ _ _ _) (call .result) (c .finish-code .result) (call .ensures .0)
+            (c .finish-code .ensures) (λ g. record { under = _; count = _; room = _; stream = _; gives = g }),
       ),
     )
 

@@ -19,8 +19,8 @@ returns c =
           (c .finish-code .ensures),
       (
         call .ensures .1,
-        fails-well (encodeStream _ _ _) (call .result) (c .finish-code .result) (call .ensures .0) (c .finish-code .ensures)
-            (λ g. record { under = _; room = _; blocks = _; gives = g }),
+        fails-well (encodeStream _ _ _) (call .result) (c .finish-code .result) (call .ensures .0)
+            (c .finish-code .ensures) (λ g. record { under = _; room = _; blocks = _; gives = g }),
       ),
     )
 

@@ -1,8 +1,8 @@
 -- `numbers_said` meets its contract: five numbers, each of which a byte holds. The measure is how many are left.
 -- Assumes nothing.
 use Rattle.laws.proofs.All.{_≡_, _-_, _≤_, arith, length, needs}
-use Rattle.command_inputs.proofs.numbers_said.Statement.{statement}
-use Rattle.command_inputs.proofs.numbers_said.Tie as tie
+use Rattle.command_inputs.proofs.numbers.numbers_said.Statement.{statement}
+use Rattle.command_inputs.proofs.numbers.numbers_said.Tie as tie
 
 abbrev Inv-loop : tie.InvT-loop
 Inv-loop a job₀ i₀ job i = (i ≤ 5) × (5 ≡ length job)

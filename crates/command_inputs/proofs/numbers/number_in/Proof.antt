@@ -3,8 +3,8 @@
 use Rattle.laws.proofs.All.{refl, sym, ap, _∙_, arith, needs}
 use Rattle.command_inputs.specs.Inputs.{numberOf}
 use Rattle.command_inputs.proofs.Inputs.{number-taken, number-above}
-use Rattle.command_inputs.proofs.number_in.Statement.{statement}
-use Rattle.command_inputs.proofs.number_in.Tie as tie
+use Rattle.command_inputs.proofs.numbers.number_in.Statement.{statement}
+use Rattle.command_inputs.proofs.numbers.number_in.Tie as tie
 
 returns : tie.Need-returns
 returns c =
