@@ -6,7 +6,7 @@
 -- closes-record; (f) depth-numbers, weave-calls, unweave-calls, weave-spreads, weave-returns, weave-places, weaving,
 -- one-word-each, fewer-places, scratch; (g) state-sets, step-bits, back-bits, pair-step-bits, pair-hit-bits; Verify:
 -- verified, verified-place, verified-mark, verified-near, verified-stream; Calls: job-order, run-length-order,
--- joined-order, listing-call; set-order, set-count; encode-calls, decode-calls; info-numbers, phrase-words, with-tail;
+-- joined-order, listing-call, set-order, set-count, encode-calls, decode-calls, info-numbers, phrase-words, with-tail,
 -- answer-words, set-words, outputs.
 -- Assumes nothing.
 use mathlib.Core.Path.{_≡_}
