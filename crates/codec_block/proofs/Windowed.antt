@@ -1,5 +1,5 @@
 -- The window of a block as the code cuts it.
--- In order: past-start, past-later, past-set; block-read, the block by its readings.
+-- In order: past-start, past-later, past-set, past-none; block-read, the block by its readings.
 -- Assumes nothing.
 use Rattle.laws.proofs.All.{_≡_, sym, ap, ap₂, _∙_, Bool, List, ℕ, _+_, _-_, _≤_, _<_, arith, decLt, lt-ltb}
 use Rattle.laws.proofs.All.{le-ltb, eqb, ltb, getD, take, drop, slice, if_then_else_, drop-take}
@@ -12,6 +12,7 @@ use Rattle.codec_steps.specs.StateSets.{everyState, oneState, alongAll, able}
 use Rattle.codec_steps.specs.Reading.{readings, markFor, past, block}
 use Rattle.codec_steps.specs.BlockParts.{under}
 use Rattle.codec_steps.proofs.StateSteps.{states-every, states-one}
+use Rattle.codec_steps.proofs.StateWords.{along-end}
 
 module _ (t : Rows) (m a : ℕ) (ws : List ℕ) (i : ℕ) where
   pub past-start : i < m → alongAll t (oneState t 0) (slice (i - m) i ws) ≡ past (under t m a) ws i
@@ -46,6 +47,13 @@ past-set t g m a ws i R k one all e P q = q ∙ go (decLt i m)
         (states-every (t .states) (rowsOf t) (length-rows t) R
         (λ s b. all l s ∙ lt-ltb s 128 (omega (arith, g .few)))) e
         ∙ past-later (rowsOf t) m a ws i l
+
+-- with no memory it is the start of the window itself
+pub past-none : (t : Arrays) → Fits t → (a : ℕ) (ws : List ℕ) (i : ℕ) (R : BitSet) (m : ℕ) → m ≡ 0
+    → (0 ≤ i → (s : ℕ) → holds R s ≡ ltb s 128) → yesNo (t .states) R ≡ past (under (rowsOf t) m a) ws i
+past-none t g a ws i R m e all =
+    past-set t g m a ws i R i (λ h. absurd (omega (arith, e))) (λ h. all (omega arith)) (omega (arith, e))
+    (yesNo (t .states) R) (sym (along-end (rowsOf t) ws (yesNo (t .states) R) i))
 
 module _ (t : Rows) (m a : ℕ) (ws : List ℕ) (i : ℕ) (P A : List Bool) (p : P ≡ past (under t m a) ws i)
     (q : A ≡ able t (slice (i + 1) (i + 1 + a) ws)) where

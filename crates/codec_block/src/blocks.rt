@@ -9,7 +9,8 @@ ghost use Rattle.table.specs.Edges.{Arrays, borrowed, rowsOf};
 ghost use Rattle.bitsets.specs.BitSets.{holds, yesNo};
 ghost use Rattle.codec_groups.specs.Groups.{sourceAt, Grouped, between};
 ghost use Rattle.codec_steps.specs.Reading.{readings, markFor, past, block};
-ghost use Rattle.codec_steps.specs.BlockParts.{joinsAt, firstGroup, entersAt, firstInto, holdsFrom, under};
+ghost use Rattle.codec_steps.specs.BlockParts.{joinsAt, firstGroup, holdsFrom, under};
+use crate::entries::first_into;
 use crate::shorter::first_shorter;
 use crate::shorter::is_large;
 use crate::shorter::past_shorter;
@@ -23,7 +24,6 @@ use codec_groups::targets_at;
 use codec_steps::index;
 use codec_steps::readers;
 use codec_steps::step_all;
-use table::chains::wide;
 
 // Group k leads from a state of the one set into the other.
 fn joins(
@@ -67,39 +67,6 @@ pub fn first_group(
             return k;
         }
         k += 1;
-    }
-    2048
-}
-
-// The entry at place e has the word w and leads into the set.
-fn enters(word: &[u8; 2048], next: &[u8; 2048], w: u8, ahead: BitSet, e: usize) -> bool
-    requires { ⌜ (e < 2048) × (getD (now next) e 0 < 128) ⌝ }
-    ensures answer { λ r. ⌜ r ≡ entersAt (now (word .entry)) (now (next .entry)) w ahead e ⌝ }
-{
-    if word[e] == w {
-        return has(ahead, wide(next[e]));
-    }
-    false
-}
-
-// The first entry with the word w into the set, of those from place e on and below `end`, or 2048.
-fn first_into(
-    word: &[u8; 2048],
-    next: &[u8; 2048],
-    w: u8,
-    ahead: BitSet,
-    e: usize,
-    end: usize,
-) -> usize
-    requires { ⌜ (end ≤ 2048) × ((j : ℕ) → e ≤ j → j < end → getD (now next) j 0 < 128) ⌝ }
-    ensures answer { λ r. ⌜ r ≡ firstInto (now (word .entry)) (now (next .entry)) w ahead e end ⌝ }
-{
-    let mut j = e;
-    while j < end {
-        if enters(word, next, w, ahead, j) {
-            return j;
-        }
-        j += 1;
     }
     2048
 }
@@ -239,14 +206,21 @@ pub fn read_block(
         r ≡ block (under (rowsOf (borrowed states n (word .entry) (next .entry))) m a)
         (now (words .entry)) i ⌝ }
 {
-    let ahead = readers(start, first, low, high, words, i + 1, i + 1 + a);
     let w = words[i];
+    if m == 0 {
+        let all = past_start(i, 0);
+        let able = readers(start, first, low, high, words, i + 1, i + 1 + a);
+        let g = first_group(start, first, low, high, all, w, able);
+        return told(n, word, next, start, first, all, w, able, g);
+    }
     if is_large(states, low, high) {
         let near = past_shorter(start, first, low, high, words, i, m);
-        let g = first_shorter(start, first, low, high, near, w, ahead);
-        return told(n, word, next, start, first, near, w, ahead, g);
+        let far = readers(start, first, low, high, words, i + 1, i + 1 + a);
+        let g = first_shorter(start, first, low, high, near, w, far);
+        return told(n, word, next, start, first, near, w, far, g);
     }
     let past = past_set(start, first, low, high, words, i, m);
+    let ahead = readers(start, first, low, high, words, i + 1, i + 1 + a);
     let k = first_group(start, first, low, high, past, w, ahead);
     told(n, word, next, start, first, past, w, ahead, k)
 }

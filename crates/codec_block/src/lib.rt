@@ -1,3 +1,4 @@
 // The reading rule: one block from its window of words.
 pub mod blocks;
+pub mod entries;
 pub mod shorter;

@@ -29,7 +29,7 @@ pub fn is_large(states: usize, low: &[u64], high: &[u64]) -> bool
     ensures answer { λ r. ⌜
         (r ≡ true → (2304 ≤ length (now (low .entry))) × (2304 ≤ length (now (high .entry)))) ⌝ }
 {
-    if states <= 16 {
+    if states <= 32 {
         return false;
     }
     if low.len() < 2304 {

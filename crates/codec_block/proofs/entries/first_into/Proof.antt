@@ -2,8 +2,8 @@
 use Rattle.laws.proofs.All.{_≡_, refl, sym, _∙_, _-_, _≤_, arith, now}
 use Rattle.codec_steps.specs.BlockParts.{noPlace, entersAt}
 use Rattle.codec_block.proofs.Scans.{scan, scan-yes, scan-no, scan-end, into-scan}
-use Rattle.codec_block.proofs.blocks.first_into.Statement.{statement}
-use Rattle.codec_block.proofs.blocks.first_into.Tie as tie
+use Rattle.codec_block.proofs.entries.first_into.Statement.{statement}
+use Rattle.codec_block.proofs.entries.first_into.Tie as tie
 
 abbrev Inv-loop : tie.InvT-loop
 Inv-loop word next w ahead e end j₀ j =

@@ -1,8 +1,8 @@
 -- The word first, then the next state.
 use Rattle.laws.proofs.All.{sym, ap, _∙_, _&&_, eq-eqb, ne-eqb, now, getD, needs}
 use Rattle.bitsets.specs.BitSets.{holds}
-use Rattle.codec_block.proofs.blocks.enters.Statement.{statement}
-use Rattle.codec_block.proofs.blocks.enters.Tie as tie
+use Rattle.codec_block.proofs.entries.enters.Statement.{statement}
+use Rattle.codec_block.proofs.entries.enters.Tie as tie
 
 returns : tie.Need-returns
 returns c =
