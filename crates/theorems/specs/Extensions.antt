@@ -5,9 +5,9 @@
 -- labels-hold; (d) decoded-blocks, marks, no-mark-ahead, clear-unmarked; (e) closes, tail-free, tail-place,
 -- closes-record; (f) depth-numbers, weave-calls, unweave-calls, weave-spreads, weave-returns, weave-places, weaving,
 -- one-word-each, fewer-places, scratch; (g) state-sets, step-bits, back-bits, pair-step-bits, pair-hit-bits; Verify:
--- verified, verified-place, verified-mark, verified-near, verified-stream; Calls: job-order, run-length-order,
--- joined-order, listing-call, set-order, set-count, encode-calls, decode-calls, info-numbers, phrase-words, with-tail,
--- answer-words, set-words, outputs.
+-- verified, verified-place, verified-mark, verified-near, verified-stream, verify-calls, verify-stream-calls; Calls:
+-- job-order, run-length-order, joined-order, listing-call; set-order, set-count; encode-calls, decode-calls;
+-- info-numbers, phrase-words, with-tail; answer-words, set-words, outputs.
 -- Assumes nothing.
 use mathlib.Core.Path.{_≡_}
 use mathlib.Core.Logic.{_⊎_, _↔_}
@@ -65,7 +65,8 @@ use Rattle.stream_damage.specs.declared.BitRange.{BitRange}
 use Rattle.stream_damage.specs.declared.BlockRange.{BlockRange}
 use Rattle.stream_damage.specs.BitReach.{reachUnder, reachAnswer, reachNumber, reachValues}
 use Rattle.record_tail.specs.Closing.{closedWith}
-use Rattle.codec_verify.specs.Verify.{verifyUnder, verifyStream}
+use Rattle.codec_verify.specs.Fronts.{sameFront}
+use Rattle.codec_verify.specs.Verify.{rebuilt, verifyUnder, verifyStream}
 use Rattle.set_places.specs.Offsets.{offsetOf}
 use Rattle.set_check.specs.declared.SetAnswer.the-variants.{Good, Bad}
 use Rattle.set_check.specs.Sets.{readSet}
@@ -452,22 +453,20 @@ verified rec b c p L = (
   Rattle.codec_verify.proofs.Verified.verify-front rec b c p L,
 )
 
--- With no block marked the value is the place of the first word that differs from the recording of the decoded blocks.
+-- With no block marked the value is the place of the first word to differ from the recording of the decoded blocks.
 pub verified-place : (rec : List ℕ) → Below 256 rec → (c : Code) → parse rec ≡ done c → (L F : List ℕ)
     → verifyUnder rec L ≡ done F → Blocks c (decode c L) → let R = recording c (decode c L) in let k = length F in
     (take k L ≡ take k R) × (k < length L → getD L k 0 ≡ getD R k 0 → ⊥)
 verified-place = Rattle.codec_verify.proofs.Verified.verify-place
 
--- With block j the first that is marked the value is at most j: the place of the first word before j that differs from
--- those of the blocks before j, or j where none does.
+-- With block j the first marked it is that of the first word to differ from those of the blocks before j, j if none.
 pub verified-mark : (rec : List ℕ) → Below 256 rec → (c : Code) → parse rec ≡ done c → (L F : List ℕ)
     → verifyUnder rec L ≡ done F → (j : ℕ) → j ≡ firstBad (2 ^ c .p) (decode c L) → j < length (decode c L)
     → let R = spells (c .table) 0 (take j (decode c L)) in let k = length F in
     (k ≤ j) × (take k L ≡ take k R) × (k < j → getD L k 0 ≡ getD R k 0 → ⊥)
 verified-mark = Rattle.codec_verify.proofs.Verified.verify-mark
 
--- Where the first x words are those of a recording, x − a or more come back: of a recording with words changed, if k
--- come back and not all, the first that was changed stands at k + a or before.
+-- Where the first x words are those of a recording, x − a or more come back.
 pub verified-near : (rec : List ℕ) → Below 256 rec → (c : Code) → parse rec ≡ done c → (ds L F : List ℕ) → Blocks c ds
     → verifyUnder rec L ≡ done F → (x : ℕ) → x ≤ length L → x ≤ length (recording c ds)
     → take x L ≡ take x (recording c ds) → x - c .window .lookahead ≤ length F
@@ -477,6 +476,28 @@ verified-near = Rattle.codec_verify.proofs.Near.verify-near
 pub verified-stream : (rec : List ℕ) → Below 256 rec → (c : Code) → parse rec ≡ done c → (count : ℕ) (xs : List ℕ)
     → T (goodStream (c .q) count xs) → verifyStream rec count xs ≡ verifyUnder rec (unpacked (c .q) count xs)
 verified-stream = Rattle.codec_verify.proofs.Near.verify-words
+
+-- Words are verified exactly under an accepted record, a or more of them, all below 2^q; else 12, 11 as due.
+pub verify-calls : (rec L : List ℕ) → let o = verifyUnder rec L in
+    ((c : Code) → parse rec ≡ done c → let a = c .window .lookahead in
+    ((F : List ℕ) → (o ≡ done F) ↔ ((a ≤ length L) × Below (2 ^ c .q) L × (sameFront (rebuilt c L) L ≡ F)))
+    × ((o ≡ refused TooFewWords) ↔ (length L < a))
+    × ((k : ℕ) → (o ≡ refused (BadByte k)) ↔ ((a ≤ length L) × (k < length L) × Below (2 ^ c .q) (take k L)
+    × (2 ^ c .q ≤ getD L k 0))))
+    × ((r : Refusal) → parse rec ≡ refused r → (o ≡ refused r) × (7 ≤ numberOf r) × (numberOf r ≤ 10))
+verify-calls = Rattle.codec_verify.proofs.Calls.verify-calls
+
+-- A stream is verified exactly under an accepted record, if it is good and has a or more words; else 15, 12 as due.
+pub verify-stream-calls : (rec : List ℕ) (count : ℕ) (xs : List ℕ) → let o = verifyStream rec count xs in
+    ((c : Code) → parse rec ≡ done c → let size = (count * c .q + 7) / 8 in
+    let fill = field (bitsOf xs) (count * c .q) (8 * size - count * c .q) in let U = unpacked (c .q) count xs in
+    ((F : List ℕ) → (o ≡ done F) ↔ ((count ≤ 1000000) × (length xs ≡ size) × (fill ≡ 0)
+    × (c .window .lookahead ≤ count) × (sameFront (rebuilt c U) U ≡ F)))
+    × ((o ≡ refused Stream) ↔ ((1000000 < count) ⊎ ((length xs ≡ size → ⊥) ⊎ (fill ≡ 0 → ⊥))))
+    × ((o ≡ refused TooFewWords)
+    ↔ ((count ≤ 1000000) × (length xs ≡ size) × (fill ≡ 0) × (count < c .window .lookahead))))
+    × ((r : Refusal) → parse rec ≡ refused r → (o ≡ refused r) × (7 ≤ numberOf r) × (numberOf r ≤ 10))
+verify-stream-calls = Rattle.codec_verify.proofs.Calls.verify-stream-calls
 
 -- ---- Calls: what the exported calls answer besides. `First checks r` says that r is the refusal of the first check
 -- that fails. `recordOf s i` is what record i of a set comes to, and `offsetOf s i` where its length stands.
