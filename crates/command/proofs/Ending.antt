@@ -6,7 +6,7 @@ use Rattle.answer.specs.declared.Refusal.{Refusal}
 use Rattle.answer.specs.declared.Answer.the-variants.{Done, Refused}
 use Rattle.answer.specs.Outcomes.{Outcome, done, refused, answerOf}
 use Rattle.command_arguments.specs.declared.Status.{Status}
-use Rattle.command_arguments.specs.declared.Status.the-variants.{Failed, Misused, Done as Ended}
+use Rattle.command_arguments.specs.declared.Status.the-variants.{Failed, Misused, NoRecording, Done as Ended}
 use Rattle.command_arguments.specs.declared.Way.{Way}
 use Rattle.command_arguments.specs.declared.Way.the-variants.{Encode, Decode}
 use Rattle.command_arguments.specs.Shapes.{statusOf}
@@ -30,6 +30,7 @@ pub number-well : {P : Type 0} (s : Status) (r : ℕ) → r ≡ statusOf s → W
 number-well Ended r e w z = w
 number-well Failed r e w z = absurd (omega arith)
 number-well Misused r e w z = absurd (omega arith)
+number-well NoRecording r e w z = absurd (omega arith)
 
 pub way-by-decoding : (w : Way) → wayBy (decoding w) ≡ w
 way-by-decoding Encode = refl

@@ -13,11 +13,13 @@ use Rattle.set_check.specs.Sets.{Walk, codes, stopped, readSet}
 use Rattle.command_arguments.specs.declared.Action.{Action}
 use Rattle.command_arguments.specs.declared.Action.the-variants.{Compile, CompileJob, CompileJoined, Trace}
 use Rattle.command_arguments.specs.declared.Action.the-variants.{Collection, Help, Version, Viewing, Coding}
-use Rattle.command_arguments.specs.declared.Action.the-variants.{Stream, WithTail, Recordings, Unknown}
+use Rattle.command_arguments.specs.declared.Action.the-variants.{Stream, WithTail, Recordings, Verify, Unknown}
 use Rattle.command_arguments.specs.declared.OnStream.the-variants.{Pack, Unpack, Encode, Decode, Reach}
+use Rattle.command_arguments.specs.declared.Form.the-variants.{Words, Stream as AsStream}
 use Rattle.command_arguments.specs.declared.Status.{Status}
 use Rattle.command_arguments.specs.declared.Status.the-variants.{Failed}
 use Rattle.command_outputs.specs.Results.{Gives}
+use Rattle.command_verify.specs.Verifying.{VerifiedWords, VerifiedStream}
 use Rattle.command_code.specs.Coding.{Coded}
 use Rattle.command_weave.specs.Weaves.{Rearranged}
 use Rattle.command_stream.specs.Streamed.{Packed, Unpacked, EncodedStream, DecodedStream, Reached}
@@ -81,6 +83,8 @@ EndsWell (Stream Encode) = EncodedStream
 EndsWell (Stream Decode) = DecodedStream
 EndsWell (Stream Reach) = Reached
 EndsWell (Recordings how) = Rearranged how
+EndsWell (Verify Words) = VerifiedWords
+EndsWell (Verify AsStream) = VerifiedStream
 EndsWell Unknown = ⊥
 
 -- some action ended well

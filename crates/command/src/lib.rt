@@ -1,20 +1,24 @@
 // The command `sbc`: one action for each call of the library, on files.
 ghost use mathlib.Core.Path.{_≡_};
 ghost use Prim.Native.Nat.{_≤_};
-ghost use Rattle.command_arguments.specs.declared.Action.the-variants.{Collection, Coding, Stream, Recordings};
+ghost use Rattle.command_arguments.specs.declared.Action.the-variants.{Collection, Coding, Stream, Recordings, Verify};
+ghost use Rattle.command_arguments.specs.declared.Form.the-variants.{Words, Stream as AsStream};
 ghost use Rattle.command_arguments.specs.declared.OnStream.the-variants.{Pack, Unpack, Encode, Decode};
 ghost use Rattle.command_arguments.specs.declared.OnRecordings.the-variants.{Weave, Unweave};
-ghost use Rattle.command.specs.Ending.{decoding, wayBy};
+ghost use Rattle.command.specs.Ending.{wayBy};
 ghost use Rattle.command.specs.Acting.{EndsWell, Acted};
 
 mod compiling;
 mod records;
+mod ways;
 
+use crate::ways::is_decoding;
+use crate::ways::way_by;
 use command_arguments::Action;
+use command_arguments::Form;
 use command_arguments::OnRecordings;
 use command_arguments::OnStream;
 use command_arguments::Status;
-use command_arguments::Way;
 use command_arguments::is_fitting;
 use command_arguments::naming::action_of;
 use command_arguments::shape_of;
@@ -37,31 +41,11 @@ fn help() -> Status {
     }
 }
 
-// Whether a way is decoding, for a call that takes no enum.
-fn is_decoding(w: Way) -> bool
-    ensures answer { λ r. ⌜ r ≡ decoding w ⌝ }
-{
-    match w {
-        Way::Encode => false,
-        Way::Decode => true,
-    }
-}
-
-// The way that is decoding or not.
-fn way_by(back: bool) -> Way
-    ensures answer { λ r. ⌜ r ≡ wayBy back ⌝ }
-{
-    if back {
-        return Way::Decode;
-    }
-    Way::Encode
-}
-
 // encode or decode. It is exported so that it has a stack frame of its own.
 #[no_mangle]
 pub extern "C" fn sbc_action_code(back: bool) -> u32
     ensures answer { λ r. ⌜ (r ≡ 0 → EndsWell (Coding (wayBy back))) ⌝ }
-    ensures past { λ r. ⌜ r ≤ 2 ⌝ }
+    ensures past { λ r. ⌜ r ≤ 3 ⌝ }
 {
     status_number(command_code::code_files(way_by(back)))
 }
@@ -70,7 +54,7 @@ pub extern "C" fn sbc_action_code(back: bool) -> u32
 #[no_mangle]
 pub extern "C" fn sbc_action_set() -> u32
     ensures answer { λ r. ⌜ (r ≡ 0 → EndsWell Collection) ⌝ }
-    ensures past { λ r. ⌜ r ≤ 2 ⌝ }
+    ensures past { λ r. ⌜ r ≤ 3 ⌝ }
 {
     status_number(records::set_file())
 }
@@ -79,7 +63,7 @@ pub extern "C" fn sbc_action_set() -> u32
 #[no_mangle]
 pub extern "C" fn sbc_action_pack() -> u32
     ensures answer { λ r. ⌜ (r ≡ 0 → EndsWell (Stream Pack)) ⌝ }
-    ensures past { λ r. ⌜ r ≤ 2 ⌝ }
+    ensures past { λ r. ⌜ r ≤ 3 ⌝ }
 {
     status_number(command_stream::pack_file())
 }
@@ -88,7 +72,7 @@ pub extern "C" fn sbc_action_pack() -> u32
 #[no_mangle]
 pub extern "C" fn sbc_action_unpack() -> u32
     ensures answer { λ r. ⌜ (r ≡ 0 → EndsWell (Stream Unpack)) ⌝ }
-    ensures past { λ r. ⌜ r ≤ 2 ⌝ }
+    ensures past { λ r. ⌜ r ≤ 3 ⌝ }
 {
     status_number(command_stream::unpack_file())
 }
@@ -97,7 +81,7 @@ pub extern "C" fn sbc_action_unpack() -> u32
 #[no_mangle]
 pub extern "C" fn sbc_action_encode_stream() -> u32
     ensures answer { λ r. ⌜ (r ≡ 0 → EndsWell (Stream Encode)) ⌝ }
-    ensures past { λ r. ⌜ r ≤ 2 ⌝ }
+    ensures past { λ r. ⌜ r ≤ 3 ⌝ }
 {
     status_number(command_stream::encode_file())
 }
@@ -106,7 +90,7 @@ pub extern "C" fn sbc_action_encode_stream() -> u32
 #[no_mangle]
 pub extern "C" fn sbc_action_decode_stream() -> u32
     ensures answer { λ r. ⌜ (r ≡ 0 → EndsWell (Stream Decode)) ⌝ }
-    ensures past { λ r. ⌜ r ≤ 2 ⌝ }
+    ensures past { λ r. ⌜ r ≤ 3 ⌝ }
 {
     status_number(command_stream::decode_file())
 }
@@ -115,7 +99,7 @@ pub extern "C" fn sbc_action_decode_stream() -> u32
 #[no_mangle]
 pub extern "C" fn sbc_action_weave() -> u32
     ensures answer { λ r. ⌜ (r ≡ 0 → EndsWell (Recordings Weave)) ⌝ }
-    ensures past { λ r. ⌜ r ≤ 2 ⌝ }
+    ensures past { λ r. ⌜ r ≤ 3 ⌝ }
 {
     status_number(command_weave::rearrange_file(OnRecordings::Weave))
 }
@@ -124,15 +108,33 @@ pub extern "C" fn sbc_action_weave() -> u32
 #[no_mangle]
 pub extern "C" fn sbc_action_unweave() -> u32
     ensures answer { λ r. ⌜ (r ≡ 0 → EndsWell (Recordings Unweave)) ⌝ }
-    ensures past { λ r. ⌜ r ≤ 2 ⌝ }
+    ensures past { λ r. ⌜ r ≤ 3 ⌝ }
 {
     status_number(command_weave::rearrange_file(OnRecordings::Unweave))
+}
+
+// verify. It is exported so that it has a stack frame of its own.
+#[no_mangle]
+pub extern "C" fn sbc_action_verify() -> u32
+    ensures answer { λ r. ⌜ (r ≡ 0 → EndsWell (Verify Words)) ⌝ }
+    ensures past { λ r. ⌜ r ≤ 3 ⌝ }
+{
+    status_number(command_verify::verifying::verify_file())
+}
+
+// verify-stream. It is exported so that it has a stack frame of its own.
+#[no_mangle]
+pub extern "C" fn sbc_action_verify_stream() -> u32
+    ensures answer { λ r. ⌜ (r ≡ 0 → EndsWell (Verify AsStream)) ⌝ }
+    ensures past { λ r. ⌜ r ≤ 3 ⌝ }
+{
+    status_number(command_verify::verifying::verify_stream_file())
 }
 
 // Does an action on bit streams; the answer is the exit status.
 fn act_on_stream(s: OnStream) -> u32
     ensures answer { λ r. ⌜ (r ≡ 0 → EndsWell (Stream s)) ⌝ }
-    ensures past { λ r. ⌜ r ≤ 2 ⌝ }
+    ensures past { λ r. ⌜ r ≤ 3 ⌝ }
 {
     match s {
         OnStream::Pack => sbc_action_pack(),
@@ -146,7 +148,7 @@ fn act_on_stream(s: OnStream) -> u32
 // Does an action on several recordings at once; the answer is the exit status.
 fn act_on_recordings(how: OnRecordings) -> u32
     ensures answer { λ r. ⌜ (r ≡ 0 → EndsWell (Recordings how)) ⌝ }
-    ensures past { λ r. ⌜ r ≤ 2 ⌝ }
+    ensures past { λ r. ⌜ r ≤ 3 ⌝ }
 {
     match how {
         OnRecordings::Weave => sbc_action_weave(),
@@ -154,10 +156,21 @@ fn act_on_recordings(how: OnRecordings) -> u32
     }
 }
 
+// Does an action that verifies; the answer is the exit status.
+fn act_on_words(f: Form) -> u32
+    ensures answer { λ r. ⌜ (r ≡ 0 → EndsWell (Verify f)) ⌝ }
+    ensures past { λ r. ⌜ r ≤ 3 ⌝ }
+{
+    match f {
+        Form::Words => sbc_action_verify(),
+        Form::Stream => sbc_action_verify_stream(),
+    }
+}
+
 // Does an action; the answer is the exit status.
 fn act(a: Action) -> u32
     ensures answer { λ r. ⌜ (r ≡ 0 → EndsWell a) ⌝ }
-    ensures past { λ r. ⌜ r ≤ 2 ⌝ }
+    ensures past { λ r. ⌜ r ≤ 3 ⌝ }
 {
     match a {
         Action::Compile => status_number(compiling::compile()),
@@ -172,6 +185,7 @@ fn act(a: Action) -> u32
         Action::Coding(w) => sbc_action_code(is_decoding(w)),
         Action::Stream(s) => act_on_stream(s),
         Action::Recordings(how) => act_on_recordings(how),
+        Action::Verify(f) => act_on_words(f),
         Action::Unknown => status_number(misused(Action::Unknown)),
     }
 }
@@ -179,7 +193,7 @@ fn act(a: Action) -> u32
 // Does an action, if there are as many arguments as it takes.
 fn act_fitting(a: Action) -> u32
     ensures answer { λ r. ⌜ (r ≡ 0 → EndsWell a) ⌝ }
-    ensures past { λ r. ⌜ r ≤ 2 ⌝ }
+    ensures past { λ r. ⌜ r ≤ 3 ⌝ }
 {
     let s = shape_of(a);
     if is_fitting(s.fewest, s.most, os::arg_count()) {
@@ -188,10 +202,10 @@ fn act_fitting(a: Action) -> u32
     status_number(misused(a))
 }
 
-// Does what the arguments say; the answer is the exit status: 0, 1 or 2.
+// Does what the arguments say; the answer is the exit status: 0, 1, 2 or 3.
 pub fn run() -> u32
     ensures answer { λ r. ⌜ (r ≡ 0 → Acted) ⌝ }
-    ensures past { λ r. ⌜ r ≤ 2 ⌝ }
+    ensures past { λ r. ⌜ r ≤ 3 ⌝ }
 {
     let mut word = io::buffer();
     let n = os::arg(1, &mut word);
@@ -208,11 +222,11 @@ pub fn run() -> u32
     }
 }
 
-// Does what the arguments say; the answer is the exit status: 0, 1 or 2.
+// Does what the arguments say; the answer is the exit status: 0, 1, 2 or 3.
 #[no_mangle]
 pub extern "C" fn sbc_main() -> u32
     ensures answer { λ r. ⌜ (r ≡ 0 → Acted) ⌝ }
-    ensures past { λ r. ⌜ r ≤ 2 ⌝ }
+    ensures past { λ r. ⌜ r ≤ 3 ⌝ }
 {
     run()
 }

@@ -1,5 +1,5 @@
 -- Which action a word names.
--- In order: askedAction, recordingsAction, streamAction, recordAction, actionOf.
+-- In order: askedAction, verifyAction, recordingsAction, streamAction, recordAction, actionOf.
 -- Assumes nothing.
 use mathlib.Core.List.{List}
 use Prim.Native.Nat.{ℕ}
@@ -10,12 +10,13 @@ use Rattle.command_arguments.specs.declared.Action.{Action}
 use Rattle.command_arguments.specs.declared.Action.the-variants.{Compile, CompileJob, CompileJoined, Trace}
 use Rattle.command_arguments.specs.declared.Action.the-variants.{Collection, Help, Version, Viewing, Coding}
 use Rattle.command_arguments.specs.declared.Action.the-variants.{Stream}
-use Rattle.command_arguments.specs.declared.Action.the-variants.{WithTail, Recordings, Unknown}
+use Rattle.command_arguments.specs.declared.Action.the-variants.{WithTail, Recordings, Verify, Unknown}
 use Rattle.command_arguments.specs.declared.View.the-variants.{Check, Show, Draw}
 use Rattle.command_arguments.specs.declared.Way.the-variants.{Encode, Decode}
 use Rattle.command_arguments.specs.declared.OnStream.the-variants.{Pack, Unpack, Reach}
 use Rattle.command_arguments.specs.declared.OnStream.the-variants.{Encode as EncodeStream, Decode as DecodeStream}
 use Rattle.command_arguments.specs.declared.OnRecordings.the-variants.{Weave, Unweave}
+use Rattle.command_arguments.specs.declared.Form.the-variants.{Words, Stream as AsStream}
 
 -- the action that asks about the command itself
 unfoldable pub askedAction : List ℕ → Action
@@ -25,11 +26,17 @@ askedAction w =
     if same w (bytes "-h") then Help else
     if same w (bytes "--version") then Version else Unknown
 
+-- the action that tells whether words are a recording
+unfoldable pub verifyAction : List ℕ → Action
+verifyAction w =
+    if same w (bytes "verify") then Verify Words else
+    if same w (bytes "verify-stream") then Verify AsStream else askedAction w
+
 -- the action on several recordings at once
 unfoldable pub recordingsAction : List ℕ → Action
 recordingsAction w =
     if same w (bytes "weave") then Recordings Weave else
-    if same w (bytes "unweave") then Recordings Unweave else askedAction w
+    if same w (bytes "unweave") then Recordings Unweave else verifyAction w
 
 -- the action on bit streams
 unfoldable pub streamAction : List ℕ → Action

@@ -1,6 +1,6 @@
 -- What each action takes: how many arguments, and which of them are numbers, are read and are written; and the number
 -- of a status.
--- In order: shaped, streamShape, shapeOf, fits; statusOf.
+-- In order: shaped, streamShape, verifyShape, shapeOf, fits; statusOf.
 -- Assumes nothing.
 use mathlib.Core.Bool.{Bool, _&&_}
 use Prim.Native.Nat.{ℕ}
@@ -10,11 +10,13 @@ use Rattle.command_arguments.specs.declared.Action.{Action}
 use Rattle.command_arguments.specs.declared.Action.the-variants.{Compile, CompileJob, CompileJoined, Trace}
 use Rattle.command_arguments.specs.declared.Action.the-variants.{Collection, Help, Version, Viewing, Coding}
 use Rattle.command_arguments.specs.declared.Action.the-variants.{Stream}
-use Rattle.command_arguments.specs.declared.Action.the-variants.{WithTail, Recordings, Unknown}
+use Rattle.command_arguments.specs.declared.Action.the-variants.{WithTail, Recordings, Verify, Unknown}
 use Rattle.command_arguments.specs.declared.OnStream.{OnStream}
 use Rattle.command_arguments.specs.declared.OnStream.the-variants.{Pack, Unpack, Encode, Decode, Reach}
+use Rattle.command_arguments.specs.declared.Form.{Form}
+use Rattle.command_arguments.specs.declared.Form.the-variants.{Words, Stream as AsStream}
 use Rattle.command_arguments.specs.declared.Status.{Status}
-use Rattle.command_arguments.specs.declared.Status.the-variants.{Done, Failed, Misused}
+use Rattle.command_arguments.specs.declared.Status.the-variants.{Done, Failed, Misused, NoRecording}
 
 -- the fewest and the most arguments, and the places of the first number, of the record, of the file read and of the
 -- file written
@@ -30,6 +32,11 @@ streamShape Encode = shaped 5 5 0 2 3 4
 streamShape Decode = shaped 6 6 3 2 4 5
 streamShape Reach = shaped 5 5 3 2 0 0
 
+-- what an action that verifies takes
+abbrev pub verifyShape : Form → Shape
+verifyShape Words = shaped 4 4 0 2 3 0
+verifyShape AsStream = shaped 5 5 3 2 4 0
+
 -- what an action takes; argument 0 is the program's name, argument 1 the action's
 abbrev pub shapeOf : Action → Shape
 shapeOf Compile = shaped 7 8 2 0 0 7
@@ -44,6 +51,7 @@ shapeOf WithTail = shaped 5 5 3 2 0 4
 shapeOf (Coding w) = shaped 5 5 0 2 3 4
 shapeOf (Stream s) = streamShape s
 shapeOf (Recordings r) = shaped 5 5 2 0 3 4
+shapeOf (Verify f) = verifyShape f
 shapeOf Unknown = shaped 0 0 0 0 0 0
 
 -- a count of arguments is from the fewest to the most
@@ -55,3 +63,4 @@ abbrev pub statusOf : Status → ℕ
 statusOf Done = 0
 statusOf Failed = 1
 statusOf Misused = 2
+statusOf NoRecording = 3

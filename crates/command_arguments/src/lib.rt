@@ -1,7 +1,7 @@
 // What the arguments of the command say: an action, which arguments it reads and writes, numbers; and how a run ends.
 ghost use mathlib.Core.Path.{_≡_};
 ghost use Prim.Native.Nat.{_≤_};
-ghost use Rattle.command_arguments.specs.Shapes.{shaped, streamShape, shapeOf, fits, statusOf};
+ghost use Rattle.command_arguments.specs.Shapes.{shaped, streamShape, verifyShape, shapeOf, fits, statusOf};
 
 pub mod naming;
 pub mod numbers;
@@ -34,6 +34,12 @@ pub enum OnRecordings {
     Unweave,
 }
 
+// How words are given: one byte each, or as a bit stream.
+pub enum Form {
+    Words,
+    Stream,
+}
+
 // What the command does.
 pub enum Action {
     Compile,
@@ -49,6 +55,8 @@ pub enum Action {
     Coding(Way),
     Stream(OnStream),
     Recordings(OnRecordings),
+    // Whether words are a recording.
+    Verify(Form),
     // No action has this name.
     Unknown,
 }
@@ -74,6 +82,8 @@ pub enum Status {
     Failed,
     // 2: arguments that fit no action.
     Misused,
+    // 3: words were decoded and their blocks are written, and the words are no recording.
+    NoRecording,
 }
 
 // What an argument says that is to be a number.
@@ -118,6 +128,16 @@ fn stream_shape(s: OnStream) -> Shape
     }
 }
 
+// What an action that verifies takes.
+fn verify_shape(f: Form) -> Shape
+    ensures answer { λ r. ⌜ r ≡ verifyShape f ⌝ }
+{
+    match f {
+        Form::Words => with_places(4, 4, 0, 2, 3, 0),
+        Form::Stream => with_places(5, 5, 3, 2, 4, 0),
+    }
+}
+
 // What an action takes.
 pub fn shape_of(a: Action) -> Shape
     ensures answer { λ r. ⌜ r ≡ shapeOf a ⌝ }
@@ -135,6 +155,7 @@ pub fn shape_of(a: Action) -> Shape
         Action::Coding(_) => with_places(5, 5, 0, 2, 3, 4),
         Action::Stream(s) => stream_shape(s),
         Action::Recordings(_) => with_places(5, 5, 2, 0, 3, 4),
+        Action::Verify(f) => verify_shape(f),
         Action::Unknown => with_places(0, 0, 0, 0, 0, 0),
     }
 }
@@ -179,11 +200,12 @@ pub fn is_fitting(fewest: usize, most: usize, count: usize) -> bool
 // The exit status.
 pub fn status_number(s: Status) -> u32
     ensures answer { λ r. ⌜ r ≡ statusOf s ⌝ }
-    ensures past { λ r. ⌜ r ≤ 2 ⌝ }
+    ensures past { λ r. ⌜ r ≤ 3 ⌝ }
 {
     match s {
         Status::Done => 0,
         Status::Failed => 1,
         Status::Misused => 2,
+        Status::NoRecording => 3,
     }
 }

@@ -1,8 +1,9 @@
 // Actions as words name them.
 ghost use mathlib.Core.Path.{_≡_};
-ghost use Rattle.command_arguments.specs.Naming.{askedAction, recordingsAction, streamAction, recordAction};
-ghost use Rattle.command_arguments.specs.Naming.{actionOf};
+ghost use Rattle.command_arguments.specs.Naming.{askedAction, verifyAction, recordingsAction, streamAction};
+ghost use Rattle.command_arguments.specs.Naming.{recordAction, actionOf};
 use crate::Action;
+use crate::Form;
 use crate::OnRecordings;
 use crate::OnStream;
 use crate::View;
@@ -28,6 +29,19 @@ fn asked_action(word: &[u8]) -> Action
     Action::Unknown
 }
 
+// The action that tells whether words are a recording.
+fn verify_action(word: &[u8]) -> Action
+    ensures answer { λ r. ⌜ r ≡ verifyAction (now (word .entry)) ⌝ }
+{
+    if is_same(word, b"verify") {
+        return Action::Verify(Form::Words);
+    }
+    if is_same(word, b"verify-stream") {
+        return Action::Verify(Form::Stream);
+    }
+    asked_action(word)
+}
+
 // The action on several recordings at once.
 fn recordings_action(word: &[u8]) -> Action
     ensures answer { λ r. ⌜ r ≡ recordingsAction (now (word .entry)) ⌝ }
@@ -38,7 +52,7 @@ fn recordings_action(word: &[u8]) -> Action
     if is_same(word, b"unweave") {
         return Action::Recordings(OnRecordings::Unweave);
     }
-    asked_action(word)
+    verify_action(word)
 }
 
 // The action on bit streams.

@@ -1,11 +1,18 @@
 -- What is done under a record.
--- In order: coded; Coded; longestOf.
+-- In order: coded; Whole, Coded; Ends; longestOf.
 -- Assumes nothing.
+use mathlib.Core.Path.{_≡_}
 use mathlib.Core.List.{List}
-use Prim.Native.Nat.{ℕ}
-use Rattle.answer.specs.Outcomes.{Outcome}
+use Prim.Native.Nat.{ℕ, _≤_}
+use lib.ListN.{length}
+use Rattle.answer.specs.declared.Answer.the-variants.{Done}
+use Rattle.answer.specs.Outcomes.{Outcome, answerOf}
 use Rattle.codec.specs.Answers.{encodeUnder, decodeUnder}
+use Rattle.codec_verify.specs.Verify.{verifyUnder}
 use Rattle.command_outputs.specs.Results.{Gives}
+use Rattle.command_verify.specs.Verifying.{Counted}
+use Rattle.command_arguments.specs.declared.Status.{Status}
+use Rattle.command_arguments.specs.Shapes.{statusOf}
 use Rattle.command_arguments.specs.declared.Way.{Way}
 use Rattle.command_arguments.specs.declared.Way.the-variants.{Encode, Decode}
 
@@ -14,12 +21,23 @@ abbrev pub coded : Way → List ℕ → ℕ → List ℕ → Outcome (List ℕ)
 coded Encode rec room xs = encodeUnder rec room xs
 coded Decode rec room xs = decodeUnder rec room xs
 
--- some bytes have a result under some record
+-- words that are decoded are a recording: all of them come back
+abbrev pub Whole : Way → List ℕ → List ℕ → Type 0
+Whole Encode rec xs = Unit {0}
+Whole Decode rec xs = answerOf (verifyUnder rec xs) ≡ Done (length xs)
+
+-- some bytes have a result under some record, and words that are decoded are a recording
 pub record Coded (w : Way) : Type 0 where
   pub under : List ℕ
   pub room : ℕ
   pub bytes : List ℕ
   pub gives : Gives (coded w under room bytes)
+  pub whole : Whole w under bytes
+
+-- how a run may end: encoding with status 0 or 1, decoding by how many words come back
+abbrev pub Ends : Way → List ℕ → List ℕ → Status → Type 0
+Ends Encode rec xs s = statusOf s ≤ 1
+Ends Decode rec xs s = Counted (answerOf (verifyUnder rec xs)) (length xs) s
 
 -- the most bytes that are taken: 1,000,000 blocks, and the words of as many
 abbrev pub longestOf : Way → ℕ

@@ -3,10 +3,11 @@ ghost use mathlib.Core.Path.{_≡_};
 ghost use lib.ListN.{length};
 ghost use Rattle.answer.specs.Outcomes.{answerOf, outputOf};
 ghost use Rattle.command_arguments.specs.declared.Action.the-variants.{Coding};
+ghost use Rattle.command_arguments.specs.declared.Status.the-variants.{Failed};
 ghost use Rattle.command_arguments.specs.Shapes.{shapeOf};
 ghost use Rattle.command_inputs.specs.Inputs.{From};
 ghost use Rattle.command_outputs.specs.Results.{Fails, WellOnly};
-ghost use Rattle.command_code.specs.Coding.{coded, Coded, longestOf};
+ghost use Rattle.command_code.specs.Coding.{coded, Coded, Ends, longestOf};
 use answer::Answer;
 use codec_record::decoding::decode;
 use codec_record::encoding::encode;
@@ -22,6 +23,8 @@ use command_inputs::load_whole;
 use command_inputs::recording;
 use command_marks::finish_code;
 use command_messages::usage::misused_word;
+use command_verify::after_words;
+use command_verify::after_writing;
 
 // The words of blocks, or the blocks of words, under a record, in the output.
 fn code(w: Way, under: &[u8], bytes: &[u8], out: &mut [u8]) -> Answer
@@ -48,8 +51,19 @@ fn longest(w: Way) -> usize
     }
 }
 
-// The words of blocks, or the blocks of words, under a record; the run fails where they are refused. `u` and `b` are
-// what was read of the record and of the bytes.
+// How a run ends that ended so far as `s`: a decoding by whether the words are a recording.
+fn end_code(w: Way, s: Status, under: &[u8], bytes: &[u8]) -> Status
+    ensures answer { λ e. ⌜ Ends w (now (under .entry)) (now (bytes .entry)) e ⌝ }
+    ensures past { λ e. ⌜ (s ≡ Failed → e ≡ Failed) ⌝ }
+{
+    match w {
+        Way::Encode => after_writing(s),
+        Way::Decode => after_words(s, under, bytes),
+    }
+}
+
+// The words of blocks, or the blocks of words, under a record; the run fails where they are refused, and tells where
+// words that were decoded are no recording. `u` and `b` are what was read of the record and of the bytes.
 fn code_bytes(w: Way, u: Input, under: &[u8], b: Input, bytes: &[u8], out: &mut [u8]) -> Status
     requires { ⌜
         From (shapeOf (Coding w) .under) u (now under) × From (shapeOf (Coding w) .read) b (now bytes) ⌝ }
@@ -60,9 +74,11 @@ fn code_bytes(w: Way, u: Input, under: &[u8], b: Input, bytes: &[u8], out: &mut 
         ≡ outputOf (coded w (now (under .entry)) (length (now (out .entry))) (now (bytes .entry)))
         (now (out .entry)) ⌝ }
     ensures past { λ s. ⌜ WellOnly (Coded w) s ⌝ }
+    ensures verified { λ s. ⌜ Ends w (now (under .entry)) (now (bytes .entry)) s ⌝ }
 {
     let r = code(w, under, bytes, out);
-    finish_code(Action::Coding(w), w, r, out)
+    let s = finish_code(Action::Coding(w), w, r, out);
+    end_code(w, s, under, bytes)
 }
 
 // encode RECORD DATA OUT, decode RECORD WORDS OUT

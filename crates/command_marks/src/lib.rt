@@ -85,6 +85,7 @@ pub fn finish_code(a: Action, w: Way, r: Answer, out: &[u8]) -> Status
         Status::Done => tell_marks(w, r, out),
         Status::Failed => {}
         Status::Misused => {}
+        Status::NoRecording => {}
     }
     s
 }

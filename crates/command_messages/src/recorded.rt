@@ -2,6 +2,7 @@
 ghost use Prim.Native.Nat.{_≤_};
 ghost use Rattle.command_arguments.specs.Shapes.{statusOf};
 use crate::tell_text;
+use command_arguments::Form;
 use command_arguments::OnRecordings;
 use command_arguments::OnStream;
 use command_arguments::Status;
@@ -26,7 +27,8 @@ blocks. Only one of RECORD and DATA can be -.
 Decodes the words in WORDS, one byte each and below 2^q, under the record in RECORD, and writes the blocks to OUT, one
 byte each. W words give W - a blocks. A block that cannot be read is a mark: 254 where the words up to it are no path
 through the code, 255 where they are one, but not with the words ahead. How many there are of each is said on standard
-error. At most 1,000,015 words. Only one of RECORD and WORDS can be -.
+error. No mark is no promise: where the words are no recording, the line of verify is said too, and the exit status is
+3. At most 1,000,015 words. Only one of RECORD and WORDS can be -.
 ",
         ),
     }
@@ -49,8 +51,9 @@ bit stream, as pack does. N blocks give N + a words. At most 1,000,000 words. On
             b"usage: sbc decode-stream RECORD COUNT STREAM OUT
 Decodes the COUNT words of the bit stream in STREAM under the record in RECORD, and writes the blocks to OUT, one byte
 each. COUNT counts the closing words too: N blocks were recorded as N + a words. STREAM is as for unpack. A block that
-cannot be read is a mark, 254 or 255, as for decode; how many there are of each is said on standard error. At most
-1,000,000 words. Only one of RECORD and STREAM can be -.
+cannot be read is a mark, 254 or 255, as for decode; how many there are of each is said on standard error. The exit
+status is 3 where the words are no recording, as for decode. At most 1,000,000 words. Only one of RECORD and STREAM can
+be -.
 ",
         ),
     }
@@ -107,6 +110,32 @@ one word of each recording, so at most m + a + 1 blocks of each. Lost or added w
             b"usage: sbc unweave D IN OUT
 Takes the D recordings that are woven in IN apart again, and writes them to OUT one after the other, one byte a word: it
 undoes weave with the same D. D: 2 to 16, and it must divide the number of words. At most 1,000,015 words in all.
+",
+        ),
+    }
+}
+
+// The actions that tell whether words are a recording.
+pub fn tell_verify(file: i32, f: Form) -> Status
+    ensures past { λ s. ⌜ statusOf s ≤ 1 ⌝ }
+{
+    match f {
+        Form::Words => tell_text(
+            file,
+            b"usage: sbc verify RECORD WORDS
+Says whether the words in WORDS, one byte each and below 2^q, are a recording under the record in RECORD: whether
+encoding their decoded blocks gives them back. If not, it says on standard error how many come back, from the first on,
+and the exit status is 1. If they were a recording once, the first that was changed stands at most a words after those
+that come back. A damaged list can itself be a recording: a checksum over the data stays due. At most 1,000,015 words.
+Only one of RECORD and WORDS can be -.
+",
+        ),
+        Form::Stream => tell_text(
+            file,
+            b"usage: sbc verify-stream RECORD COUNT STREAM
+Says whether the COUNT words of the bit stream in STREAM are a recording under the record in RECORD, as verify does.
+COUNT counts the closing words too. STREAM is as for unpack. At most 1,000,000 words. Only one of RECORD and STREAM can
+be -.
 ",
         ),
     }

@@ -6,6 +6,7 @@ ghost use Rattle.command_arguments.specs.declared.Status.the-variants.{Misused}
 use crate::recorded::tell_coding;
 use crate::recorded::tell_recordings;
 use crate::recorded::tell_stream;
+use crate::recorded::tell_verify;
 use crate::say;
 use crate::system::complain;
 use crate::system::print;
@@ -34,10 +35,12 @@ fn tell_all(file: i32) -> Status
   with-tail RECORD DATUM OUT             write a record with another tail datum
   encode RECORD DATA OUT                 record data blocks as words
   decode RECORD WORDS OUT                read words as data blocks
+  verify RECORD WORDS                    say whether words are a recording
   pack q WORDS OUT                       pack words of q bits into a bit stream
   unpack q COUNT STREAM OUT              unpack the words of a bit stream
   encode-stream RECORD DATA OUT          record data blocks as a bit stream
   decode-stream RECORD COUNT STREAM OUT  read a bit stream as data blocks
+  verify-stream RECORD COUNT STREAM      say whether the words of a bit stream are a recording
   reach RECORD FIRST LAST                print the blocks that overwritten channel bits can spoil
   weave D IN OUT                         weave D recordings that stand one after the other
   unweave D IN OUT                       take woven recordings apart again
@@ -45,6 +48,8 @@ fn tell_all(file: i32) -> Status
   help [ACTION]                          print this, or more about an action; --help and -h too
   --version                              print the version
 A file named - is standard input or standard output.
+The exit status is 0 for a result, 1 for a refusal, a file that cannot be read or written, or words that verify finds
+no recording, 2 for wrong usage, and 3 where decode wrote the blocks of words that are no recording.
 ",
     )
 }
@@ -132,6 +137,7 @@ changes. Recordings under OUT close with DATUM; a record that compile writes clo
         Action::Coding(w) => tell_coding(file, w),
         Action::Stream(s) => tell_stream(file, s),
         Action::Recordings(r) => tell_recordings(file, r),
+        Action::Verify(f) => tell_verify(file, f),
         Action::Collection => tell_text(
             file,
             b"usage: sbc set FILE
@@ -187,5 +193,5 @@ pub fn print_use(a: Action) -> Status
 pub fn print_version() -> Status
     ensures past { λ s. ⌜ statusOf s ≤ 1 ⌝ }
 {
-    print(b"sbc 2.1\n")
+    print(b"sbc 2.2\n")
 }

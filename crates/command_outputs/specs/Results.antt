@@ -10,7 +10,7 @@ use Rattle.answer.specs.declared.Answer.{Answer}
 use Rattle.answer.specs.declared.Answer.the-variants.{Done, Refused}
 use Rattle.command_arguments.specs.declared.Status.{Status}
 use Rattle.answer.specs.Outcomes.{Outcome, done, refused}
-use Rattle.command_arguments.specs.declared.Status.the-variants.{Done as Ended, Failed, Misused}
+use Rattle.command_arguments.specs.declared.Status.the-variants.{Done as Ended, Failed, Misused, NoRecording}
 use Rattle.command_store.specs.declared.Stored.{Stored}
 use Rattle.command_store.specs.declared.Stored.the-variants.{Whole, Unwritten, Source}
 
@@ -39,6 +39,7 @@ abbrev pub WellOnly : Type 0 → Status → Type 0
 WellOnly P Ended = P
 WellOnly P Failed = Unit {0}
 WellOnly P Misused = Unit {0}
+WellOnly P NoRecording = Unit {0}
 
 -- how a run ends by what writing its result came to: well where all of it was written
 abbrev pub endedBy : Stored → Status

@@ -1,10 +1,14 @@
 -- What lets an action on bit streams end well: a result for some of what it can be given.
 -- In order: Packed, Unpacked; EncodedStream, DecodedStream; Reached.
 -- Assumes nothing.
+use mathlib.Core.Path.{_≡_}
 use mathlib.Core.List.{List}
 use Prim.Native.Nat.{ℕ, _≤_}
+use Rattle.answer.specs.declared.Answer.the-variants.{Done}
+use Rattle.answer.specs.Outcomes.{answerOf}
 use Rattle.stream_pack.specs.Streams.{packInto, unpackInto}
 use Rattle.stream.specs.Recorded.{encodeStream, decodeStream}
+use Rattle.codec_verify.specs.Verify.{verifyStream}
 use Rattle.stream_damage.specs.BitReach.{reachUnder}
 use Rattle.command_outputs.specs.Results.{Gives}
 use Rattle.command_stream.specs.Reaching.{bitsFrom}
@@ -31,13 +35,14 @@ pub record EncodedStream : Type 0 where
   pub blocks : List ℕ
   pub gives : Gives (encodeStream under room blocks)
 
--- so many words of some stream are decoded under some record
+-- so many words of some stream are decoded under some record, and are a recording
 pub record DecodedStream : Type 0 where
   pub under : List ℕ
   pub count : ℕ
   pub room : ℕ
   pub stream : List ℕ
   pub gives : Gives (decodeStream under count room stream)
+  pub whole : answerOf (verifyStream under count stream) ≡ Done count
 
 -- the reach of damage from a first bit to a last one, which is not below it, is known under some record
 pub record Reached : Type 0 where

@@ -5,11 +5,13 @@ ghost use lib.ListN.{length};
 ghost use Rattle.answer.specs.Outcomes.{answerOf, outputOf};
 ghost use Rattle.stream_pack.specs.Streams.{packInto, unpackInto};
 ghost use Rattle.stream.specs.Recorded.{encodeStream, decodeStream};
+ghost use Rattle.codec_verify.specs.Verify.{verifyStream};
 ghost use Rattle.command_arguments.specs.declared.Action.the-variants.{Stream};
 ghost use Rattle.command_arguments.specs.declared.OnStream.the-variants.{Pack, Unpack, Encode, Decode};
 ghost use Rattle.command_arguments.specs.Shapes.{shapeOf};
 ghost use Rattle.command_inputs.specs.Inputs.{From};
 ghost use Rattle.command_outputs.specs.Results.{Fails, WellOnly};
+ghost use Rattle.command_verify.specs.Verifying.{Counted};
 ghost use Rattle.command_stream.specs.Streamed.{Packed, Unpacked, EncodedStream, DecodedStream};
 
 pub mod reaching;
@@ -31,6 +33,7 @@ use command_inputs::recording;
 use command_marks::finish_code;
 use command_messages::usage::misused_word;
 use command_outputs::finish;
+use command_verify::after_stream;
 use stream_pack::pack;
 use stream_pack::unpack;
 use stream_record::decode_stream;
@@ -153,8 +156,8 @@ pub fn encode_file() -> Status
     encode_blocks(u, &under[..n], b, &blocks[..k], &mut out)
 }
 
-// The blocks of the words of a stream under a record; the marks are said. `u` and `b` are what was read of the record
-// and of the stream.
+// The blocks of the words of a stream under a record; the marks are said, and where the words are no recording, that
+// too. `u` and `b` are what was read of the record and of the stream.
 fn decode_words(
     u: Input,
     under: &[u8],
@@ -176,9 +179,12 @@ fn decode_words(
         (decodeStream (now (under .entry)) (count .value) (length (now (out .entry))) (now (stream .entry)))
         (now (out .entry)) ⌝ }
     ensures past { λ s. ⌜ WellOnly DecodedStream s ⌝ }
+    ensures verified { λ s. ⌜
+        Counted (answerOf (verifyStream (now (under .entry)) (count .value) (now (stream .entry)))) (count .value) s ⌝ }
 {
     let r = decode_stream(under, count.value, stream, out);
-    finish_code(Action::Stream(OnStream::Decode), Way::Decode, r, out)
+    let s = finish_code(Action::Stream(OnStream::Decode), Way::Decode, r, out);
+    after_stream(s, under, count.value, stream)
 }
 
 // decode-stream RECORD COUNT STREAM OUT

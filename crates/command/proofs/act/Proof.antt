@@ -83,6 +83,11 @@ returns-12 c =
 
 returns-13 : tie.Need-returns-13
 returns-13 c =
+    let e = c .act-on-words .ensures in
+    (λ z. subst EndsWell (sym (c .before .before .a5 .given .1)) (e .0 z), e .1)
+
+returns-14 : tie.Need-returns-14
+returns-14 c =
     let n = c .status-number9 .ensures in
     let e = n .0 ∙ ap statusOf (c .before .misused .ensures) in
     (λ z. absurd (omega arith), n .1)
@@ -98,5 +103,5 @@ act-spec =
     (λ c. search needs) (λ c κs. search needs) (λ c κs. search needs) (λ c. search needs) (λ c κs. search needs)
     (λ c κs. search needs) (λ c. search needs) (λ c κs. search needs) (λ c κs. search needs) (λ c. search needs)
     (λ c κs. search needs) (λ c. search needs) (λ c κs. search needs) (λ c. search needs) (λ c κs. search needs)
-    (λ c κs. search needs) returns returns-2 returns-3 returns-4 returns-5 returns-6 returns-7 returns-8 returns-9
-    returns-10 returns-11 returns-12 returns-13)
+    (λ c. search needs) (λ c κs. search needs) (λ c κs. search needs) returns returns-2 returns-3 returns-4
+    returns-5 returns-6 returns-7 returns-8 returns-9 returns-10 returns-11 returns-12 returns-13 returns-14)

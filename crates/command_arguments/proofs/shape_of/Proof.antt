@@ -42,12 +42,17 @@ returns-12 : tie.Need-returns-12
 returns-12 c = c .with-places11 .ensures ∙ sym (ap shapeOf (c .before .enum-told11 .given .1))
 
 returns-13 : tie.Need-returns-13
-returns-13 c = c .with-places12 .ensures ∙ sym (ap shapeOf (c .before .enum-told12 .given .1))
+returns-13 c = c .verify-shape .ensures ∙ sym (ap shapeOf (c .before .before .a2 .given .1))
+
+returns-14 : tie.Need-returns-14
+returns-14 c = c .with-places12 .ensures ∙ sym (ap shapeOf (c .before .enum-told12 .given .1))
 
 pub shape-of-spec : {M : Type 1} → statement M
 shape-of-spec =
     tie.close
     (tie.spec
+    (λ c. search needs)
+    (λ c κs. search needs)
     (λ c. search needs)
     (λ c κs. search needs)
     (λ c. search needs)
@@ -86,4 +91,5 @@ shape-of-spec =
     returns-10
     returns-11
     returns-12
-    returns-13)
+    returns-13
+    returns-14)

@@ -3,7 +3,8 @@
 -- Assumes nothing.
 use Rattle.laws.proofs.All.{now, length, needs}
 use Rattle.command_code.specs.Coding.{coded}
-use Rattle.command_outputs.proofs.Results.{result-within, fails-outcome, fails-well}
+use Rattle.command_outputs.proofs.Results.{result-within, fails-kept, fails-outcome}
+use Rattle.command_code.proofs.Ending.{ends-coded}
 use Rattle.command_code.proofs.code_bytes.Statement.{statement}
 use Rattle.command_code.proofs.code_bytes.Tie as tie
 
@@ -18,18 +19,25 @@ finish-code-requires c κs =
 
 returns : tie.Need-returns
 returns c =
-    let called = c .before .before .before .before in
+    let done = c .before in
+    let called = done .before .before .before .before in
     let call = called .code in
     let a = called .before .before .before .before .before .args in
-    let o = coded (a .w) (now (a .under)) (length (now (a .out))) (now (a .bytes)) in (
-      fails-outcome o (call .result) (c .finish-code .result) (call .ensures .0) (c .finish-code .ensures),
+    let o = coded (a .w) (now (a .under)) (length (now (a .out))) (now (a .bytes)) in
+    let f = fails-kept (call .result) (done .finish-code .result) (c .end-code .result) (done .finish-code .ensures)
+    (c .end-code .ensures .1) in (
+      fails-outcome o (call .result) (c .end-code .result) (call .ensures .0) f,
       (
         call .ensures .1,
-        fails-well o (call .result) (c .finish-code .result) (call .ensures .0) (c .finish-code .ensures)
-            (λ g. record { under = _; room = _; bytes = _; gives = g }),
+        (
+          ends-coded (a .w) (now (a .under)) (now (a .bytes)) (length (now (a .out))) (call .result)
+              (c .end-code .result) (call .ensures .0) f (c .end-code .ensures .0),
+          c .end-code .ensures .0,
+        ),
       ),
     )
 
 pub code-bytes-spec : {M : Type 1} → statement M
 code-bytes-spec =
-    tie.close (tie.spec (λ c κs. search needs) finish-code-requires (λ c. search needs) returns)
+    tie.close
+    (tie.spec (λ c κs. search needs) finish-code-requires (λ c κs. search needs) (λ c. search needs) returns)

@@ -11,12 +11,6 @@ pub finish-code-spec : {M : Type 1} → statement M
 finish-code-spec =
     tie.close
     (tie.spec
-    (λ c κs. search needs)
-    finish-requires
-    (λ c. search needs)
-    (λ c κs. search needs)
-    (λ c. search needs)
-    (λ c. search needs)
-    (λ c. search needs)
-    (λ c. search needs)
+    (λ c κs. search needs) finish-requires (λ c. search needs) (λ c κs. search needs) (λ c. search needs)
+    (λ c. search needs) (λ c. search needs) (λ c. search needs) (λ c. search needs) (λ c. search needs)
     (λ c. search needs))

@@ -6,7 +6,7 @@ use Rattle.set_check.specs.declared.SetAnswer.the-variants.{Good}
 use Rattle.set_check.specs.Sets.{Walk, codes, stopped, readSet}
 use Rattle.set_check.specs.Results.{setAnswer}
 use Rattle.command_arguments.specs.declared.Status.{Status}
-use Rattle.command_arguments.specs.declared.Status.the-variants.{Done, Failed, Misused}
+use Rattle.command_arguments.specs.declared.Status.the-variants.{Done, Failed, Misused, NoRecording}
 use Rattle.command_outputs.specs.Results.{WellOnly}
 use Rattle.command.specs.Acting.{SetFails, Listed}
 use Rattle.command.proofs.records.tell_set.Statement.{statement}
@@ -25,6 +25,7 @@ well : {P : Type 0} → P → (s : Status) → WellOnly P s
 well p Done = p
 well p Failed = tt
 well p Misused = tt
+well p NoRecording = tt
 
 returns : tie.Need-returns
 returns c =

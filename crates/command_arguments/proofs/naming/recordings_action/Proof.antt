@@ -23,7 +23,7 @@ unfolding recordingsAction
 returns-3 c =
     let c2 = c .before in
     let c1 = c2 .before .before .before in
-    c .asked-action .ensures ∙ sym (simp (
+    c .verify-action .ensures ∙ sym (simp (
       sym (c1 .before .is-same .ensures) ∙ c1 .if1 .left,
       sym (c2 .before .is-same2 .ensures) ∙ c2 .if2 .left,
     ))

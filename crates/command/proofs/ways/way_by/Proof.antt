@@ -2,8 +2,8 @@
 -- Assumes nothing.
 use Rattle.laws.proofs.All.{sym, ap}
 use Rattle.command.specs.Ending.{wayBy}
-use Rattle.command.proofs.way_by.Statement.{statement}
-use Rattle.command.proofs.way_by.Tie as tie
+use Rattle.command.proofs.ways.way_by.Statement.{statement}
+use Rattle.command.proofs.ways.way_by.Tie as tie
 
 returns : tie.Need-returns
 returns c = sym (ap wayBy (c .if1 .taken))
