@@ -24,12 +24,12 @@ use codec_steps::index;
 use codec_steps::is_shorter;
 use codec_steps::step_all_shorter;
 
-// Whether it can be shorter to walk members: the table has many states, and the arrays have the states by word.
+// Whether it can be shorter to walk members: the table has more than 16 states, and the arrays have the states by word.
 pub fn is_large(states: usize, low: &[u64], high: &[u64]) -> bool
     ensures answer { λ r. ⌜
         (r ≡ true → (2304 ≤ length (now (low .entry))) × (2304 ≤ length (now (high .entry)))) ⌝ }
 {
-    if states <= 32 {
+    if states <= 16 {
         return false;
     }
     if low.len() < 2304 {
