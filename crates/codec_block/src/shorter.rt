@@ -21,8 +21,8 @@ use bitsets::rest;
 use codec_groups::group_of;
 use codec_groups::targets_at;
 use codec_steps::index;
-use codec_steps::is_shorter;
-use codec_steps::step_all_shorter;
+use codec_steps::members::is_shorter;
+use codec_steps::members::step_all_shorter;
 
 // Whether it can be shorter to walk members: the table has more than 16 states, and the arrays have the states by word.
 pub fn is_large(states: usize, low: &[u64], high: &[u64]) -> bool

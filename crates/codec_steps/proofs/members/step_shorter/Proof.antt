@@ -1,8 +1,8 @@
 -- The members are walked by their groups, or the groups of the word.
 use Rattle.laws.proofs.All.{_<_, arith, now, needs}
 use Rattle.codec_steps.proofs.Shorter.{short-room, short-inside, short-step}
-use Rattle.codec_steps.proofs.step_shorter.Statement.{statement}
-use Rattle.codec_steps.proofs.step_shorter.Tie as tie
+use Rattle.codec_steps.proofs.members.step_shorter.Statement.{statement}
+use Rattle.codec_steps.proofs.members.step_shorter.Tie as tie
 
 module _ (c : tie.Then1) where
   abbrev meeting : tie.After-meet

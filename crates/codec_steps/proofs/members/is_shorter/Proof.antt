@@ -2,8 +2,8 @@
 use Rattle.laws.proofs.All.{sym, subst, _≤_, arith, T, needs}
 use Rattle.bitsets.specs.BitSets.{valueOf}
 use Rattle.bitsets.proofs.Places.{places-le}
-use Rattle.codec_steps.proofs.is_shorter.Statement.{statement}
-use Rattle.codec_steps.proofs.is_shorter.Tie as tie
+use Rattle.codec_steps.proofs.members.is_shorter.Statement.{statement}
+use Rattle.codec_steps.proofs.members.is_shorter.Tie as tie
 
 pub is-shorter-spec : {M : Type 1} → statement M
 is-shorter-spec =

@@ -4,8 +4,8 @@ use Rattle.bitsets.specs.BitSets.{valueOf, holds, membersOf}
 use Rattle.bitsets.proofs.Places.{places-each}
 use Rattle.bitsets.proofs.Members.{Walked, walk-start, walk-in, walk-some, walk-less, walk-next, walk-done}
 use Rattle.codec_groups.specs.Groups.{targetsAt, memberTo}
-use Rattle.codec_steps.proofs.step_members.Statement.{statement}
-use Rattle.codec_steps.proofs.step_members.Tie as tie
+use Rattle.codec_steps.proofs.members.step_members.Statement.{statement}
+use Rattle.codec_steps.proofs.members.step_members.Tie as tie
 
 abbrev Inv-loop : tie.InvT-loop
 Inv-loop low high at have left₀ out₀ s₀ left out s =

@@ -5,8 +5,8 @@ use Rattle.bitsets.specs.BitSets.{yesNo}
 use Rattle.codec_groups.specs.Groups.{Grouped}
 use Rattle.codec_steps.specs.StateSets.{alongAll}
 use Rattle.codec_steps.proofs.StateWords.{along-first, along-end}
-use Rattle.codec_steps.proofs.step_all_shorter.Statement.{statement}
-use Rattle.codec_steps.proofs.step_all_shorter.Tie as tie
+use Rattle.codec_steps.proofs.members.step_all_shorter.Statement.{statement}
+use Rattle.codec_steps.proofs.members.step_all_shorter.Tie as tie
 
 abbrev Inv-loop : tie.InvT-loop
 Inv-loop start first low high words from to reached₀ j₀ reached j =
