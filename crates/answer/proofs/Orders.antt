@@ -1,12 +1,12 @@
 -- A row of checks is refused with r exactly when r is the refusal of the first that fails.
 -- In order: first-none, first-unless; onward-exact; fitting-exact, fitting-done.
 -- Assumes nothing.
-use Rattle.laws.proofs.All.{_≡_, sym, ap, _∙_, _⊎_, inl, inr, _↔_, Bool, true, false, List, [], _∷_, ℕ, _≤_, _<_, leb}
+use Rattle.laws.proofs.All.{_≡_, sym, ap, _∙_, _⊎_, inl, inr, _↔_, Bool, true, false, List, [], ℕ, _≤_, _<_, leb}
 use Rattle.laws.proofs.All.{lt-leb, length}
 use Rattle.answer.specs.declared.Refusal.{Refusal}
 use Rattle.answer.specs.declared.Refusal.the-variants.{ShortOutput}
 use Rattle.answer.specs.Outcomes.{Outcome, done, refused, unless, onward, fitting}
-use Rattle.answer.specs.Orders.{Check, check, First}
+use Rattle.answer.specs.Orders.{First}
 use Rattle.answer.proofs.Outcomes.{unless-false, fitting-true, fitting→}
 use Rattle.answer.proofs.RefusedOutcomes.{refused-inj, onward-refused, fitting-refused}
 use Rattle.answer.proofs.Due.{Told, never-done}

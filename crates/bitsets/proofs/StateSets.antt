@@ -3,8 +3,8 @@
 -- yes-either, members-count, the list of yes and no; not-not; stateSets.
 -- Assumes nothing.
 use Rattle.laws.proofs.All.{_≡_, refl, sym, ap, _∙_, _⊎_, inl, inr, Bool, true, false, not, _||_, List, [], _∷_, map}
-use Rattle.laws.proofs.All.{ℕ, zero, suc, _+_, _<_, arith, eq-eqb, ne-eqb, eqb, length, getD, if_then_else_, from, range}
-use Rattle.laws.proofs.All.{filter, any, first, any-map}
+use Rattle.laws.proofs.All.{ℕ, zero, suc, _+_, _<_, arith, eq-eqb, ne-eqb, eqb, length, getD, if_then_else_, from}
+use Rattle.laws.proofs.All.{range, filter, any, first, any-map}
 use native.Mathlib.Nat.{eq-zero-or-pos}
 use lib.Bits.{or-block}
 use lib.Count.{trailingZeros}
