@@ -1,6 +1,6 @@
 -- The search for the first group over the members of a set, from the lowest on.
 -- In order: Sought, with sought-start, sought-in, sought-some, sought-less, sought-yes, sought-no, sought-none;
--- member-first.
+-- member-sought; member-first.
 -- Assumes nothing.
 use Rattle.laws.proofs.All.{_≡_, refl, sym, ap, ap₂, subst, _∙_, Bool, true, false, _&&_, List, _∷_, map, ℕ, _+_, _-_}
 use Rattle.laws.proofs.All.{_≤_, _<_, arith, length, getD, drop, if_then_else_, from, filter, first, first-filter, Each}

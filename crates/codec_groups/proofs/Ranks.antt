@@ -1,7 +1,7 @@
 -- The groups of one word by the states that have it: the group of a state stands as many places after the first as
 -- there are states below it that have the word.
--- In order: below-members, group-counted; places-up, groups-members; group-source, group-below; groups-of, the groups of the
--- states of a set.
+-- In order: below-members, group-counted; places-up, groups-members; group-source, group-below; groups-of, the groups
+-- of the states of a set.
 -- Assumes nothing.
 use Rattle.laws.proofs.All.{_≡_, refl, sym, ap, ap₂, _∙_, Bool, true, false, _&&_, and-true, and-false, List, []}
 use Rattle.laws.proofs.All.{_∷_, _++_, append-nil, map, ℕ, zero, suc, _+_, _-_, _/_, _≤_, _<_, add-one, add-zero}

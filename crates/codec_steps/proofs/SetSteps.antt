@@ -1,8 +1,8 @@
 -- A set of states stepped by a word along the groups of the word, forward and back.
 -- In order: group-edge, edge-group, a group and its edges; step→ to →back; step-bits, step-members, back-bits.
 -- Assumes nothing.
-use Rattle.laws.proofs.All.{_≡_, sym, ap, subst, _∙_, true, _&&_, List, map, ℕ, _+_, _-_, _/_, _<_, arith, T, eqb, eqb→eq}
-use Rattle.laws.proofs.All.{eqb-refl, getD, from, filter, any, any-filter, any-map, and→, →and, T→true, bool-eq}
+use Rattle.laws.proofs.All.{_≡_, sym, ap, subst, _∙_, true, _&&_, List, map, ℕ, _+_, _-_, _/_, _<_, arith, T, eqb}
+use Rattle.laws.proofs.All.{eqb→eq, eqb-refl, getD, from, filter, any, any-filter, any-map, and→, →and, T→true, bool-eq}
 use Rattle.table.specs.Marks.{some}
 use Rattle.table.specs.Edges.{Arrays, rowsOf, places, nextOf, bears}
 use Rattle.table.proofs.Marks.{found, some-at}

@@ -1,6 +1,6 @@
 -- Parts of the reading of one block, as the code takes them.
--- In order: joinsAt, firstGroup, one group between two sets; intoAt, firstMember, the group of a member; entersAt, firstInto, one edge into a set; holdsFrom;
--- noPlace; under, the code with a table and a window.
+-- In order: joinsAt, firstGroup, one group between two sets; intoAt, firstMember, the group of a member; entersAt,
+-- firstInto, one edge into a set; holdsFrom; noPlace; under, the code with a table and a window.
 -- Assumes nothing.
 use mathlib.Core.Bool.{Bool, _&&_}
 use mathlib.Core.List.{List, [], map}

@@ -33,8 +33,8 @@ fn count_stream(
     count: usize,
 ) -> usize
     requires { ⌜
-        Fits (arraysOf k (now word) (now next)) × (k .q ≤ 8) × (count ≤ limit) × (count * k .q ≤ 8 * length (now stream))
-        × (k .memory ≤ 15) × (k .lookahead ≤ 15) × (k .lookahead ≤ count)
+        Fits (arraysOf k (now word) (now next)) × (k .q ≤ 8) × (count ≤ limit)
+        × (count * k .q ≤ 8 * length (now stream)) × (k .memory ≤ 15) × (k .lookahead ≤ 15) × (k .lookahead ≤ count)
         × ((e : ℕ) → e < k .states * 16 → e % 16 < k .ways → getD (now word) e 0 < 2 ^ k .q) ⌝ }
     ensures answer { λ r. ⌜
         r ≡ comeBack k (now (word .entry)) (now (next .entry)) (unpacked (k .q) count (now (stream .entry))) ⌝ }

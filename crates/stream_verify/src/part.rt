@@ -10,8 +10,8 @@ use codec_block::blocks::read_block;
 use codec_verify::Sizes;
 use table::chains::wide;
 
-// A part of the `count` words of a stream: those from word `from` on and below `end`, unpacked from word `base` on, with
-// the state in which word `from` starts.
+// A part of the `count` words of a stream: those from word `from` on and below `end`, unpacked from word `base` on,
+// with the state in which word `from` starts.
 pub struct Part {
     pub base: usize,
     pub count: usize,

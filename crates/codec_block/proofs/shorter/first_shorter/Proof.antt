@@ -40,8 +40,8 @@ returns c =
     let s = begin i in
     let a = s .args in (
       c .first-member .ensures
-          ∙ member-first (now (a .start)) (now (a .first)) (now (a .low)) (now (a .high)) (a .past) _ _ (a .ahead) (a .w)
-          _ _ (placing i .index .ensures) (ending i .index2 .ensures)
+          ∙ member-first (now (a .start)) (now (a .first)) (now (a .low)) (now (a .high)) (a .past) _ _ (a .ahead)
+          (a .w) _ _ (placing i .index .ensures) (ending i .index2 .ensures)
           (short-sources (s .pre .0 .0) (now (a .start)) (now (a .first)) (now (a .low)) (now (a .high)) (s .pre .0 .1)
           (a .w) (omega arith) (s .pre .1) (s .pre .2) _ _ (placing i .index .ensures) (ending i .index2 .ensures) _
           (having i .targets-at .ensures) (i .before .is-shorter .ensures (i .if1 .taken))) (meeting i .meet .ensures),
