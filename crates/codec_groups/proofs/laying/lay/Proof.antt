@@ -151,5 +151,6 @@ lay-spec =
     (tie.spec
     Inv-loop μ-loop (λ c κs. search needs) (λ c κs. search needs) loop-holds gather-requires put-groups-requires
     put-have-requires (λ c κs. search needs) (λ c. omega (arith, fits c)) (λ c. omega (arith, fits c))
-    (λ c. omega (arith, below c)) (λ c. omega (arith, fits c)) (λ c. search needs) (λ c. omega (arith, below c)) (λ c. omega (arith, below c))
+    (λ c. omega (arith, below c)) (λ c. omega (arith, fits c))
+    (λ c. search needs) (λ c. omega (arith, below c)) (λ c. omega (arith, below c))
     loop-again (λ c. c .before .loop .inv .6) (λ c. c .before .loop .inv .7) returns)
