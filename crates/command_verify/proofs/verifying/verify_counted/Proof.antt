@@ -21,7 +21,8 @@ returns c =
     let w = counted-by _ _ _ _ (v .verify-stream .ensures) (j .judged .ensures .0) (t .enum-told .given .1) in (
       well-holds (c .print-recording .result) w,
       (
-        well-holds {P = VerifiedStream} (c .print-recording .result) (record { under = _; count = _; stream = _; whole = w }),
+        well-holds {P = VerifiedStream} (c .print-recording .result)
+        (record { under = _; count = _; stream = _; whole = w }),
         fails-done _ _ _ w,
       ),
     )
