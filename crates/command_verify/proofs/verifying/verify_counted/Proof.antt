@@ -22,7 +22,7 @@ returns c =
       well-holds (c .print-recording .result) w,
       (
         well-holds {P = VerifiedStream} (c .print-recording .result)
-        (record { under = _; count = _; stream = _; whole = w }),
+            (record { under = _; count = _; stream = _; whole = w }),
         fails-done _ _ _ w,
       ),
     )
