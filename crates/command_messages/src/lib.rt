@@ -37,10 +37,10 @@ fn put_set_refusal(out: &mut [u8], i: usize, r: Refusal) -> usize
 fn tell_text(file: i32, text: &[u8]) -> Status
     ensures past { λ s. ⌜ statusOf s ≤ 1 ⌝ }
 {
-    if io::write_all(file, text) {
-        return Status::Done;
+    if !io::write_all(file, text) {
+        return Status::Failed;
     }
-    Status::Failed
+    Status::Done
 }
 
 // Says a line; the run fails.
