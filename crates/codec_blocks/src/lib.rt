@@ -1,7 +1,7 @@
 // The blocks of words, read one by one into lent bytes.
 ghost use mathlib.Core.Path.{_≡_};
 ghost use mathlib.Core.List.{_++_, map};
-ghost use Prim.Native.Nat.{_+_, _≤_};
+ghost use Prim.Native.Nat.{_+_, _≤_, _<_};
 ghost use lib.ListN.{length, drop};
 ghost use Rattle.laws.specs.Lists.{from};
 ghost use Rattle.table.specs.Edges.{borrowed, rowsOf};
@@ -54,4 +54,47 @@ pub fn read_blocks(
         );
         i += 1;
     }
+}
+
+// Block i of the words. It goes through `read_blocks`, so that reading a block has one caller and becomes part of its
+// loop.
+pub fn block_at(
+    states: usize,
+    n: usize,
+    word: &[u8; 2048],
+    next: &[u8; 2048],
+    start: &[u16; 257],
+    first: &[u16; 2048],
+    low: &[u64],
+    high: &[u64],
+    words: &[u8],
+    i: usize,
+    m: usize,
+    a: usize,
+) -> u8
+    requires { ⌜
+        Grouped (borrowed states n word next) (now start) (now first) (now low) (now high)
+        × (i + a < length (now words)) ⌝ }
+    ensures answer { λ r. ⌜
+        r ≡ block (under (rowsOf (borrowed states n (word .entry) (next .entry))) m a)
+        (now (words .entry)) i ⌝ }
+{
+    let mut out = [0u8; 1];
+    read_blocks(
+        states,
+        n,
+        word,
+        next,
+        start,
+        first,
+        low,
+        high,
+        words,
+        i,
+        m,
+        a,
+        1,
+        &mut out,
+    );
+    out[0]
 }

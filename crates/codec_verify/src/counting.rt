@@ -7,7 +7,7 @@ ghost use Rattle.table.specs.Edges.{Fits};
 ghost use Rattle.codec_groups.specs.Groups.{Grouped};
 ghost use Rattle.codec_verify.specs.Counting.{arraysOf, dueIn, comeBack};
 use crate::Sizes;
-use codec_block::blocks::read_block;
+use codec_blocks::block_at;
 use codec_groups::laying::lay;
 use table::chains::wide;
 
@@ -32,7 +32,7 @@ fn datum_at(
     if words.len() - k.lookahead <= i {
         return k.tail;
     }
-    wide(read_block(
+    wide(block_at(
         k.states,
         k.ways,
         word,

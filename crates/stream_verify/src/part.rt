@@ -6,7 +6,7 @@ ghost use lib.ListN.{length, getD};
 ghost use Rattle.codec_groups.specs.Groups.{Grouped};
 ghost use Rattle.codec_verify.specs.Counting.{arraysOf, dueIn};
 ghost use Rattle.stream_verify.specs.Parts.{readBy, Held, Reaches};
-use codec_block::blocks::read_block;
+use codec_blocks::block_at;
 use codec_verify::Sizes;
 use table::chains::wide;
 
@@ -51,7 +51,7 @@ fn datum_in(
     if part.count - k.lookahead <= j {
         return k.tail;
     }
-    wide(read_block(
+    wide(block_at(
         k.states,
         k.ways,
         word,

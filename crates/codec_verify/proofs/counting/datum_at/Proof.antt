@@ -18,7 +18,7 @@ returns-2 c =
     let e = c .before .before in
     let s = e .before .before .before .before .before in
     let a = s .args in
-    c .wide .ensures .0 ∙ c .before .read-block .ensures
+    c .wide .ensures .0 ∙ c .before .block-at .ensures
     ∙ sym (followed-block (rowsOf (arraysOf (a .k) (now (a .word)) (now (a .next)))) (a .k .memory) (a .k .lookahead)
     (a .k .tail) (now (a .words)) (s .pre .1) (a .i) (e .if1 .left))
 

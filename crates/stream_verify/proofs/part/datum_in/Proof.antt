@@ -17,14 +17,14 @@ returns c =
 abbrev begin : tie.Else1 → tie.Start
 begin c = c .before .before .before .before .before .before
 
-sub-read-block : tie.Need-sub-read-block
-sub-read-block c =
+sub-block-at : tie.Need-sub-block-at
+sub-block-at c =
     let s = begin (c .before) in
     let (U, h) = s .pre .1 in
     omega (arith, h .before, s .pre .3)
 
-read-block-requires : tie.Need-read-block-requires
-read-block-requires c κs =
+block-at-requires : tie.Need-block-at-requires
+block-at-requires c κs =
     let s = begin (c .before) in
     let (U, h) = s .pre .1 in
     (s .pre .0, h .reach (s .args .j) (s .pre .3) (s .pre .4) (omega (arith, h .long, c .before .if1 .left)))
@@ -34,7 +34,7 @@ returns-2 c =
     let e = c .before .before .before in
     let s = begin e in
     let a = s .args in
-    λ U h. c .wide .ensures .0 ∙ c .before .read-block .ensures
+    λ U h. c .wide .ensures .0 ∙ c .before .block-at .ensures
     ∙ h .blocks (a .j) (s .pre .3) (s .pre .4) (omega (arith, h .long, e .if1 .left))
     ∙ sym (followed-block (rowsOf (arraysOf (a .k) (now (a .word)) (now (a .next)))) (a .k .memory) (a .k .lookahead)
     (a .k .tail) U (omega (arith, h .long, s .pre .2)) (a .j) (omega (arith, h .long, e .if1 .left)))
@@ -42,4 +42,4 @@ returns-2 c =
 pub datum-in-spec : {M : Type 1} → statement M
 datum-in-spec =
     tie.close
-    (tie.spec (λ c. search needs) returns sub-read-block read-block-requires (λ c κs. search needs) returns-2)
+    (tie.spec (λ c. search needs) returns sub-block-at block-at-requires (λ c κs. search needs) returns-2)
