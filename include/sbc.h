@@ -3,8 +3,8 @@
  * Needs C99 or later, or C++. Bytes go as a pointer to the first and their number, a uint64_t on every machine. Where
  * the number is 0 the pointer may be NULL: no byte is read or written there. The bytes of `out` lie apart from those
  * that the call reads: no byte is in both. Nothing is kept after a call and nothing is allocated, so calls may run at
- * the same time on different outputs. A call takes less than 128 KB of stack (measured on x86-64 by `bench/run stack`;
- * the listing takes most, then reading streams).
+ * the same time on different outputs. A call takes less than 128 KB of stack (measured on x86-64 by `bench/run stack`,
+ * with the job 2 7 4 8 16 and its record; the listing takes most, then reading streams).
  *
  * Every call but sbc_version answers one number, the refusal times 2^56 plus a value; take it apart by `sbc_refusal`
  * and `sbc_value`. Refusal 0 is a result. The value of a result is written at each call. The value of a refusal is 0,
@@ -52,17 +52,20 @@ enum {
 /* How many bytes a bit stream of `count` words of q bits has: count x q / 8, rounded up. */
 #define SBC_STREAM_SIZE(q, count) (((uint64_t)(count) * (uint64_t)(q) + 7) / 8)
 
-/* Sizes, in bytes. */
+/* The marks: the blocks that stand where no edge reads the words; no datum has these values. */
+enum {
+    /* No path through the code has the words up to and with the block's own, so this word or one before it is bad. */
+    SBC_MARK_BEFORE = 254,
+    /* One has, but none has the a words ahead too, so one of all these is bad. With lookahead 0 it never comes. */
+    SBC_MARK_AHEAD = 255
+};
+
+/* Sizes in bytes, but the one in words. */
 enum {
     /* What sbc_info writes. */
     SBC_INFO = 8,
     /* Room for the words of every refusal. */
     SBC_PHRASE_MAX = 60,
-    /* The blocks that stand where no edge reads the words; no datum has these values. The first: no path through
-     * the code has the words up to and with the block's own, so this word or one before it is bad. The second: one has,
-     * but none has the a words ahead too, so one of all these is bad. With lookahead 0 the second never comes. */
-    SBC_MARK_BEFORE = 254,
-    SBC_MARK_AHEAD = 255,
     /* The longest job: p, q, cap, K, and two bytes for each of 16 states. */
     SBC_JOB_MAX = 4 + 2 * 16,
     /* A run-length job: d, k, p, q, cap. */
@@ -72,7 +75,7 @@ enum {
     /* The longest record, 3,865: a header of 3 + 4 + 7 + 4 + 4 + 4 + 4 + 4 bits, two next states of 1 + 4 bits for each
      * of 16 constraint states, and a word of 8 bits with a next state of 7 for each of 128 states and 16 data. */
     SBC_RECORD_MAX = (34 + 16 * 2 * (1 + 4) + 128 * 16 * (8 + 7) + 7) / 8,
-    /* The most words that a recording has beyond its blocks: N blocks give N + a words, and a is at most 15. */
+    /* In words: the most that a recording has beyond its blocks: N blocks give N + a words, and a is at most 15. */
     SBC_LOOKAHEAD_MAX = 15,
     /* The longest set: the count, and 255 of the longest records, each after its length. */
     SBC_SET_MAX = 1 + 255 * (2 + SBC_RECORD_MAX),
@@ -159,10 +162,10 @@ uint64_t sbc_decode(const uint8_t *record, uint64_t record_length, const uint8_t
  * - All of them: the words are a recording, of words_length - a blocks, and sbc_decode gives its data. It need not be
  *   the recording that was written: a damaged list can itself be a recording, and so can one that was cut. A checksum
  *   over the data stays due, and a count of blocks beside the recording.
- * - A value k below words_length: the words are no recording. The first k words can be spelled from state 0, and word k
- *   is not what encoding gives there. If the words were a recording once, the first that was changed stands at k + a or
- *   before; it can stand before k.
- * - The value says nothing of the words after word k, which may all be right: a mark ends the encoding, since a mark is
+ * - A value x below words_length: the words are no recording. The first x words can be spelled from state 0, and word x
+ *   is not what encoding gives there. If the words were a recording once, the first that was changed stands at x + a or
+ *   before; it can stand before x.
+ * - The value says nothing of the words after word x, which may all be right: a mark ends the encoding, since a mark is
  *   no datum. It is no count of the words that differ.
  * Refusals in order: those of sbc_check; 12; 11 with the place of the first bad word. */
 uint64_t sbc_verify(const uint8_t *record, uint64_t record_length, const uint8_t *words, uint64_t words_length);

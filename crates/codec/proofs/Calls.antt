@@ -1,20 +1,29 @@
 -- What encoding and decoding answer, exactly: "Encode: record, 13, 11. Decode: record, 12, 13, 11."
 -- In order: in-row, in-row-4, in-row-2-2, in-row-5; Encodes, encoded-exact, encode-calls; Decodes, decoded-exact,
--- decode-calls.
+-- decode-calls; judged-late, fields-packed, fields-refused, checked-calls.
 -- Assumes nothing.
-use Rattle.laws.proofs.All.{_≡_, sym, ap, subst, _↔_, List, ℕ, _+_, _-_, _^_, _≤_, _<_, arith, leb, length, getD, take}
-use Rattle.laws.proofs.All.{Below}
+use Rattle.laws.proofs.All.{_≡_, refl, sym, ap, subst, _∙_, _↔_, List, ℕ, _+_, _-_, _^_, _≤_, _<_, arith, leb, length}
+use Rattle.laws.proofs.All.{getD, take, Below}
 use Rattle.answer.specs.declared.Refusal.{Refusal}
-use Rattle.answer.specs.declared.Refusal.the-variants.{BadByte, TooFewWords, ShortOutput}
+use Rattle.answer.specs.declared.Refusal.the-variants.{Disobeys, WindowFails, BadByte, TooFewWords, ShortOutput}
+use Rattle.answer.specs.Refusals.{numberOf}
 use Rattle.answer.specs.Outcomes.{Outcome, done, refused, unless, onward}
 use Rattle.answer.specs.FirstBad.{allBelow}
 use Rattle.answer.proofs.Due.{told-le, done-past, refused-past, refused-here, never-past, below-exact, bad-exact}
 use Rattle.answer.proofs.Due.{never-bad}
+use Rattle.answer.proofs.RefusedOutcomes.{Refuses, refuses-done, refuses-unless}
 use Rattle.table.specs.Rows.{Code}
 use Rattle.table.specs.Paths.{recording}
-use Rattle.record_check.specs.Parse.{parse}
+use Rattle.table.specs.Formed.{Formed}
+use Rattle.table.proofs.Formed.{→formed}
+use Rattle.window.specs.Works.{works}
+use Rattle.record_obeys.specs.Obeys.{obeys}
+use Rattle.record.specs.Layout.{pack}
+use Rattle.record.specs.Checks.{fieldsChecked}
+use Rattle.record.proofs.RecordWrite.{fields-pack}
+use Rattle.record_check.specs.Parse.{judged, parse}
 use Rattle.codec_steps.specs.Reading.{decode}
-use Rattle.codec.specs.Answers.{encoded, decoded, encodeUnder, decodeUnder}
+use Rattle.codec.specs.Answers.{encoded, decoded, encodeUnder, decodeUnder, encodeChecked, decodeChecked}
 
 -- ---- what is said check by check, in one row
 in-row : {O A B C : Type 0} → O ↔ (A × (B × C)) → O ↔ (A × B × C)
@@ -103,4 +112,36 @@ unfolding decodeUnder
 decode-calls rec room L = (
   (λ c p. subst (Decodes c room L) (sym (ap (λ o. onward o (λ c. decoded c room L)) p)) (decoded-exact c room L)),
   (λ r p. ap (λ o. onward o (λ c. decoded c room L)) p),
+)
+
+-- ---- under a record that is trusted: 9 and 10 are not looked at
+abbrev late : Refusal → Type 0
+late r = 9 ≤ numberOf r
+
+judged-late : (c : Code) → Refuses late (judged c)
+judged-late c =
+    refuses-unless late Disobeys (obeys c) _ (omega arith)
+    (refuses-unless late WindowFails (works (c .table) (c .window)) _ (omega arith) (refuses-done late c))
+
+fields-packed : (c : Code) (rec : List ℕ) → Formed c → pack c ≡ rec → fieldsChecked rec ≡ done c
+fields-packed c rec f e = ap fieldsChecked (sym e) ∙ fields-pack c (→formed c f)
+
+-- a refusal by 7 or 8 is that of the fields
+fields-refused : (rec : List ℕ) (r : Refusal) → parse rec ≡ refused r → numberOf r ≤ 8 → fieldsChecked rec ≡ refused r
+unfolding parse
+fields-refused rec r e h = go (fieldsChecked rec) e
+  where
+    go : (o : Outcome Code) → onward o judged ≡ refused r → o ≡ refused r
+    go (done c) e = let n = judged-late c r e in absurd (omega arith)
+    go (refused s) e = e
+
+pub checked-calls : (rec : List ℕ) (room : ℕ) (ys : List ℕ)
+    → ((c : Code) → Formed c → pack c ≡ rec
+    → Encodes c room ys (encodeChecked rec room ys) × Decodes c room ys (decodeChecked rec room ys))
+    × ((r : Refusal) → parse rec ≡ refused r → numberOf r ≤ 8
+    → (encodeChecked rec room ys ≡ refused r) × (decodeChecked rec room ys ≡ refused r))
+unfolding encodeChecked decodeChecked
+checked-calls rec room ys = (
+  (λ c f e. let p = fields-packed c rec f e in (rw p (encoded-exact c room ys), rw p (decoded-exact c room ys))),
+  (λ r e h. let p = fields-refused rec r e h in (rw p refl, rw p refl)),
 )

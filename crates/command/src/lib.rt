@@ -1,4 +1,4 @@
-// The command `sbc`: one action for each call of the library, on files.
+// The command `sbc`: finds the action that the arguments name, does it on files, and answers with its exit status.
 ghost use mathlib.Core.Path.{_≡_};
 ghost use Prim.Native.Nat.{_≤_};
 ghost use Rattle.command_arguments.specs.declared.Action.the-variants.{Collection, Coding, Stream, Recordings, Verify};

@@ -78,7 +78,7 @@ pub struct Shape {
 pub enum Status {
     // 0: the result is written.
     Done,
-    // 1: a refusal, or a file that cannot be read or written.
+    // 1: a refusal, words that verifying finds to be no recording, or a file that cannot be read or written.
     Failed,
     // 2: arguments that fit no action.
     Misused,

@@ -1,4 +1,4 @@
--- The theorems of what was asked for after the first delivery, each written out in full as on the main page.
+-- The theorems of the later requests, of verifying and of what each call answers, each written out in full as on Main.
 -- In order: (a) joint, joined-pairs, numbered, too-many-pairs, joined-job, both-obeyed; (b) streams, packed-bits,
 -- good-streams, stream-numbers, pack-calls, unpack-calls, pack-returns, stream-words, stream-returns, stream-calls,
 -- unstream-calls, stream-recognised, stream-clear, bits-reach, reach-quoted, reach-told; (c) labels, labels-rule,
@@ -6,8 +6,8 @@
 -- closes-record; (f) depth-numbers, weave-calls, unweave-calls, weave-spreads, weave-returns, weave-places, weaving,
 -- one-word-each, fewer-places, scratch; (g) state-sets, step-bits, back-bits, pair-step-bits, pair-hit-bits; Verify:
 -- verified, verified-place, verified-mark, verified-near, verified-stream, verify-calls, verify-stream-calls; Calls:
--- job-order, run-length-order, joined-order, listing-call; set-order, set-count; encode-calls, decode-calls;
--- info-numbers, phrase-words, with-tail; answer-words, set-words, outputs.
+-- job-order, run-length-order, joined-order, listing-call; set-order, set-count; encode-calls, decode-calls,
+-- checked-calls; info-numbers, phrase-words, with-tail; answer-words, set-words, outputs.
 -- Assumes nothing.
 use mathlib.Core.Path.{_≡_}
 use mathlib.Core.Logic.{_⊎_, _↔_}
@@ -49,7 +49,7 @@ use Rattle.record.specs.Layout.{pack}
 use Rattle.record_check.specs.Parse.{parse}
 use Rattle.codec_steps.specs.StateSets.{along, back}
 use Rattle.codec_steps.specs.Reading.{markAhead, block, decode}
-use Rattle.codec.specs.Answers.{encodeUnder, decodeUnder}
+use Rattle.codec.specs.Answers.{encodeUnder, decodeUnder, encodeChecked, decodeChecked}
 use Rattle.codec.specs.Follows.{Follows}
 use Rattle.codec.specs.Damage.{StandsClear, Recording, SameOutside, differences}
 use Rattle.compile_table.specs.TableOf.{tableOf}
@@ -577,6 +577,21 @@ pub decode-calls : (rec : List ℕ) (room : ℕ) (L : List ℕ) → let o = deco
     ↔ ((a ≤ W) × (W - a ≤ room) × (k < W) × Below (2 ^ c .q) (take k L) × (2 ^ c .q ≤ getD L k 0))))
     × ((r : Refusal) → parse rec ≡ refused r → o ≡ refused r)
 decode-calls = Rattle.codec.proofs.Calls.decode-calls
+
+-- Under a record that is trusted both do the same for every table whose fields pass, accepted or not; else 7 or 8.
+pub checked-calls : (rec : List ℕ) (room : ℕ) (ys : List ℕ) → let e = encodeChecked rec room ys in
+    let o = decodeChecked rec room ys in let W = length ys in
+    ((c : Code) → Formed c → pack c ≡ rec → let a = c .window .lookahead in
+    (((R : List ℕ) → (e ≡ done R) ↔ ((W + a ≤ room) × Below (2 ^ c .p) ys × (recording c ys ≡ R)))
+    × ((e ≡ refused ShortOutput) ↔ (room < W + a))
+    × ((k : ℕ) → (e ≡ refused (BadByte k))
+    ↔ ((W + a ≤ room) × (k < W) × Below (2 ^ c .p) (take k ys) × (2 ^ c .p ≤ getD ys k 0))))
+    × (((out : List ℕ) → (o ≡ done out) ↔ ((a ≤ W) × (W - a ≤ room) × Below (2 ^ c .q) ys × (decode c ys ≡ out)))
+    × ((o ≡ refused TooFewWords) ↔ (W < a)) × ((o ≡ refused ShortOutput) ↔ ((a ≤ W) × (room < W - a)))
+    × ((k : ℕ) → (o ≡ refused (BadByte k))
+    ↔ ((a ≤ W) × (W - a ≤ room) × (k < W) × Below (2 ^ c .q) (take k ys) × (2 ^ c .q ≤ getD ys k 0)))))
+    × ((r : Refusal) → parse rec ≡ refused r → numberOf r ≤ 8 → (e ≡ refused r) × (o ≡ refused r))
+checked-calls = Rattle.codec.proofs.Calls.checked-calls
 
 -- The eight numbers of a record that passes, with room for eight; else the record's refusal, then 13.
 pub info-numbers : (rec : List ℕ) (room : ℕ) → ((ns : List ℕ) → (infoUnder rec room ≡ done ns)

@@ -1,4 +1,4 @@
--- The main theorems, each written out in full; its proof is one citation. A `Kind` is one of the three kinds of job.
+-- The main theorems, each written out in full; its proof only cites laws. A `Kind` is one of the three kinds of job.
 -- In order: allowed, no-code, greatest, component, each-split, splits-end, shortest-idle, least-window, refusals,
 -- calls, written, max-record, compiled-passes; checker-exact, record-order, records; encodes, decodes, returns,
 -- recognised, one-datum, demand-3, reach, local, different-data, loaded, checked; sets, good-places; words.

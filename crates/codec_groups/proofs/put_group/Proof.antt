@@ -1,3 +1,5 @@
+-- `put_group` meets its contract: the arrays have the group at its place, and elsewhere what they had.
+-- Assumes nothing.
 use Rattle.laws.proofs.All.{arith, now, length-set, needs}
 use Rattle.codec_groups.proofs.Puts.{put-made}
 use Rattle.codec_groups.proofs.put_group.Statement.{statement}
