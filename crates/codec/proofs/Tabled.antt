@@ -1,12 +1,15 @@
 -- Encoding and decoding under a table by value, check by check.
--- In order: encode-7 to encode-done; decode-7 to decode-done.
+-- In order: encode-7 to encode-done; decode-7, decode-ready; under a code decode-12 to decode-done, decode-within.
 -- Assumes nothing.
-use Rattle.laws.proofs.All.{_≡_, _∙_, true, false, List, ℕ, _+_, _-_, _^_, _≤_, _<_, lt-leb, le-leb, length}
+use Rattle.laws.proofs.All.{_≡_, _∙_, true, false, List, ℕ, _+_, _-_, _^_, _≤_, _<_, lt-leb, le-leb, leb, leb→le}
+use Rattle.laws.proofs.All.{length}
 use Rattle.answer.specs.declared.Refusal.the-variants.{Field, BadByte, TooFewWords, ShortOutput}
-use Rattle.answer.specs.Outcomes.{Outcome, done, refused}
+use Rattle.answer.specs.Outcomes.{Outcome, done, refused, unless}
+use Rattle.answer.proofs.Outcomes.{unless→}
 use Rattle.answer.specs.FirstBad.{firstBad, allBelow}
 use Rattle.answer.proofs.FirstBad.{bad-found, none-bad}
 use Rattle.table.specs.declared.Table.{Table}
+use Rattle.table.specs.Rows.{Code}
 use Rattle.table.specs.Paths.{recording}
 use Rattle.table.specs.Value.{codeIn, ready}
 use Rattle.codec_steps.specs.Reading.{decode}
@@ -43,28 +46,42 @@ module _ (t : Table) (room : ℕ) (ws : List ℕ) where
   unfolding decodedWith
   decode-7 e = rw e
 
-  module _ (r : ready t ≡ true) where
-    abbrev rest : Outcome (List ℕ)
-    rest = allBelow (2 ^ t .q) ws (decode (codeIn t) ws)
+  pub decode-ready : ready t ≡ true → decodedWith t room ws ≡ decoded (codeIn t) room ws
+  unfolding decodedWith
+  decode-ready e = rw e
 
-    pub decode-12 : length ws < t .lookahead → decodedWith t room ws ≡ refused TooFewWords
-    unfolding decodedWith decoded
-    decode-12 h = rw (r, lt-leb (t .lookahead) (length ws) h)
+module _ (c : Code) (room : ℕ) (ws : List ℕ) where
+  abbrev last-check : Outcome (List ℕ)
+  last-check = allBelow (2 ^ c .q) ws (decode c ws)
 
-    module _ (h : t .lookahead ≤ length ws) where
-      pub decode-13 : room < length ws - t .lookahead → decodedWith t room ws ≡ refused ShortOutput
-      unfolding decodedWith decoded
-      decode-13 l = rw (r, le-leb (t .lookahead) (length ws) h, lt-leb (length ws - t .lookahead) room l)
+  pub decode-12 : length ws < c .window .lookahead → decoded c room ws ≡ refused TooFewWords
+  unfolding decoded
+  decode-12 h = rw (lt-leb (c .window .lookahead) (length ws) h)
 
-      module _ (l : length ws - t .lookahead ≤ room) where
-        fits : decodedWith t room ws ≡ rest
-        unfolding decodedWith decoded
-        fits = rw (r, le-leb (t .lookahead) (length ws) h, le-leb (length ws - t .lookahead) room l)
+  module _ (h : c .window .lookahead ≤ length ws) where
+    pub decode-13 : room < length ws - c .window .lookahead → decoded c room ws ≡ refused ShortOutput
+    unfolding decoded
+    decode-13 l = rw (le-leb (c .window .lookahead) (length ws) h, lt-leb (length ws - c .window .lookahead) room l)
 
-        pub decode-11 : (n k : ℕ) → n ≡ 2 ^ t .q → k ≡ firstBad n ws → k < length ws
-            → decodedWith t room ws ≡ refused (BadByte k)
-        decode-11 n k e q b = fits ∙ bad-found (2 ^ t .q) ws (decode (codeIn t) ws) n k e q b
+    module _ (l : length ws - c .window .lookahead ≤ room) where
+      fits : decoded c room ws ≡ last-check
+      unfolding decoded
+      fits = rw (le-leb (c .window .lookahead) (length ws) h, le-leb (length ws - c .window .lookahead) room l)
 
-        pub decode-done : (n k : ℕ) → n ≡ 2 ^ t .q → k ≡ firstBad n ws → length ws ≤ k
-            → decodedWith t room ws ≡ done (decode (codeIn t) ws)
-        decode-done n k e q b = fits ∙ none-bad (2 ^ t .q) ws (decode (codeIn t) ws) n k e q b
+      pub decode-11 : (n k : ℕ) → n ≡ 2 ^ c .q → k ≡ firstBad n ws → k < length ws
+          → decoded c room ws ≡ refused (BadByte k)
+      decode-11 n k e q b = fits ∙ bad-found (2 ^ c .q) ws (decode c ws) n k e q b
+
+      pub decode-done : (n k : ℕ) → n ≡ 2 ^ c .q → k ≡ firstBad n ws → length ws ≤ k
+          → decoded c room ws ≡ done (decode c ws)
+      decode-done n k e q b = fits ∙ none-bad (2 ^ c .q) ws (decode c ws) n k e q b
+
+  -- what is decoded has words enough and room
+  pub decode-within : (out : List ℕ) → decoded c room ws ≡ done out
+      → (c .window .lookahead ≤ length ws) × (length ws - c .window .lookahead ≤ room)
+  unfolding decoded
+  decode-within out e =
+      let (h, f) = unless→ TooFewWords (leb (c .window .lookahead) (length ws))
+      (unless ShortOutput (leb (length ws - c .window .lookahead) room) last-check) out e in
+      let (l, _) = unless→ ShortOutput (leb (length ws - c .window .lookahead) room) last-check out f in
+      (leb→le (c .window .lookahead) (length ws) h, leb→le (length ws - c .window .lookahead) room l)

@@ -5,7 +5,8 @@ ghost use Rattle.answer.specs.Outcomes.{answerOf, outputOf};
 ghost use Rattle.codec.specs.Answers.{decodeUnder, decodeChecked};
 use answer::Answer;
 use answer::Verdict;
-use codec_decode::decode_with;
+use codec_decode::decode_few;
+use codec_decode::decode_many;
 use record_check::load;
 use record_read::read;
 
@@ -24,7 +25,12 @@ pub fn decode(bytes: &[u8], words: &[u8], out: &mut [u8]) -> Answer
     let t = r.table;
     match v {
         Verdict::Bad(x) => Answer::Refused(x),
-        Verdict::Good => decode_with(t, words, out),
+        Verdict::Good => {
+            if t.states <= 16 {
+                return decode_few(t, words, out);
+            }
+            decode_many(t, words, out)
+        }
     }
 }
 
@@ -42,6 +48,11 @@ pub fn decode_checked(bytes: &[u8], words: &[u8], out: &mut [u8]) -> Answer
     let t = r.table;
     match v {
         Verdict::Bad(refusal) => Answer::Refused(refusal),
-        Verdict::Good => decode_with(t, words, out),
+        Verdict::Good => {
+            if t.states <= 16 {
+                return decode_few(t, words, out);
+            }
+            decode_many(t, words, out)
+        }
     }
 }
