@@ -5,3 +5,4 @@ pub mod Jobs
 pub mod JobSteps
 pub mod Orders
 pub mod JoinedOrder
+pub mod ReadBytes

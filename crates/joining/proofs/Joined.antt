@@ -1,9 +1,9 @@
 -- Two constraints joined allow what both allow, and are a lawful constraint.
--- In order: joined-after; goes, leads; there, back, joined-finds, joint; length-joined, joined-lawful; joined-pairs,
--- more-pairs.
+-- In order: joined-after; goes, leads; there, back, joined-finds, joint; length-joined, joined-lawful; Leads,
+-- joined-steps; joined-pairs, more-pairs.
 -- Assumes nothing.
-use Rattle.laws.proofs.All.{_≡_, refl, sym, ap, subst, _∙_, _↔_, inl, inr, Bool, true, false, List, [], _∷_}
-use Rattle.laws.proofs.All.{ℕ, _/_, _%_, _≤_, _<_, arith, T, eqb, length, getD, length-map, getD-map-lt}
+use Rattle.laws.proofs.All.{_≡_, refl, sym, ap, subst, _∙_, _↔_, _⊎_, inl, inr, Bool, true, false, List, [], _∷_}
+use Rattle.laws.proofs.All.{ℕ, _+_, _*_, _/_, _%_, _≤_, _<_, arith, T, eqb, length, getD, length-map, getD-map-lt}
 use Rattle.laws.proofs.All.{if_then_else_, elem, T→true, Each, Once, each-map, each-elem, each-image, index-lt}
 use Rattle.laws.proofs.All.{at-index, each-at, div-add-mod', decLt, ℕ-discrete, eq-eqb, ne-eqb, once-fits}
 use Rattle.constraint.specs.Walking.{Constraint, nowhere, after, Target, Well, Lawful}
@@ -121,6 +121,50 @@ module _ (c d : Constraint) where
             rw length-joined
             (each-image (λ r. Target (length ps) (r .zero) × Target (length ps) (r .one)) (joinedState c d ps) ps
             (each-map (λ z. T (elem z ps)) _ (λ z u. (target z 0 u, target z 1 u)) ps (each-elem ps)))
+
+    -- ---- one bit
+    -- where bit b leads from the pair z, if the number that it leads to is j
+    abbrev Leads : ℕ → ℕ → ℕ → Type 0
+    Leads z b j =
+        let x = after c (z / 16) b in let y = after d (z % 16) b in ((j ≡ 255) ↔ ((x ≡ 255) ⊎ (y ≡ 255)))
+        × ((j ≡ 255 → ⊥) → (j < length ps) × (getD ps j 0 ≡ x * 16 + y))
+
+    leads-on : (z b : ℕ) → T (elem z ps) → Leads z b (nextPair c d ps b z)
+    leads-on z b u = go (allowed c d b z) refl
+      where
+        x : ℕ
+        x = after c (z / 16) b
+
+        y : ℕ
+        y = after d (z % 16) b
+
+        missing : allowed c d b z ≡ false → Dec (x ≡ 255) → Dec (y ≡ 255) → (x ≡ 255) ⊎ (y ≡ 255)
+        missing e (yes p) q = inl p
+        missing e (no p) (yes q) = inr q
+        missing e (no p) (no q) = absurd (subst T e (both-allowed c d b z p q))
+
+        go : (t : Bool) → allowed c d b z ≡ t → Leads z b (nextPair c d ps b z)
+        go true e =
+            let t : T (allowed c d b z) = subst T (sym e) tt in
+            let (p, q) = allowed-both c d b z t in
+            let n = goes z b u t in (
+              ((λ k. absurd (omega arith)), (λ s. elim s [ inl k ↦ absurd (p k) | inr k ↦ absurd (q k) ])),
+              (λ _. (n, rw e (at-index (leadsTo c d b z) ps (pairs-closed c d lc ld few z b u t)))),
+            )
+        go false e = (
+          ((λ _. missing e (ℕ-discrete x 255) (ℕ-discrete y 255)), (λ _. rw e)),
+          (λ f. absurd (f (rw e))),
+        )
+
+    -- THEOREM: from a pair a bit leads to the pair of the next states, and nowhere where one of these is missing
+    pub joined-steps : (length (joined c d) ≡ length ps) × ((i b : ℕ) → i < length ps → let z = getD ps i 0 in
+        let x = after c (z / 16) b in let y = after d (z % 16) b in let j = after (joined c d) i b in
+        ((j ≡ 255) ↔ ((x ≡ 255) ⊎ (y ≡ 255)))
+        × ((j ≡ 255 → ⊥) → (j < length ps) × (getD ps j 0 ≡ x * 16 + y)))
+    joined-steps = (
+      length-joined,
+      λ i b h. subst (Leads (getD ps i 0) b) (sym (joined-after i b h)) (leads-on (getD ps i 0) b (at i h)),
+    )
 
   module _ (lc : Lawful c) (ld : Lawful d) where
     -- THEOREM: the pairs are the reachable ones, each once, the pair of both states 0 first

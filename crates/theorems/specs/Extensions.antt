@@ -1,13 +1,14 @@
 -- The theorems of the later requests, of verifying and of what each call answers, each written out in full as on Main.
--- In order: (a) joint, joined-pairs, numbered, too-many-pairs, joined-job, both-obeyed; (b) streams, packed-bits,
--- good-streams, stream-numbers, pack-calls, unpack-calls, pack-returns, stream-words, stream-returns, stream-calls,
--- unstream-calls, stream-recognised, stream-clear, bits-reach, reach-quoted, reach-told; (c) labels, labels-rule,
--- labels-hold; (d) decoded-blocks, marks, no-mark-ahead, clear-unmarked; (e) closes, tail-free, tail-place,
--- closes-record; (f) depth-numbers, weave-calls, unweave-calls, weave-spreads, weave-returns, weave-places, weaving,
--- one-word-each, fewer-places, scratch; (g) state-sets, step-bits, back-bits, pair-step-bits, pair-hit-bits; Verify:
--- verified, verified-place, verified-mark, verified-near, verified-stream, verify-calls, verify-stream-calls; Calls:
--- job-order, run-length-order, joined-order, listing-call; set-order, set-count; encode-calls, decode-calls,
--- checked-calls; info-numbers, phrase-words, with-tail; answer-words, set-words, outputs.
+-- In order: (a) joint, joined-pairs, numbered, joined-steps, too-many-pairs, joined-job, joined-read, both-obeyed; (b)
+-- streams, packed-bits, good-streams, stream-numbers, pack-calls, unpack-calls, pack-returns, stream-words,
+-- stream-returns, stream-calls, unstream-calls, stream-recognised, stream-clear, bits-reach, reach-quoted, reach-told;
+-- (c) labels, labels-rule, labels-hold; (d) decoded-blocks, marks, no-mark-ahead, clear-unmarked; (e) closes,
+-- tail-free, tail-place, closes-record; (f) depth-numbers, weave-calls, unweave-calls, weave-spreads, weave-returns,
+-- weave-places, weaving, one-word-each, fewer-places, scratch; (g) state-sets, step-bits, back-bits, pair-step-bits,
+-- pair-hit-bits; Verify: verified, verified-place, verified-mark, verified-near, verified-stream, verify-calls,
+-- verify-stream-calls; Calls: job-order, job-read, run-length-order, run-length-read, joined-order, listing-call;
+-- set-order, set-count; encode-calls, decode-calls, checked-calls; info-numbers, phrase-words, with-tail; answer-words,
+-- set-words, outputs.
 -- Assumes nothing.
 use mathlib.Core.Path.{_≡_}
 use mathlib.Core.Logic.{_⊎_, _↔_}
@@ -30,7 +31,7 @@ use Rattle.answer.specs.Outcomes.{done, refused, onward, answerOf, outputOf}
 use Rattle.answer.specs.FirstBad.{firstBad}
 use Rattle.answer.specs.Orders.{check, First}
 use Rattle.bits.specs.Fields.{field, bitsOf}
-use Rattle.constraint.specs.Walking.{Constraint, Lawful}
+use Rattle.constraint.specs.Walking.{Constraint, after, Lawful}
 use Rattle.constraint.specs.Follow.{Finds, channel}
 use Rattle.joining.specs.Joined.{pairOf, pairs, joined, Reachable, FirstMet}
 use Rattle.table.specs.Rows.{Rows, edges, Code, withTail}
@@ -54,7 +55,7 @@ use Rattle.codec.specs.Follows.{Follows}
 use Rattle.codec.specs.Damage.{StandsClear, Recording, SameOutside, differences}
 use Rattle.compile_table.specs.TableOf.{tableOf}
 use Rattle.compile_labels.specs.Labels.{relabelledRow, relabelled, Rearranged}
-use Rattle.compile_job.specs.Jobs.{Job, Allowed, statesOf, readRunLength, readJoined, Joins}
+use Rattle.compile_job.specs.Jobs.{Job, Allowed, statesOf, readJob, readRunLength, readJoined, Joins}
 use Rattle.compile.specs.Compile.{ways, componentOf, finishedOf, compile, compileJob, compileRunLength, compileJoined}
 use Rattle.stream_pack.specs.Streams.{packed, unpacked, goodStream, packInto, unpackInto}
 use Rattle.weaving.specs.Weaving.{woven, unwoven, part, goodDepth, weaveInto, unweaveInto}
@@ -99,6 +100,14 @@ pub numbered : (c d : Constraint) → (place : ℕ → ℕ)
     × ((i j : ℕ) → 0 < i → i < j → j < length (pairs c d) → place i < place j)
 numbered = Rattle.joining.proofs.Numbered.numbered
 
+-- From a pair a bit leads to the pair of both next states, and nowhere (255) exactly where one of these is missing.
+pub joined-steps : (c d : Constraint) → Lawful c → Lawful d → length (pairs c d) ≤ 16
+    → (length (joined c d) ≡ length (pairs c d)) × ((i b : ℕ) → i < length (pairs c d)
+    → let z = getD (pairs c d) i 0 in let x = after c (z / 16) b in let y = after d (z % 16) b in
+    let j = after (joined c d) i b in ((j ≡ 255) ↔ ((x ≡ 255) ⊎ (y ≡ 255)))
+    × ((j ≡ 255 → ⊥) → (j < length (pairs c d)) × (getD (pairs c d) j 0 ≡ x * 16 + y)))
+joined-steps = Rattle.joining.proofs.Joined.joined-steps
+
 -- 14 comes exactly when both constraints pass their checks and more than 16 pairs are reachable from both states 0.
 pub too-many-pairs : (xs : List ℕ) (room : ℕ) → (compileJoined xs room ≡ refused TooManyPairs)
     ↔ ((c : Constraint) × (d : Constraint) × Joins xs c d
@@ -110,6 +119,13 @@ pub joined-job : (xs : List ℕ) (j : Job) → readJoined xs ≡ done j → (c :
     × Lawful c × Lawful d × (length (pairs c d) ≤ 16) × (j .constraint ≡ joined c d)
     × (j .p ≡ getD xs 0 0) × (j .q ≡ getD xs 1 0) × (j .cap ≡ getD xs 2 0)
 joined-job = Rattle.compile_job.proofs.Joining.joined-job
+
+-- Of these the first has K = byte 3 states, with two bytes a state behind K; the second's K and bytes follow so.
+pub joined-read : (xs : List ℕ) (c d : Constraint) → Joins xs c d → let K = getD xs 3 0 in
+    let L = getD xs (4 + 2 * K) 0 in (length c ≡ K)
+    × ((s b : ℕ) → s < K → b < 2 → after c s b ≡ getD xs (4 + 2 * s + b) 0)
+    × (length d ≡ L) × ((s b : ℕ) → s < L → b < 2 → after d s b ≡ getD xs (5 + 2 * K + 2 * s + b) 0)
+joined-read = Rattle.compile_job.proofs.ReadBytes.joined-read
 
 -- Every recording under the record obeys both constraints, each from its state of the pair that is the record's start.
 pub both-obeyed : (xs : List ℕ) (room : ℕ) (r : List ℕ) → compileJoined xs room ≡ done r → (k : Code)
@@ -512,6 +528,12 @@ pub job-order : (xs : List ℕ) (room : ℕ) (r : Refusal)
     ∷ check States ((i : ℕ) → i < 2 * K → let s = getD (drop 4 xs) i 0 in (s < K) ⊎ (s ≡ 255)) ∷ []) r
 job-order = Rattle.compile.proofs.Orders.job-order
 
+-- The job that is read has p, q, cap and K in its first four bytes, then two next states a state, 255 for none.
+pub job-read : (xs : List ℕ) (j : Job) → readJob xs ≡ done j → let K = getD xs 3 0 in (j .p ≡ getD xs 0 0)
+    × (j .q ≡ getD xs 1 0) × (j .cap ≡ getD xs 2 0) × (length (j .constraint) ≡ K)
+    × ((s b : ℕ) → s < K → b < 2 → after (j .constraint) s b ≡ getD xs (4 + 2 * s + b) 0)
+job-read = Rattle.compile_job.proofs.ReadBytes.job-read
+
 -- "Run-length job: 8, 1, 2": five bytes d, k, p, q, cap, with d at most k and k at most 15.
 pub run-length-order : (xs : List ℕ) (room : ℕ) (r : Refusal)
     → (numberOf r < 3) ⊎ ((numberOf r ≡ 8) ⊎ (numberOf r ≡ 14)) → let d = getD xs 0 0 in let k = getD xs 1 0 in
@@ -520,6 +542,14 @@ pub run-length-order : (xs : List ℕ) (room : ℕ) (r : Refusal)
     ∷ check Parameters ((1 ≤ p) × (p ≤ 4) × (1 ≤ q) × (q ≤ 8) × (1 ≤ cap) × (cap ≤ 16))
     ∷ check States ((d ≤ k) × (k ≤ 15)) ∷ []) r
 run-length-order = Rattle.compile.proofs.Orders.run-length-order
+
+-- It is read with k + 1 states: bit 0 leads from i to i + 1 if i < k, bit 1 to 0 if i ≥ d, else nowhere (255).
+pub run-length-read : (xs : List ℕ) (j : Job) → readRunLength xs ≡ done j → let d = getD xs 0 0 in
+    let k = getD xs 1 0 in let c = j .constraint in (j .p ≡ getD xs 2 0) × (j .q ≡ getD xs 3 0)
+    × (j .cap ≡ getD xs 4 0) × (length c ≡ k + 1)
+    × ((i : ℕ) → i < k → after c i 0 ≡ i + 1) × (after c k 0 ≡ 255)
+    × ((i : ℕ) → i < d → after c i 1 ≡ 255) × ((i : ℕ) → d ≤ i → i ≤ k → after c i 1 ≡ 0)
+run-length-read = Rattle.compile_job.proofs.ReadBytes.run-length-read
 
 -- Two constraints: "for each constraint 8 for a missing K, K by 2, 8, next states by 2"; the first K is byte 3.
 pub joined-order : (xs : List ℕ) (room : ℕ) (r : Refusal)
