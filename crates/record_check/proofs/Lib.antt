@@ -5,3 +5,5 @@ pub mod Accepted
 pub mod Reasons
 pub mod Meanings
 pub mod Tail
+pub mod Fields
+pub mod FieldOrder

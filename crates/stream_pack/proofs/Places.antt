@@ -1,11 +1,11 @@
 -- Bit by bit: where each bit of the words stands in a stream, the highest bit of a byte and of a word first.
--- In order: none-of-0, bits-at, zeros-at, uniform-bit, bit-of; below-packed; packed-bits.
+-- In order: none-of-0, bits-at, zeros-at, uniform-bit, bit-of; value-more, field-bits; below-packed; packed-bits.
 -- Assumes nothing.
 use Rattle.laws.proofs.All.{_≡_, refl, sym, ap, ap₂, subst, _∙_, List, [], _∷_, _++_, ℕ, zero, suc, _+_, _*_, _-_, _/_}
 use Rattle.laws.proofs.All.{_%_, _^_, _≤_, _<_, arith, decLt, pow-pos, div-eq-of-lt, div-add-mod', div-lt-iff-lt-mul}
-use Rattle.laws.proofs.All.{mod-lt, length, length-append, getD, List·getD-append, getD-append-add}
-use Rattle.laws.proofs.All.{List·getD-eq-default, Below}
-use Rattle.bits.specs.Fields.{bits, write, uniform, bitsOf}
+use Rattle.laws.proofs.All.{mod-lt, pow-suc, length, length-append, length-take-le, length-drop, take, drop, getD}
+use Rattle.laws.proofs.All.{getD-drop, List·getD-append, getD-append-add, List·getD-eq-default, Below}
+use Rattle.bits.specs.Fields.{bits, value, write, uniform, bitsOf, field}
 use Rattle.bits.proofs.Fields.{length-bits, below-read, below-write}
 use Rattle.bits.proofs.Puts.{length-uniform, length-bitsOf}
 use Rattle.stream_pack.specs.Streams.{streamSize, streamFill, streamWidths, packed}
@@ -47,6 +47,39 @@ bit-of : (n : ℕ) (xs : List ℕ) (i : ℕ) → 0 < n → i < length xs * n
 bit-of n xs i z h =
     ap (λ k. getD (uniform n xs) k 0) (sym (div-add-mod' i n))
     ∙ uniform-bit n xs (i / n) (i % n) (div-lt-iff-lt-mul {k = n} {x = i} {y = length xs} z .1 h) (mod-lt i z)
+
+-- ---- fields
+-- one bit more
+value-more : (w : ℕ) (bs : List ℕ) → w < length bs → value (take (w + 1) bs) ≡ 2 * value (take w bs) + getD bs w 0
+value-more w [] h = absurd (omega arith)
+value-more zero (b ∷ bs) h = omega arith
+value-more (suc w) (b ∷ bs) h =
+    let e : suc w + 1 ≡ suc (w + 1) = omega arith in
+    let l : w < length bs = omega arith in
+    let m : length (take (w + 1) bs) ≡ suc w = length-take-le (w + 1) bs (omega arith) ∙ omega arith in
+    let n : length (take w bs) ≡ w = length-take-le w bs (omega arith) in
+    ap (λ k. value (take k (b ∷ bs))) e
+    ∙ ap₂ (λ k x. b * 2 ^ k + x) m (value-more w bs l)
+    ∙ grown b (2 ^ w) (2 ^ suc w) (value (take w bs)) (getD bs w 0) (pow-suc 2 w)
+    ∙ ap (λ k. 2 * (b * 2 ^ k + value (take w bs)) + getD bs w 0) (sym n)
+  where
+    grown : (b p q v x : ℕ) → q ≡ p * 2 → b * q + (2 * v + x) ≡ 2 * (b * p + v) + x
+    grown b p q v x e = rw e (omega arith)
+
+-- THEOREM: "most significant bit first with no gaps": what a field is, by the bits of the bytes
+pub field-bits : (xs : List ℕ) (o : ℕ) → (field (bitsOf xs) o 0 ≡ 0) × ((w : ℕ) → o + w < 8 * length xs
+    → let i = o + w in
+    field (bitsOf xs) o (w + 1) ≡ 2 * field (bitsOf xs) o w + getD xs (i / 8) 0 / 2 ^ (7 - i % 8) % 2)
+field-bits xs o = (refl, more)
+  where
+    more : (w : ℕ) → o + w < 8 * length xs → let i = o + w in
+        field (bitsOf xs) o (w + 1) ≡ 2 * field (bitsOf xs) o w + getD xs (i / 8) 0 / 2 ^ (7 - i % 8) % 2
+    more w h =
+        let B = bitsOf xs in
+        let l : length (drop o B) ≡ length B - o = length-drop o B in
+        let b : length B ≡ length xs * 8 = length-bitsOf xs in
+        value-more w (drop o B) (omega arith)
+        ∙ ap (λ x. 2 * field B o w + x) (getD-drop o B w 0 ∙ bit-of 8 xs (o + w) (omega arith) (omega arith))
 
 below-packed : (q : ℕ) (ws : List ℕ) → Below 256 (packed q ws)
 unfolding packed

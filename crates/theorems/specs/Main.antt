@@ -1,23 +1,27 @@
 -- The main theorems, each written out in full; its proof only cites laws. A `Kind` is one of the three kinds of job.
 -- In order: allowed, no-code, greatest, component, each-split, splits-end, shortest-idle, least-window, refusals,
--- calls, written, max-record, compiled-passes; checker-exact, record-order, records; encodes, decodes, returns,
--- recognised, one-datum, demand-3, reach, local, different-data, loaded, checked; sets, good-places; words.
+-- calls, written, max-record, compiled-passes; checker-exact, record-order, record-fields, record-numbers,
+-- record-table, field-bits, records; encodes, decodes, returns, recognised, one-datum, demand-3, reach, local,
+-- different-data, loaded, checked; sets, good-places; words.
 -- Assumes nothing.
 use mathlib.Core.Path.{_≡_}
 use mathlib.Core.Logic.{_⊎_, _↔_}
-use mathlib.Core.List.{List, []}
-use Prim.Native.Nat.{ℕ, suc, _+_, _-_, _/_, _%_, _^_, _≤_, _<_}
+use mathlib.Core.List.{List, [], _∷_}
+use Prim.Native.Nat.{ℕ, suc, _+_, _*_, _-_, _/_, _%_, _^_, _≤_, _<_}
 use lib.Dec.{T}
 use lib.ListN.{length, getD, take, drop}
 use Rattle.laws.specs.Lists.{sum, elem}
 use Rattle.laws.specs.Sums.{Below}
 use Rattle.answer.specs.declared.Refusal.{Refusal}
 use Rattle.answer.specs.declared.Refusal.the-variants.{NoCode, TooHeavy, TooManyEdges, NoWindow, ShortOutput}
-use Rattle.answer.specs.declared.Refusal.the-variants.{Disobeys, WindowFails}
+use Rattle.answer.specs.declared.Refusal.the-variants.{Field, Length, Disobeys, WindowFails}
 use Rattle.answer.specs.Refusals.{numberOf}
 use Rattle.answer.specs.Outcomes.{done, refused}
+use Rattle.answer.specs.Orders.{check, First}
+use Rattle.bits.specs.Fields.{field, bitsOf}
+use Rattle.constraint.specs.Walking.{after}
 use Rattle.table.specs.declared.Table.{Table}
-use Rattle.table.specs.Rows.{Size, Code}
+use Rattle.table.specs.Rows.{at, Size, Code}
 use Rattle.table.specs.Paths.{Blocks, recording}
 use Rattle.table.specs.Value.{codeIn}
 use Rattle.table.specs.Formed.{Formed}
@@ -132,6 +136,42 @@ pub record-order : (xs : List ℕ) → Below 256 xs → Rattle.record_check.spe
     × ((parse xs ≡ refused WindowFails)
     ↔ ((c : Code) × Formed c × (pack c ≡ xs) × Obeys c × (Window (c .table) (c .window) → ⊥)))
 record-order = Rattle.record_check.proofs.Meanings.order
+
+-- 7 and 8 by numbers: "header by 7" is p, q, start and tail in its 34 bits; the rest is next states, targets and fill.
+pub record-fields : (xs : List ℕ) (r : Refusal) → (numberOf r ≡ 7) ⊎ (numberOf r ≡ 8) → let B = bitsOf xs in
+    let p = field B 0 3 in let q = field B 3 4 in let states = field B 7 7 + 1 in let K = field B 22 4 + 1 in
+    let start = field B 26 4 in let tail = field B 30 4 in let n = 34 + 10 * K + states * (2 ^ p * (q + 7)) in
+    let size = (n + 7) / 8 in (parse xs ≡ refused r)
+    ↔ First (check Length (5 ≤ length xs)
+    ∷ check Field ((1 ≤ p) × (p ≤ 4) × (1 ≤ q) × (q ≤ 8) × (start < K) × (tail < 2 ^ p))
+    ∷ check Length (length xs ≡ size)
+    ∷ check Field (((i : ℕ) → i < 2 * K → let o = 34 + i * 5 in ((field B o 1 ≡ 0) × (field B (o + 1) 4 ≡ 0))
+    ⊎ ((field B o 1 ≡ 1) × (field B (o + 1) 4 < K)))
+    × ((e : ℕ) → e < states * 2 ^ p → field B (34 + 10 * K + q + e * (q + 7)) 7 < states)
+    × (field B n (8 * size - n) ≡ 0)) ∷ []) r
+record-fields = Rattle.record_check.proofs.FieldOrder.record-order
+
+-- A record that passes has the numbers in its first 34 bits: p, q, states − 1, m, a, K − 1, start and tail.
+pub record-numbers : (xs : List ℕ) (c : Code) → parse xs ≡ done c → let B = bitsOf xs in (c .p ≡ field B 0 3)
+    × (c .q ≡ field B 3 4) × (length (c .table) ≡ field B 7 7 + 1) × (c .window .memory ≡ field B 14 4)
+    × (c .window .lookahead ≡ field B 18 4) × (length (c .constraint) ≡ field B 22 4 + 1)
+    × (c .start ≡ field B 26 4) × (c .tail ≡ field B 30 4)
+record-numbers = Rattle.record_check.proofs.Fields.record-numbers
+
+-- And behind them 5 bits for each state and bit, present and next state (255 for none), and q + 7 bits for each edge.
+pub record-table : (xs : List ℕ) (c : Code) → parse xs ≡ done c → let B = bitsOf xs in
+    let p = field B 0 3 in let q = field B 3 4 in let K = field B 22 4 + 1 in
+    ((s b : ℕ) → s < K → b < 2 → let o = 34 + 10 * s + 5 * b in let t = after (c .constraint) s b in
+    ((field B o 1 ≡ 0) × (t ≡ 255)) ⊎ ((field B o 1 ≡ 1) × (t ≡ field B (o + 1) 4)))
+    × ((s d : ℕ) → s < field B 7 7 + 1 → d < 2 ^ p → let o = 34 + 10 * K + (s * 2 ^ p + d) * (q + 7) in
+    (at (c .table) s d .word ≡ field B o q) × (at (c .table) s d .next ≡ field B (o + q) 7))
+record-table = Rattle.record_check.proofs.Fields.record-table
+
+-- A field is the number that its bits spell, the first the highest; bit i is bit 7 − i % 8 of byte i / 8.
+pub field-bits : (xs : List ℕ) (o : ℕ) → (field (bitsOf xs) o 0 ≡ 0) × ((w : ℕ) → o + w < 8 * length xs
+    → let i = o + w in
+    field (bitsOf xs) o (w + 1) ≡ 2 * field (bitsOf xs) o w + getD xs (i / 8) 0 / 2 ^ (7 - i % 8) % 2)
+field-bits = Rattle.stream_pack.proofs.Places.field-bits
 
 -- A record is read as it was written, up to refusals 9 and 10, and written as it was read.
 pub records : ((c : Code) → Formed c → parse (pack c) ≡ judged c)
