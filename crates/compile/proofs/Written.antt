@@ -1,6 +1,6 @@
 -- When compiling ends in a record, and exactly when it is refused with 3 to 6, 13 and 14, from bytes to bytes.
--- In order: written-from, refused-from, short-from, early-from, none-from; as-onward, as-early, as-allowed; written,
--- calls, none, short, read-refused, too-many, never-short; passes.
+-- In order: written-from, refused-from, short-from, early-from, none-from; kinds, as-onward, as-early, as-allowed;
+-- written, calls, none, short, read-refused, too-many, never-short; passes.
 -- Assumes nothing.
 use Rattle.laws.proofs.All.{_≡_, refl, sym, ap, _∙_, _⊎_, inl, inr, _↔_, List, ℕ, _≤_, _<_, arith, lt-leb, length}
 use Rattle.laws.proofs.All.{getD, sum}
@@ -16,7 +16,7 @@ use Rattle.record.specs.Layout.{pack}
 use Rattle.record.specs.Parse.{packInto}
 use Rattle.record_check.specs.Parse.{parse}
 use Rattle.record.proofs.RecordBytes.{pack-short}
-use Rattle.compile_job.specs.Jobs.{Job, Allowed}
+use Rattle.compile_job.specs.Jobs.{Job, readJob, readRunLength, readJoined, Allowed}
 use Rattle.compile.specs.Compile.{Vector, componentOf, finishedOf, tableFor, code, compile, compileInto}
 use Rattle.compile.specs.Compile.{compileJob, compileRunLength, compileJoined}
 use Rattle.compile.specs.Kinds.{Kind, general, run-length, joined, readAs, compileAs}
@@ -105,6 +105,13 @@ module _ (o : Outcome Job) (early : (r : Refusal) → o ≡ refused r → Early 
         )
 
 -- ---- all kinds of job
+-- what each kind is read and compiled by
+pub kinds : (xs : List ℕ) (room : ℕ) → ((readAs general xs ≡ readJob xs)
+    × (compileAs general xs room ≡ compileJob xs room)) × ((readAs run-length xs ≡ readRunLength xs)
+    × (compileAs run-length xs room ≡ compileRunLength xs room)) × ((readAs joined xs ≡ readJoined xs)
+    × (compileAs joined xs room ≡ compileJoined xs room))
+kinds xs room = ((refl, refl), (refl, refl), (refl, refl))
+
 as-onward : (k : Kind) (xs : List ℕ) (room : ℕ) → onward (readAs k xs) (compileInto room) ≡ compileAs k xs room
 unfolding compileJob compileRunLength compileJoined
 as-onward general xs room = refl

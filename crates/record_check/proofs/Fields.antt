@@ -11,8 +11,10 @@ use Rattle.answer.proofs.Outcomes.{done-inj, unless→, onward→}
 use Rattle.bits.specs.Fields.{read, bitsOf, field}
 use Rattle.bits.proofs.Fields.{read-at, value-take}
 use Rattle.constraint.specs.Walking.{nowhere, after}
-use Rattle.table.specs.Rows.{Code, at}
+use Rattle.table.specs.Rows.{Code, edges, at}
 use Rattle.table.specs.declared.Head.{Head}
+use Rattle.table.proofs.Formed.{formed→}
+use Rattle.table.proofs.Shape.{full}
 use Rattle.window.specs.Works.{works}
 use Rattle.record_obeys.specs.Obeys.{obeys}
 use Rattle.record.specs.Layout.{header, headOf, size, opened}
@@ -22,6 +24,7 @@ use Rattle.record.proofs.RecordAgain.{length-nextsOf, length-rowsOf}
 use Rattle.record.proofs.RecordPlaces.{nextAt, constraint-at, table-at}
 use Rattle.record.proofs.RecordReading.{below-bytes}
 use Rattle.record_check.specs.Parse.{judged, parse}
+use Rattle.record_check.proofs.Parse.{parse-formed}
 
 -- ---- the numbers in front
 -- "p 3 bits, q 4, states less one 7, m 4, a 4, K less one 4, constraint start 4", and the tail datum, "4 bits"
@@ -109,13 +112,14 @@ module _ (xs : List ℕ) (c : Code) (e : parse xs ≡ done c) where
         ap (λ c. c .tail) code-at,
       )
 
-  -- THEOREM: its next states and its edges are the fields behind them
+  -- THEOREM: its next states and its edges, 2^p a state, are the fields behind them
   pub record-table : let B = bitsOf xs in let p = field B 0 3 in let q = field B 3 4 in let K = field B 22 4 + 1 in
       ((s b : ℕ) → s < K → b < 2 → let o = 34 + 10 * s + 5 * b in let t = after (c .constraint) s b in
       ((field B o 1 ≡ 0) × (t ≡ 255)) ⊎ ((field B o 1 ≡ 1) × (t ≡ field B (o + 1) 4)))
       × ((s d : ℕ) → s < field B 7 7 + 1 → d < 2 ^ p → let o = 34 + 10 * K + (s * 2 ^ p + d) * (q + 7) in
       (at (c .table) s d .word ≡ field B o q) × (at (c .table) s d .next ≡ field B (o + q) 7))
-  record-table = (states, edges)
+      × ((s : ℕ) → s < field B 7 7 + 1 → length (edges (c .table) s) ≡ 2 ^ p)
+  record-table = (states, rows, long)
     where
       B : List ℕ
       B = bitsOf xs
@@ -133,11 +137,16 @@ module _ (xs : List ℕ) (c : Code) (e : parse xs ≡ done c) where
           subst (λ t. ((field B o 1 ≡ 0) × (t ≡ 255)) ⊎ ((field B o 1 ≡ 1) × (t ≡ field B (o + 1) 4))) (sym q)
           (opened-fact (field B o 1) (field B (o + 1) 4) (one-bit B (below-bytes xs) o))
 
-      edges : (s d : ℕ) → s < h .states → d < 2 ^ h .p
+      rows : (s d : ℕ) → s < h .states → d < 2 ^ h .p
           → let o = 34 + 10 * h .count + (s * 2 ^ h .p + d) * (h .q + 7) in
           (at (c .table) s d .word ≡ field B o (h .q)) × (at (c .table) s d .next ≡ field B (o + h .q) 7)
-      edges s d l k =
+      rows s d l k =
           let u : 34 + h .count * 10 + (s * 2 ^ h .p + d) * (h .q + 7)
           ≡ 34 + 10 * h .count + (s * 2 ^ h .p + d) * (h .q + 7) = omega arith in
           let q = ap (λ c. at (c .table) s d) code-at ∙ table-at h B s d l k in
           (ap (λ g. g .word) q ∙ ap (λ o. field B o (h .q)) u, ap (λ g. g .next) q ∙ ap (λ o. field B (o + h .q) 7) u)
+
+      long : (s : ℕ) → s < h .states → length (edges (c .table) s) ≡ 2 ^ h .p
+      long s l =
+          let f = full (c .p) (c .q) (length (c .table)) (c .table) (formed→ c (parse-formed xs c e) .rows) in
+          f s (rw (record-numbers .2) l) ∙ ap (λ k. 2 ^ k) (record-numbers .0)

@@ -1,6 +1,6 @@
 -- The main theorems, each written out in full; its proof only cites laws. A `Kind` is one of the three kinds of job.
--- In order: allowed, no-code, greatest, component, each-split, splits-end, shortest-idle, least-window, refusals,
--- calls, written, max-record, compiled-passes; checker-exact, record-order, record-fields, record-numbers,
+-- In order: kinds, allowed, no-code, greatest, component, each-split, splits-end, shortest-idle, least-window,
+-- refusals, calls, written, max-record, compiled-passes; checker-exact, record-order, record-fields, record-numbers,
 -- record-table, field-bits, records; encodes, decodes, returns, recognised, one-datum, demand-3, reach, local,
 -- different-data, loaded, checked; sets, good-places; words.
 -- Assumes nothing.
@@ -21,7 +21,7 @@ use Rattle.answer.specs.Orders.{check, First}
 use Rattle.bits.specs.Fields.{field, bitsOf}
 use Rattle.constraint.specs.Walking.{after}
 use Rattle.table.specs.declared.Table.{Table}
-use Rattle.table.specs.Rows.{at, Size, Code}
+use Rattle.table.specs.Rows.{edges, at, Size, Code}
 use Rattle.table.specs.Paths.{Blocks, recording}
 use Rattle.table.specs.Value.{codeIn}
 use Rattle.table.specs.Formed.{Formed}
@@ -39,12 +39,20 @@ use Rattle.compile_graph.specs.Weights.{AtMost}
 use Rattle.compile_graph.specs.Component.{within, live, componentStates}
 use Rattle.compile_graph.specs.Reachable.{Reachable, ReachedBack}
 use Rattle.compile_graph.specs.Splitting.{sort, chosen, candidates, stretch, divisible, kept, split, goesOn, splits}
-use Rattle.compile_job.specs.Jobs.{Job, Allowed}
+use Rattle.compile_job.specs.Jobs.{Job, readJob, readRunLength, readJoined, Allowed}
 use Rattle.compile.specs.Compile.{ways, graphOf, Vector, weightsOf, componentOf, finishedOf, tableFor, code, compile}
-use Rattle.compile.specs.Kinds.{Kind, readAs, compileAs}
+use Rattle.compile.specs.Compile.{compileJob, compileRunLength, compileJoined}
+use Rattle.compile.specs.Kinds.{Kind, general, run-length, joined as both, readAs, compileAs}
 use Rattle.view_job.specs.Listings.{listInto}
 use Rattle.set_check.specs.Sets.{codes, readSet, writeSet, Readable}
 use Rattle.word.specs.Words.{held, joined}
+
+-- The kinds are jobs, run-length jobs and jobs with two constraints, each with the reading and the call of its name.
+pub kinds : (xs : List ℕ) (room : ℕ) → ((readAs general xs ≡ readJob xs)
+    × (compileAs general xs room ≡ compileJob xs room)) × ((readAs run-length xs ≡ readRunLength xs)
+    × (compileAs run-length xs room ≡ compileRunLength xs room)) × ((readAs both xs ≡ readJoined xs)
+    × (compileAs both xs room ≡ compileJoined xs room))
+kinds = Rattle.compile.proofs.Written.kinds
 
 -- A job that is read from bytes is allowed: what is said below of allowed jobs holds of every call.
 pub allowed : (k : Kind) (xs : List ℕ) (j : Job) → readAs k xs ≡ done j → Allowed j
@@ -165,6 +173,7 @@ pub record-table : (xs : List ℕ) (c : Code) → parse xs ≡ done c → let B 
     ((field B o 1 ≡ 0) × (t ≡ 255)) ⊎ ((field B o 1 ≡ 1) × (t ≡ field B (o + 1) 4)))
     × ((s d : ℕ) → s < field B 7 7 + 1 → d < 2 ^ p → let o = 34 + 10 * K + (s * 2 ^ p + d) * (q + 7) in
     (at (c .table) s d .word ≡ field B o q) × (at (c .table) s d .next ≡ field B (o + q) 7))
+    × ((s : ℕ) → s < field B 7 7 + 1 → length (edges (c .table) s) ≡ 2 ^ p)
 record-table = Rattle.record_check.proofs.Fields.record-table
 
 -- A field is the number that its bits spell, the first the highest; bit i is bit 7 − i % 8 of byte i / 8.
