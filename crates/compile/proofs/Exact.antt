@@ -1,8 +1,8 @@
--- When compiling a job is done, and exactly when it is refused with 4, 5 and 6.
--- In order: weighs-some; window-small, compile-done; not-none; heavy-exact, crowded-exact, window-exact;
--- compile-refused; refusals.
+-- When compiling a job is done and with what code, and exactly when it is refused with 4, 5 and 6.
+-- In order: weighs-some; window-small, compile-done; compiled-code; not-none; heavy-exact, crowded-exact,
+-- window-exact; compile-refused; refusals.
 -- Assumes nothing.
-use Rattle.laws.proofs.All.{_≡_, sym, ap, subst, _∙_, inl, inr, _↔_, List, ℕ, _≤_, _<_, arith, decLt, le-leb}
+use Rattle.laws.proofs.All.{_≡_, refl, sym, ap, subst, _∙_, inl, inr, _↔_, List, ℕ, _≤_, _<_, arith, decLt, le-leb}
 use Rattle.laws.proofs.All.{le-ltb, lt-ltb, length, getD, sum}
 use Rattle.answer.specs.declared.Refusal.{Refusal}
 use Rattle.answer.specs.declared.Refusal.the-variants.{NoCode, TooHeavy, TooManyEdges, NoWindow}
@@ -13,8 +13,12 @@ use Rattle.window.specs.Window.{Window}
 use Rattle.window.specs.Search.{window}
 use Rattle.window.proofs.Window.{works-complete}
 use Rattle.window.proofs.WindowLeast.{window-least}
+use Rattle.compile_graph.specs.Component.{componentStates}
+use Rattle.compile_table.specs.TableOf.{tableOf}
+use Rattle.compile_labels.specs.Labels.{relabelled}
 use Rattle.compile_job.specs.Jobs.{Job, Allowed}
-use Rattle.compile.specs.Compile.{Vector, componentOf, finishedOf, tableFor, code, compile}
+use Rattle.compile.specs.Compile.{ways, graphOf, Vector, weightsOf, componentOf, finishedOf, tableFor, code}
+use Rattle.compile.specs.Compile.{compile}
 use Rattle.answer.proofs.RefusedOutcomes.{refused-inj}
 use Rattle.compile.proofs.Compile.{Reason, reason, nothing, heavy, crowding, windowless, coded, compile-none}
 use Rattle.compile.proofs.Compile.{no-code-exact}
@@ -46,6 +50,17 @@ module _ (j : Job) where
   compile-done h l few y hm ha w =
       compile-table j h l (le-ltb 2048 (length (finishedOf j .arcs)) few)
       ∙ rw (le-leb (window (tableFor j) .memory) 15 (window-small y hm ha w))
+
+  -- the code that compiling gives has the job's numbers and constraint, the component's first state and its table
+  pub compiled-code : (c : Code) → compile j ≡ done c → (c .p ≡ j .p) × (c .q ≡ j .q)
+      × (c .constraint ≡ j .constraint) × (c .start ≡ getD (componentStates (weightsOf j) (graphOf j)) 0 0)
+      × (c .tail ≡ 0) × (c .table ≡ relabelled (ways j) (tableOf (ways j) (finishedOf j)))
+  compiled-code c e = go c (subst (Reason j) e (reason j))
+    where
+      go : (c : Code) → Reason j (done c) → (c .p ≡ j .p) × (c .q ≡ j .q)
+          × (c .constraint ≡ j .constraint) × (c .start ≡ getD (componentStates (weightsOf j) (graphOf j)) 0 0)
+          × (c .tail ≡ 0) × (c .table ≡ relabelled (ways j) (tableOf (ways j) (finishedOf j)))
+      go c (coded _ _ _ _) = (refl, refl, refl, refl, refl, refl)
 
   -- a refusal other than 3 comes only where the component weighs something
   not-none : (r : Refusal) → (numberOf r ≡ 3 → ⊥) → compile j ≡ refused r → 0 < sum (componentOf j .weights)

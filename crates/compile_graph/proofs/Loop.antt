@@ -1,14 +1,31 @@
 -- All splits: they end with no state short of edges, or with too many edges, and never for want of rounds.
--- In order: splits-on, splits-off, short, splits-keep, splits-last-one, states-le, splits-end, splitted-end,
+-- In order: goes-on, splits-on, splits-off, short, splits-keep, splits-last-one, states-le, splits-end, splitted-end,
 -- splitted-full.
 -- Assumes nothing.
-use Rattle.laws.proofs.All.{_≡_, refl, sym, subst, Bool, true, false, not, ℕ, zero, suc, _+_, _≤_, _<_, le-trans}
-use Rattle.laws.proofs.All.{_∙_, ap, le-of-eq, arith, T, ltb, ltb-false, le-ltb, length, sum, and→, →and, →any-below}
-use Rattle.laws.proofs.All.{length-le-sum}
+use Rattle.laws.proofs.All.{_≡_, refl, sym, subst, _↔_, Bool, true, false, not, ℕ, zero, suc, _+_, _≤_, _<_, le-trans}
+use Rattle.laws.proofs.All.{_∙_, ap, le-of-eq, arith, T, ltb, ltb-false, le-ltb, ltb→lt, lt→ltb, length, sum, and→}
+use Rattle.laws.proofs.All.{→and, any-below→, →any-below, length-le-sum}
 use Rattle.compile_graph.specs.Invariant.{Inv}
 use Rattle.compile_graph.specs.Arcs.{Work, out}
 use Rattle.compile_graph.specs.Splitting.{split, fewEdges, unfinished, goesOn, splits, splitAll}
 use Rattle.compile_graph.proofs.Split.{split-inv, split-length}
+
+-- THEOREM: splitting goes on exactly while some state has fewer than n edges out and there are at most 2,048 edges
+pub goes-on : (n : ℕ) (x : Work) → T (goesOn n x)
+    ↔ ((length (x .arcs) ≤ 2048) × ((u : ℕ) × (u < length (x .weights)) × (length (out (x .arcs) u) < n)))
+goes-on n x = (
+  (λ t.
+      let (c, f) = and→ (not (ltb 2048 (length (x .arcs)))) (unfinished n x) t in
+      let (u, h, l) = any-below→ (fewEdges n (x .arcs)) (length (x .weights)) f in
+      (few (ltb 2048 (length (x .arcs))) refl c, (u, h, ltb→lt (length (out (x .arcs) u)) n l))),
+  (λ (c, (u, h, l)).
+      →and (not (ltb 2048 (length (x .arcs)))) (unfinished n x) (rw (le-ltb 2048 (length (x .arcs)) c) tt)
+      (→any-below (fewEdges n (x .arcs)) (length (x .weights)) u h (lt→ltb (length (out (x .arcs) u)) n l))),
+)
+  where
+    few : (b : Bool) → ltb 2048 (length (x .arcs)) ≡ b → T (not b) → length (x .arcs) ≤ 2048
+    few true q t = absurd t
+    few false q t = ltb-false 2048 (length (x .arcs)) q
 
 -- a round, and the end
 pub splits-on : (k n : ℕ) (x : Work) → goesOn n x ≡ true → splits (suc k) n x ≡ splits k n (split n x)

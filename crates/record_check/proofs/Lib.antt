@@ -7,3 +7,4 @@ pub mod Meanings
 pub mod Tail
 pub mod Fields
 pub mod FieldOrder
+pub mod Calls

@@ -1,13 +1,13 @@
 -- The main theorems, each written out in full; its proof only cites laws. A `Kind` is one of the three kinds of job.
--- In order: kinds, allowed, no-code, greatest, component, each-split, splits-end, shortest-idle, least-window,
--- refusals, calls, written, max-record, compiled-passes; checker-exact, record-order, record-fields, record-numbers,
--- record-table, field-bits, records; encodes, decodes, returns, recognised, one-datum, demand-3, reach, local,
--- different-data, loaded, checked; sets, good-places; words.
+-- In order: kinds, allowed, no-code, greatest, component, each-split, goes-on, splits-end, shortest-idle, least-window,
+-- refusals, calls, written, compiled-code, max-record, compiled-passes; checker-exact, check-calls, record-order,
+-- record-fields, record-numbers, record-table, field-bits, records; encodes, decodes, returns, recognised, one-datum,
+-- demand-3, reach, local, different-data, loaded, checked; sets, good-places; words.
 -- Assumes nothing.
 use mathlib.Core.Path.{_≡_}
 use mathlib.Core.Logic.{_⊎_, _↔_}
 use mathlib.Core.List.{List, [], _∷_}
-use Prim.Native.Nat.{ℕ, suc, _+_, _*_, _-_, _/_, _%_, _^_, _≤_, _<_}
+use Prim.Native.Nat.{ℕ, suc, _+_, _*_, _-_, _/_, _%_, _^_, _≤_, _<_, min}
 use lib.Dec.{T}
 use lib.ListN.{length, getD, take, drop}
 use Rattle.laws.specs.Lists.{sum, elem}
@@ -25,7 +25,7 @@ use Rattle.table.specs.Rows.{edges, at, Size, Code}
 use Rattle.table.specs.Paths.{Blocks, recording}
 use Rattle.table.specs.Value.{codeIn}
 use Rattle.table.specs.Formed.{Formed}
-use Rattle.window.specs.Window.{Window, NoLater}
+use Rattle.window.specs.Window.{Window}
 use Rattle.record_obeys.specs.Obeys.{Obeys, Breaks}
 use Rattle.record.specs.Layout.{pack}
 use Rattle.record_check.specs.Parse.{parse, judged, checkedOnly}
@@ -34,18 +34,20 @@ use Rattle.codec.specs.Answers.{encodeUnder, decodeUnder, encodeChecked, decode
 use Rattle.codec.specs.With.{encodedWith, decodedWith}
 use Rattle.codec.specs.Found.{found}
 use Rattle.codec.specs.Damage.{StandsClear, Recording, SameOutside}
-use Rattle.compile_graph.specs.Arcs.{Arc, out}
+use Rattle.compile_graph.specs.Arcs.{Arc, Work, out}
 use Rattle.compile_graph.specs.Weights.{AtMost}
 use Rattle.compile_graph.specs.Component.{within, live, componentStates}
 use Rattle.compile_graph.specs.Reachable.{Reachable, ReachedBack}
 use Rattle.compile_graph.specs.Splitting.{sort, chosen, candidates, stretch, divisible, kept, split, goesOn, splits}
+use Rattle.compile_table.specs.TableOf.{tableOf}
+use Rattle.compile_labels.specs.Labels.{relabelled}
 use Rattle.compile_job.specs.Jobs.{Job, readJob, readRunLength, readJoined, Allowed}
 use Rattle.compile.specs.Compile.{ways, graphOf, Vector, weightsOf, componentOf, finishedOf, tableFor, code, compile}
 use Rattle.compile.specs.Compile.{compileJob, compileRunLength, compileJoined}
 use Rattle.compile.specs.Kinds.{Kind, general, run-length, joined as both, readAs, compileAs}
 use Rattle.view_job.specs.Listings.{listInto}
 use Rattle.set_check.specs.Sets.{codes, readSet, writeSet, Readable}
-use Rattle.word.specs.Words.{held, joined}
+use Rattle.word.specs.Words.{joined}
 
 -- The kinds are jobs, run-length jobs and jobs with two constraints, each with the reading and the call of its name.
 pub kinds : (xs : List ℕ) (room : ℕ) → ((readAs general xs ≡ readJob xs)
@@ -83,6 +85,11 @@ pub each-split : (j : Job) → Allowed j → 0 < sum (componentOf j .weights) �
     × ((T (goesOn n x) → ⊥) → finishedOf j ≡ x)
 each-split = Rattle.compile.proofs.ByRule.splits-by-rule
 
+-- Splitting goes on exactly while some state has fewer than n edges out and there are at most 2,048 edges.
+pub goes-on : (n : ℕ) (x : Work) → T (goesOn n x)
+    ↔ ((length (x .arcs) ≤ 2048) × ((u : ℕ) × (u < length (x .weights)) × (length (out (x .arcs) u) < n)))
+goes-on = Rattle.compile_graph.proofs.Loop.goes-on
+
 -- Splitting ends, with no more states than the component's weights sum to, and n edges a state or refusal 5.
 pub splits-end : (j : Job) → Allowed j → 0 < sum (componentOf j .weights)
     → (length (finishedOf j .weights) ≤ sum (componentOf j .weights)) × (length (finishedOf j .arcs) ≤ 2048
@@ -96,8 +103,10 @@ pub shortest-idle : (n : ℕ) (v : List ℕ) (es : List Arc) (j i i′ : ℕ)
 shortest-idle = Rattle.compile_graph.proofs.RunUnique.shortest-idle
 
 -- The window written does what a window must, and is the first of all that do: least m + a, then least a.
-pub least-window : (j : Job) → Allowed j → (c : Code) → compile j ≡ done c → Window (c .table) (c .window)
-    × ((y : Size) → y .memory ≤ 15 → y .lookahead ≤ 15 → Window (c .table) y → NoLater (c .window) y)
+pub least-window : (j : Job) → Allowed j → (c : Code) → compile j ≡ done c
+    → let m = c .window .memory in let a = c .window .lookahead in Window (c .table) (c .window)
+    × ((y : Size) → y .memory ≤ 15 → y .lookahead ≤ 15 → Window (c .table) y → (m + a < y .memory + y .lookahead)
+    ⊎ ((m + a ≡ y .memory + y .lookahead) × (a ≤ y .lookahead)))
 least-window = Rattle.compile.proofs.Promises.least-window
 
 -- Refusals 4 (weight over 128), 5 (over 2,048 edges) and 6 (no window) come exactly where due and none before is.
@@ -122,6 +131,12 @@ pub written : (k : Kind) (xs : List ℕ) (room : ℕ) (j : Job) → readAs k xs 
     → length (pack (code j (tableFor j))) ≤ room → compileAs k xs room ≡ done (pack (code j (tableFor j)))
 written = Rattle.compile.proofs.Written.written
 
+-- A code has its job's p, q and whole constraint, the component's first state, tail datum 0 and the labelled table.
+pub compiled-code : (j : Job) (c : Code) → compile j ≡ done c → (c .p ≡ j .p) × (c .q ≡ j .q)
+    × (c .constraint ≡ j .constraint) × (c .start ≡ getD (componentStates (weightsOf j) (graphOf j)) 0 0)
+    × (c .tail ≡ 0) × (c .table ≡ relabelled (ways j) (tableOf (ways j) (finishedOf j)))
+compiled-code = Rattle.compile.proofs.Exact.compiled-code
+
 -- A record has at most 3,865 bytes and a listing at most 43,028, so with that room 13 never comes.
 pub max-record : ((c : Code) → Formed c → length (pack c) ≤ 3865) × ((k : Kind) (xs : List ℕ) (room : ℕ)
     → (3865 ≤ room → compileAs k xs room ≡ refused ShortOutput → ⊥)
@@ -137,6 +152,12 @@ compiled-passes = Rattle.compile.proofs.Written.passes
 pub checker-exact : (xs : List ℕ) → Below 256 xs → (checkedOnly xs ≡ done [])
     ↔ ((c : Code) × Formed c × (pack c ≡ xs) × Rattle.record_check.specs.Accepted.Accepted c)
 checker-exact = Rattle.record_check.proofs.Accepted.check-exact
+
+-- The checker gives no bytes for every record that parses to a code, and otherwise the refusal of its parsing.
+pub check-calls : (xs : List ℕ)
+    → ((ys : List ℕ) → (checkedOnly xs ≡ done ys) ↔ ((c : Code) × (parse xs ≡ done c) × (ys ≡ [])))
+    × ((r : Refusal) → (checkedOnly xs ≡ refused r) ↔ (parse xs ≡ refused r))
+check-calls = Rattle.record_check.proofs.Calls.check-calls
 
 -- A record's refusals: 8 below five bytes, 7, 8, 7; 9 exactly if a recording disobeys, 10 exactly if the window fails.
 pub record-order : (xs : List ℕ) → Below 256 xs → Rattle.record_check.specs.Reasons.Reason xs (parse xs)
@@ -265,5 +286,6 @@ pub good-places : (s : List ℕ) (cs : List Code) → readSet s ≡ codes cs →
 good-places = Rattle.set_check.proofs.Records.good-places
 
 -- The word that a call for C answers gives back its number by / 2^56 and its value, held to 2^56 − 1, by % 2^56.
-pub words : (number value : ℕ) → (joined number value / 2 ^ 56 ≡ number) × (joined number value % 2 ^ 56 ≡ held value)
+pub words : (number value : ℕ) → (joined number value / 2 ^ 56 ≡ number)
+    × (joined number value % 2 ^ 56 ≡ min value (2 ^ 56 - 1))
 words = Rattle.word.proofs.Words.joined-parts
