@@ -1,5 +1,5 @@
 -- The cases of `Refusal`, by where they stand in the code's list of them.
--- In order: tag; number-tag, number-some, number-most, place-none; named, same-refusal; others.
+-- In order: tag; number-tag, number-some, number-most, place-none; refusal-numbers; named, same-refusal; others.
 -- Assumes nothing.
 use Rattle.laws.proofs.All.{_≡_, refl, sym, ap₂, subst, _∙_, List, [], _∷_, _++_, ℕ, suc, _-_, _≤_, arith, getD, from}
 use denote.Enum.Declared.{tagOf}
@@ -47,6 +47,36 @@ number-most r = subst (λ n. n ≤ most) (sym (number-tag r)) (tag-small the-typ
 
 pub place-none : (r : Refusal) → (numberOf r ≡ 11 → ⊥) → placeOf r ≡ 0
 place-none r = case r .1
+
+-- THEOREM: the number of each refusal, and its place
+pub refusal-numbers : ((numberOf Parameters ≡ 1) × (numberOf States ≡ 2) × (numberOf NoCode ≡ 3)
+    × (numberOf TooHeavy ≡ 4) × (numberOf TooManyEdges ≡ 5) × (numberOf NoWindow ≡ 6) × (numberOf Field ≡ 7)
+    × (numberOf Length ≡ 8) × (numberOf Disobeys ≡ 9) × (numberOf WindowFails ≡ 10)
+    × ((k : ℕ) → numberOf (BadByte k) ≡ 11) × (numberOf TooFewWords ≡ 12) × (numberOf ShortOutput ≡ 13)
+    × (numberOf TooManyPairs ≡ 14) × (numberOf Stream ≡ 15) × (numberOf Depth ≡ 16))
+    × ((k : ℕ) → placeOf (BadByte k) ≡ k) × ((r : Refusal) → (numberOf r ≡ 11 → ⊥) → placeOf r ≡ 0)
+refusal-numbers = (
+  (
+    refl,
+    refl,
+    refl,
+    refl,
+    refl,
+    refl,
+    refl,
+    refl,
+    refl,
+    refl,
+    (λ k. refl),
+    refl,
+    refl,
+    refl,
+    refl,
+    refl,
+  ),
+  (λ k. refl),
+  place-none,
+)
 
 -- the refusal with a number and a place
 named : ℕ → ℕ → Refusal

@@ -7,21 +7,22 @@
 -- weave-places, weaving, one-word-each, fewer-places, scratch; (g) state-sets, step-bits, back-bits, pair-step-bits,
 -- pair-hit-bits; Verify: verified, verified-place, verified-mark, verified-near, verified-stream, verify-calls,
 -- verify-stream-calls; Calls: job-order, job-read, run-length-order, run-length-read, joined-order, listing-call;
--- set-order, set-count; encode-calls, decode-calls, checked-calls; info-numbers, phrase-words, with-tail; answer-words,
--- set-words, outputs.
+-- set-layout, set-order, set-count; encode-calls, decode-calls, checked-calls; info-numbers, phrase-words, phrases,
+-- with-tail; refusal-numbers, answer-words, word-numbers, set-words, outputs.
 -- Assumes nothing.
 use mathlib.Core.Path.{_≡_}
 use mathlib.Core.Logic.{_⊎_, _↔_}
 use mathlib.Core.Bool.{true, not, _&&_}
 use mathlib.Core.List.{List, [], _∷_, _++_}
-use Prim.Native.Nat.{ℕ, _+_, _*_, _-_, _/_, _%_, _^_, _≤_, _<_}
+use Prim.Native.Nat.{ℕ, _+_, _*_, _-_, _/_, _%_, _^_, _≤_, _<_, min}
 use lib.Count.{ones, trailingZeros}
 use lib.Dec.{T, eqb}
 use lib.ListN.{length, getD, take, drop, replicate}
 use Rattle.laws.specs.Lists.{if_then_else_, sum, elem}
 use Rattle.laws.specs.Sums.{Each, Once, Below}
 use Rattle.answer.specs.declared.Refusal.{Refusal}
-use Rattle.answer.specs.declared.Refusal.the-variants.{Parameters, States, Field, Length, BadByte, TooFewWords}
+use Rattle.answer.specs.declared.Refusal.the-variants.{Parameters, States, NoCode, TooHeavy, TooManyEdges, NoWindow}
+use Rattle.answer.specs.declared.Refusal.the-variants.{Field, Length, Disobeys, WindowFails, BadByte, TooFewWords}
 use Rattle.answer.specs.declared.Refusal.the-variants.{ShortOutput, TooManyPairs, Stream, Depth}
 use Rattle.answer.specs.declared.Answer.{Answer}
 use Rattle.answer.specs.declared.Answer.the-variants.{Done}
@@ -73,11 +74,12 @@ use Rattle.set_check.specs.declared.SetAnswer.the-variants.{Good, Bad}
 use Rattle.set_check.specs.Sets.{readSet}
 use Rattle.set_check.specs.Results.{setAnswer}
 use Rattle.set_check.specs.Outcomes.{recordOf}
+use Rattle.text.specs.Texts.{bytes}
 use Rattle.view_refusals.specs.Phrases.{wordsOf}
 use Rattle.view_listing.specs.Listing.{listing}
 use Rattle.view_job.specs.Listings.{listInto}
 use Rattle.info.specs.Info.{infoUnder, phraseInto}
-use Rattle.word.specs.Words.{held, wordOf}
+use Rattle.word.specs.Words.{wordOf}
 use Rattle.sbc.specs.Words.{setWordOf}
 
 -- ---- (a) Two constraints on one medium. What the main page says of a `Kind` of job holds of this kind too: its record
@@ -643,6 +645,25 @@ phrase-words n room = (
   Rattle.view_refusals.proofs.Rows.words-none n,
 )
 
+-- The words of the sixteen refusals, by number.
+pub phrases : (wordsOf 1 ≡ bytes "p, q or cap out of range")
+    × (wordsOf 2 ≡ bytes "K, a next state, or d and k out of range")
+    × (wordsOf 3 ≡ bytes "no code: all weights 0")
+    × (wordsOf 4 ≡ bytes "the component's weights sum to over 128")
+    × (wordsOf 5 ≡ bytes "over 2,048 edges, before any split or after one")
+    × (wordsOf 6 ≡ bytes "no window up to 15 and 15")
+    × (wordsOf 7 ≡ bytes "record field out of range, absent state not 0, or fill not 0")
+    × (wordsOf 8 ≡ bytes "length is not what the fields say, or too short for them")
+    × (wordsOf 9 ≡ bytes "some recording breaks the constraint")
+    × (wordsOf 10 ≡ bytes "the window fails")
+    × (wordsOf 11 ≡ bytes "block of 2^p or more, or word of 2^q or more, at place ")
+    × (wordsOf 12 ≡ bytes "fewer than a words")
+    × (wordsOf 13 ≡ bytes "the output is too short")
+    × (wordsOf 14 ≡ bytes "two constraints give more than 16 pairs of states")
+    × (wordsOf 15 ≡ bytes "over 1,000,000 words, wrong number of bytes, or fill not 0")
+    × (wordsOf 16 ≡ bytes "depth D is not 2 to 16, or does not divide the length")
+phrases = Rattle.view_refusals.proofs.Rows.words-are
+
 -- Another tail datum is written exactly if the record passes, it is below 2^p and there is room; else refusal, 7, 13.
 pub with-tail : (rec : List ℕ) → Below 256 rec → (k room : ℕ) → ((out : List ℕ) → (closedWith rec k room ≡ done out)
     ↔ ((c : Code) × (parse rec ≡ done c) × (k < 2 ^ c .p) × (length rec ≤ room) × (pack (withTail c k) ≡ out)))
@@ -654,10 +675,20 @@ with-tail rec b k room = (
   Rattle.record_tail.proofs.Calls.closed-refused rec b k room,
 )
 
+-- The refusals are numbered 1 to 16 as the documents have them; 11 names the place of its byte, the others 0.
+pub refusal-numbers : ((numberOf Parameters ≡ 1) × (numberOf States ≡ 2) × (numberOf NoCode ≡ 3)
+    × (numberOf TooHeavy ≡ 4) × (numberOf TooManyEdges ≡ 5) × (numberOf NoWindow ≡ 6) × (numberOf Field ≡ 7)
+    × (numberOf Length ≡ 8) × (numberOf Disobeys ≡ 9) × (numberOf WindowFails ≡ 10)
+    × ((k : ℕ) → numberOf (BadByte k) ≡ 11) × (numberOf TooFewWords ≡ 12) × (numberOf ShortOutput ≡ 13)
+    × (numberOf TooManyPairs ≡ 14) × (numberOf Stream ≡ 15) × (numberOf Depth ≡ 16))
+    × ((k : ℕ) → placeOf (BadByte k) ≡ k) × ((r : Refusal) → (numberOf r ≡ 11 → ⊥) → placeOf r ≡ 0)
+refusal-numbers = Rattle.answer.proofs.Cases.refusal-numbers
+
 -- A result's word has number 0 and its length, a refusal's its number, 1 to 16, and place; words tell answers apart.
 pub answer-words : ((xs : List ℕ) → let w = wordOf (answerOf (done xs)) in
-    (w / 2 ^ 56 ≡ 0) × (w % 2 ^ 56 ≡ held (length xs))) × ((r : Refusal) → let w = wordOf (answerOf (refused r)) in
-    (w / 2 ^ 56 ≡ numberOf r) × (w % 2 ^ 56 ≡ held (placeOf r)) × (1 ≤ numberOf r) × (numberOf r ≤ 16))
+    (w / 2 ^ 56 ≡ 0) × (w % 2 ^ 56 ≡ min (length xs) (2 ^ 56 - 1)))
+    × ((r : Refusal) → let w = wordOf (answerOf (refused r)) in (w / 2 ^ 56 ≡ numberOf r)
+    × (w % 2 ^ 56 ≡ min (placeOf r) (2 ^ 56 - 1)) × (1 ≤ numberOf r) × (numberOf r ≤ 16))
     × ((a b : Answer) → answerValue a < 2 ^ 56 → answerValue b < 2 ^ 56 → wordOf a ≡ wordOf b → a ≡ b)
 answer-words = (
   Rattle.word.proofs.Words.word-done,
@@ -665,9 +696,16 @@ answer-words = (
   Rattle.word.proofs.Words.words-apart,
 )
 
+-- In full, below 2^56: a result's word is its length, that of 11 is 11 × 2^56 + place, any other number × 2^56.
+pub word-numbers : ((xs : List ℕ) → length xs < 2 ^ 56 → wordOf (answerOf (done xs)) ≡ length xs)
+    × ((k : ℕ) → k < 2 ^ 56 → wordOf (answerOf (refused (BadByte k))) ≡ 11 * 2 ^ 56 + k)
+    × ((r : Refusal) → (numberOf r ≡ 11 → ⊥) → wordOf (answerOf (refused r)) ≡ numberOf r * 2 ^ 56)
+word-numbers = Rattle.word.proofs.Words.word-numbers
+
 -- The word of a set has number 0 and the count of a good set, or the refusal's number and that of the record.
-pub set-words : ((n : ℕ) → (setWordOf (Good n) / 2 ^ 56 ≡ 0) × (setWordOf (Good n) % 2 ^ 56 ≡ held n))
-    × ((i : ℕ) (r : Refusal) → (setWordOf (Bad i r) / 2 ^ 56 ≡ numberOf r) × (setWordOf (Bad i r) % 2 ^ 56 ≡ held i))
+pub set-words : ((n : ℕ) → (setWordOf (Good n) / 2 ^ 56 ≡ 0) × (setWordOf (Good n) % 2 ^ 56 ≡ min n (2 ^ 56 - 1)))
+    × ((i : ℕ) (r : Refusal) → (setWordOf (Bad i r) / 2 ^ 56 ≡ numberOf r)
+    × (setWordOf (Bad i r) % 2 ^ 56 ≡ min i (2 ^ 56 - 1)))
 set-words = Rattle.sbc.proofs.Words.set-words
 
 -- A result fills the output from its first byte and leaves the bytes past its end; a refusal leaves all as lent.

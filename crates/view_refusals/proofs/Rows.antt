@@ -1,10 +1,11 @@
 -- The code's lines of words are the phrases: computed once for the whole table. How long the words are.
--- In order: row; line-is; no-words; words-short; words-none.
+-- In order: row; line-is; no-words; words-short; words-none; words-are.
 -- Assumes nothing.
 use Rattle.laws.proofs.All.{_≡_, refl, sym, ap, _∙_, _⊎_, inl, inr, _↔_, Bool, List, [], _∷_, _++_, map, ℕ, zero, suc}
 use Rattle.laws.proofs.All.{_≤_, _<_, arith, decLe, T, leb, leb→le, ltb, ltb→lt, length, getD, drop}
 use Rattle.laws.proofs.All.{List·getD-eq-default, range, all, all→, map-range-at}
 use Rattle.answer.specs.Refusals.{most}
+use Rattle.text.specs.Texts.{bytes}
 use Rattle.view_refusals.specs.TextLines.{lineOf}
 use Rattle.view_refusals.specs.Phrases.{phrases, wordsOf}
 
@@ -77,4 +78,41 @@ words-none (suc m) = (
     | no h ↦ inr (omega arith)
   ]),
   (λ x. elim x [ inl z ↦ absurd (omega arith) | inr h ↦ sym (no-words (suc m) h) ]),
+)
+
+-- THEOREM: the words of each number
+pub words-are : (wordsOf 1 ≡ bytes "p, q or cap out of range")
+    × (wordsOf 2 ≡ bytes "K, a next state, or d and k out of range")
+    × (wordsOf 3 ≡ bytes "no code: all weights 0")
+    × (wordsOf 4 ≡ bytes "the component's weights sum to over 128")
+    × (wordsOf 5 ≡ bytes "over 2,048 edges, before any split or after one")
+    × (wordsOf 6 ≡ bytes "no window up to 15 and 15")
+    × (wordsOf 7 ≡ bytes "record field out of range, absent state not 0, or fill not 0")
+    × (wordsOf 8 ≡ bytes "length is not what the fields say, or too short for them")
+    × (wordsOf 9 ≡ bytes "some recording breaks the constraint")
+    × (wordsOf 10 ≡ bytes "the window fails")
+    × (wordsOf 11 ≡ bytes "block of 2^p or more, or word of 2^q or more, at place ")
+    × (wordsOf 12 ≡ bytes "fewer than a words")
+    × (wordsOf 13 ≡ bytes "the output is too short")
+    × (wordsOf 14 ≡ bytes "two constraints give more than 16 pairs of states")
+    × (wordsOf 15 ≡ bytes "over 1,000,000 words, wrong number of bytes, or fill not 0")
+    × (wordsOf 16 ≡ bytes "depth D is not 2 to 16, or does not divide the length")
+unfolding wordsOf phrases
+words-are = (
+  refl,
+  refl,
+  refl,
+  refl,
+  refl,
+  refl,
+  refl,
+  refl,
+  refl,
+  refl,
+  refl,
+  refl,
+  refl,
+  refl,
+  refl,
+  refl,
 )

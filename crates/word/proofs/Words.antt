@@ -1,14 +1,16 @@
 -- Answers as numbers of 64 bits fit, and their parts are got back.
--- In order: number-le; joined-parts; word-parts, word-done, word-refused, words-apart.
+-- In order: number-le; joined-parts; word-parts, word-done, word-refused, word-numbers, words-apart.
 -- Assumes nothing.
-use Rattle.laws.proofs.All.{_≡_, sym, ap, _∙_, List, ℕ, _/_, _%_, _^_, _≤_, _<_, arith, digits-div, digits-mod, length}
+use Rattle.laws.proofs.All.{_≡_, sym, ap, _∙_, List, ℕ, _+_, _*_, _/_, _%_, _^_, _≤_, _<_, zero-add, add-zero, arith}
+use Rattle.laws.proofs.All.{digits-div, digits-mod, length}
 use Rattle.answer.specs.declared.Refusal.{Refusal}
+use Rattle.answer.specs.declared.Refusal.the-variants.{BadByte}
 use Rattle.answer.specs.declared.Answer.{Answer}
 use Rattle.answer.specs.declared.Answer.the-variants.{Done, Refused}
 use Rattle.answer.specs.Refusals.{numberOf, most, placeOf}
 use Rattle.answer.specs.Answers.{answerNumber, answerValue}
 use Rattle.answer.specs.Outcomes.{done, refused, answerOf}
-use Rattle.answer.proofs.Cases.{number-some, number-most, same-refusal}
+use Rattle.answer.proofs.Cases.{number-some, number-most, place-none, same-refusal}
 use Rattle.word.specs.Words.{held, joined, wordOf}
 
 pub number-le : (a : Answer) → answerNumber a ≤ most
@@ -34,6 +36,20 @@ word-done xs = word-parts (Done (length xs))
 pub word-refused : (r : Refusal) → (wordOf (answerOf (refused r)) / 2 ^ 56 ≡ numberOf r)
     × (wordOf (answerOf (refused r)) % 2 ^ 56 ≡ held (placeOf r)) × (1 ≤ numberOf r) × (numberOf r ≤ 16)
 word-refused r = let (a, b) = word-parts (Refused r) in (a, b, number-some r, number-most r)
+
+-- THEOREM: the words in full, where the value is below 2^56
+pub word-numbers : ((xs : List ℕ) → length xs < 2 ^ 56 → wordOf (answerOf (done xs)) ≡ length xs)
+    × ((k : ℕ) → k < 2 ^ 56 → wordOf (answerOf (refused (BadByte k))) ≡ 11 * 2 ^ 56 + k)
+    × ((r : Refusal) → (numberOf r ≡ 11 → ⊥) → wordOf (answerOf (refused r)) ≡ numberOf r * 2 ^ 56)
+unfolding wordOf
+word-numbers = (
+  (λ xs h. whole 0 (length xs) h ∙ zero-add (length xs)),
+  (λ k h. whole 11 k h),
+  (λ r n. ap (joined (numberOf r)) (place-none r n) ∙ add-zero (numberOf r * 2 ^ 56)),
+)
+  where
+    whole : (n v : ℕ) → v < 72057594037927936 → joined n v ≡ n * 72057594037927936 + v
+    whole n v h = omega arith
 
 same-held : (v w : ℕ) → v < 72057594037927936 → w < 72057594037927936 → held v ≡ held w → v ≡ w
 same-held v w h k e = omega arith
