@@ -576,6 +576,14 @@ pub listing-call : (xs : List ℕ) (room : ℕ) → ((ls : List ℕ) → (listIn
 listing-call xs room =
     (Rattle.view_job.proofs.Calls.listing-done xs room, Rattle.view_job.proofs.Calls.listing-refused xs room)
 
+-- Two bytes of length, the higher first, stand at offset 1, then behind each record; 8 for a record that is cut off.
+pub set-layout : (s : List ℕ) → (offsetOf s 0 ≡ 1) × ((i : ℕ) → let o = offsetOf s i in
+    let len = getD s o 0 * 256 + getD s (o + 1) 0 in (offsetOf s (i + 1) ≡ o + 2 + len)
+    × (i < getD s 0 0 → o + 2 + len ≤ length s → recordOf s i ≡ parse (take len (drop (o + 2) s)))
+    × (i < getD s 0 0 → length s < o + 2 + len → recordOf s i ≡ refused Length)
+    × (getD s 0 0 ≤ i → recordOf s i ≡ refused Length))
+set-layout = Rattle.set_check.proofs.SetLayout.set-layout
+
 -- A set's first bad record with its number (8 if cut off); 8 with 0 for no bytes, with the count for bytes left over.
 pub set-order : (s : List ℕ) (i : ℕ) (r : Refusal) → (setAnswer (readSet s) ≡ Bad i r)
     ↔ (((length s ≡ 0) × (i ≡ 0) × (r ≡ Length))
