@@ -30,7 +30,8 @@ fn check_words(q: usize, a: usize, words: &[u8], room: usize) -> Verdict
     if words.len() < a {
         return Verdict::Bad(Refusal::TooFewWords);
     }
-    if room < words.len() - a {
+    let count = words.len() - a;
+    if room < count {
         return Verdict::Bad(Refusal::ShortOutput);
     }
     let bad = first_bad(words, bits::power(q));
