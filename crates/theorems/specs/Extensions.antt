@@ -122,7 +122,7 @@ pub joined-job : (xs : List ℕ) (j : Job) → readJoined xs ≡ done j → (c :
     × (j .p ≡ getD xs 0 0) × (j .q ≡ getD xs 1 0) × (j .cap ≡ getD xs 2 0)
 joined-job = Rattle.compile_job.proofs.Joining.joined-job
 
--- Of these the first has K = byte 3 states, with two bytes a state behind K; the second's K and bytes follow so.
+-- Of these the first has K states, by byte 3, with two next states each after it; the second follows in the same way.
 pub joined-read : (xs : List ℕ) (c d : Constraint) → Joins xs c d → let K = getD xs 3 0 in
     let L = getD xs (4 + 2 * K) 0 in (length c ≡ K)
     × ((s b : ℕ) → s < K → b < 2 → after c s b ≡ getD xs (4 + 2 * s + b) 0)
@@ -576,7 +576,7 @@ pub listing-call : (xs : List ℕ) (room : ℕ) → ((ls : List ℕ) → (listIn
 listing-call xs room =
     (Rattle.view_job.proofs.Calls.listing-done xs room, Rattle.view_job.proofs.Calls.listing-refused xs room)
 
--- Two bytes of length, the higher first, stand at offset 1, then behind each record; 8 for a record that is cut off.
+-- Two bytes of length, the higher first, stand at offset 1 and after each record; 8 for a record that is cut off.
 pub set-layout : (s : List ℕ) → (offsetOf s 0 ≡ 1) × ((i : ℕ) → let o = offsetOf s i in
     let len = getD s o 0 * 256 + getD s (o + 1) 0 in (offsetOf s (i + 1) ≡ o + 2 + len)
     × (i < getD s 0 0 → o + 2 + len ≤ length s → recordOf s i ≡ parse (take len (drop (o + 2) s)))

@@ -187,7 +187,7 @@ pub record-numbers : (xs : List ℕ) (c : Code) → parse xs ≡ done c → let 
     × (c .start ≡ field B 26 4) × (c .tail ≡ field B 30 4)
 record-numbers = Rattle.record_check.proofs.Fields.record-numbers
 
--- And behind them 5 bits for each state and bit, present and next state (255 for none), and q + 7 bits for each edge.
+-- After them 5 bits for each state and bit, present and next state (255 for none), then q + 7 bits for each edge.
 pub record-table : (xs : List ℕ) (c : Code) → parse xs ≡ done c → let B = bitsOf xs in
     let p = field B 0 3 in let q = field B 3 4 in let K = field B 22 4 + 1 in
     ((s b : ℕ) → s < K → b < 2 → let o = 34 + 10 * s + 5 * b in let t = after (c .constraint) s b in
