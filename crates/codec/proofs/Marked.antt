@@ -1,15 +1,17 @@
 -- What a decoded block says of paths: 254 exactly where no path reads the words up to it, 255 exactly where one does
 -- but none the words ahead too, a datum exactly where one reads both. Blocks that stand clear of damage show no mark.
--- In order: window-parts; Begun, begun; follows→, →follows; Shows, settled, shows; marks, no-mark-ahead,
--- clear-unmarked.
+-- In order: window-parts; Begun, begun; follows→, →follows; carried; Shows, settled, shows; marks, read-datum,
+-- no-mark-ahead, clear-unmarked.
 -- Assumes nothing.
-use Rattle.laws.proofs.All.{_≡_, refl, sym, ap, subst, _∙_, _↔_, inl, inr, Bool, true, false, List, [], _∷_, _++_, ℕ}
+use Rattle.laws.proofs.All.{_≡_, refl, sym, ap, subst, _∙_, _↔_, _⊎_, inl, inr, Bool, true, false, List, [], _∷_}
+use Rattle.laws.proofs.All.{_++_, ℕ, min, min-eq-left, min-eq-right}
 use Rattle.laws.proofs.All.{suc, _+_, _-_, _^_, _≤_, _<_, arith, decLt, lt-ltb, le-ltb, T, length, getD, take, drop}
 use Rattle.laws.proofs.All.{length-drop, length-take-le, split-at, if_then_else_, elem, member, tab→, →tab, Below}
 use Rattle.laws.proofs.All.{below-at}
 use Rattle.answer.specs.Outcomes.{done}
 use Rattle.table.specs.Rows.{Rows, Code}
 use Rattle.table.specs.Paths.{Blocks, recording}
+use Rattle.table.proofs.Paths.{length-spells}
 use Rattle.table.proofs.RowsOf.{ways-small}
 use Rattle.record_check.specs.Accepted.{Sound}
 use Rattle.record_check.specs.Parse.{parse}
@@ -24,6 +26,7 @@ use Rattle.codec.specs.Follows.{windowWords, Follows}
 use Rattle.codec.proofs.Reading.{Reads, path→reads, reads→path, one→, →one, first-or-none, reading→path}
 use Rattle.codec.proofs.Reading.{path→reading}
 use Rattle.codec.proofs.Local.{cut-window, past-later, past-early}
+use Rattle.codec.proofs.OneDatum.{one-path}
 use Rattle.codec.proofs.Damage.{recovered}
 use Rattle.codec.proofs.Answers.{decoded→}
 use Rattle.codec.proofs.Promises.{facts}
@@ -101,6 +104,32 @@ module _ (c : Code) (good : Sound c) (L : List ℕ) (j k : ℕ) (h : j + k < len
       let (l, z) = b .holds s .0 n in
       record { state = s; blocks = xs; inside = l; begin = z; path = p; words = e ∙ sym (b .words) }
 
+-- ---- the block is the datum of every path that reads its window
+module _ (c : Code) (good : Sound c) (L : List ℕ) (j : ℕ) (h : j + c .window .lookahead < length L)
+    (f : Follows c L j (c .window .lookahead)) where
+  abbrev a : ℕ
+  a = c .window .lookahead
+
+  -- a path from word b on, where block j is its datum k
+  from-word : (b k : ℕ) → b + k ≡ j → windowWords c L j a ≡ take (k + 1 + a) (drop b L)
+      → ((b ≡ 0) × (f .state ≡ 0)) ⊎ (b + c .window .memory ≤ j) → block c L j ≡ getD (f .blocks) k 0
+  from-word b k p e w =
+      let long : length (f .blocks) ≡ k + 1 + a =
+      sym (length-spells (c .table) (f .blocks) (f .state)) ∙ ap length (f .words ∙ e)
+      ∙ length-take-le (k + 1 + a) (drop b L) (rw (length-drop b L) (omega arith)) in
+      let q : j - b ≡ k = omega arith in
+      one-path c good L (f .blocks) b (f .state) (f .path)
+      (f .words ∙ e ∙ ap (λ x. take x (drop b L)) (sym long)) j (f .inside) w (omega arith) (omega (arith, long))
+      ∙ ap (λ x. getD (f .blocks) x 0) q
+
+  carried : block c L j ≡ getD (f .blocks) (min j (c .window .memory)) 0
+  carried = let m = c .window .memory in elim (decLt j m) [
+    | yes q ↦ from-word 0 j (omega arith) (rw (lt-ltb j m q)) (inl (refl, f .begin q))
+        ∙ ap (λ x. getD (f .blocks) x 0) (sym (min-eq-left (omega arith)))
+    | no q ↦ from-word (j - m) m (omega arith) (rw (le-ltb j m (omega arith))) (inr (omega arith))
+        ∙ ap (λ x. getD (f .blocks) x 0) (sym (min-eq-right (omega arith)))
+  ]
+
 -- ---- the block
 -- a block b that is one of n data or a mark, where A says that the words up to it can be read, and B those ahead too
 data Shows (b n : ℕ) (A B : Type 0) : Type 0 where
@@ -176,6 +205,13 @@ module _ (xs : List ℕ) (bytes : Below 256 xs) (c : Code) (read : parse xs ≡ 
       let (f, w) = facts xs bytes c read in
       settled (block c L j) (2 ^ c .p) (Follows c L j 0) (Follows c L j (c .window .lookahead))
       (ways-small (c .p) (f .range .p₂)) (shows c (sound c f w) L j h)
+
+  -- the block is the datum, at the block's place, of every path that reads its window
+  pub read-datum : (L : List ℕ) (j : ℕ) → j + c .window .lookahead < length L
+      → (f : Follows c L j (c .window .lookahead)) → block c L j ≡ getD (f .blocks) (min j (c .window .memory)) 0
+  read-datum L j h f =
+      let (g, w) = facts xs bytes c read in
+      carried c (sound c g w) L j h f
 
   -- with no words ahead they are never at fault
   pub no-mark-ahead : c .window .lookahead ≡ 0 → (L : List ℕ) (j : ℕ) → j < length L → block c L j ≡ 255 → ⊥

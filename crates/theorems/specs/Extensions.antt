@@ -2,13 +2,13 @@
 -- In order: (a) joint, joined-pairs, numbered, joined-steps, too-many-pairs, joined-job, joined-read, both-obeyed; (b)
 -- streams, packed-bits, good-streams, stream-numbers, pack-calls, unpack-calls, pack-returns, stream-words,
 -- stream-returns, stream-calls, unstream-calls, stream-recognised, stream-clear, bits-reach, reach-quoted, reach-told;
--- (c) labels, labels-rule, labels-hold; (d) decoded-blocks, marks, no-mark-ahead, clear-unmarked; (e) closes,
--- tail-free, tail-place, closes-record; (f) depth-numbers, weave-calls, unweave-calls, weave-spreads, weave-returns,
--- weave-places, weaving, one-word-each, fewer-places, scratch; (g) state-sets, step-bits, back-bits, pair-step-bits,
--- pair-hit-bits; Verify: verified, verified-place, verified-mark, verified-near, verified-stream, verify-calls,
--- verify-stream-calls; Calls: job-order, job-read, run-length-order, run-length-read, joined-order, listing-call;
--- set-layout, set-order, set-count; encode-calls, decode-calls, checked-calls; info-numbers, phrase-words, phrases,
--- with-tail; refusal-numbers, answer-words, word-numbers, set-words, outputs.
+-- (c) labels, labels-row, labels-rule, labels-hold, table-rule; (d) decoded-blocks, marks, read-datum, no-mark-ahead,
+-- clear-unmarked; (e) closes, tail-free, tail-place, closes-record; (f) depth-numbers, weave-calls, unweave-calls,
+-- weave-spreads, weave-returns, weave-places, weaving, one-word-each, fewer-places, scratch; (g) state-sets, step-bits,
+-- back-bits, pair-step-bits, pair-hit-bits; Verify: verified, verified-place, verified-mark, verified-near,
+-- verified-stream, verify-calls, verify-stream-calls; Calls: job-order, job-read, run-length-order, run-length-read,
+-- joined-order, listing-call; set-layout, set-order, set-count; encode-calls, decode-calls, checked-calls;
+-- info-numbers, phrase-words, phrases, with-tail; refusal-numbers, answer-words, word-numbers, set-words, outputs.
 -- Assumes nothing.
 use mathlib.Core.Path.{_≡_}
 use mathlib.Core.Logic.{_⊎_, _↔_}
@@ -313,6 +313,12 @@ pub marks : (rec : List ℕ) → Below 256 rec → (c : Code) → parse rec ≡ 
     × ((block c L j ≡ 255) ↔ (Follows c L j 0 × (Follows c L j (c .window .lookahead) → ⊥)))
     × ((block c L j < 2 ^ c .p) ↔ Follows c L j (c .window .lookahead))
 marks = Rattle.codec.proofs.Marked.marks
+
+-- The block is the datum, at its own place, of every path that reads the words of its window.
+pub read-datum : (rec : List ℕ) → Below 256 rec → (c : Code) → parse rec ≡ done c → (L : List ℕ) (j : ℕ)
+    → j + c .window .lookahead < length L → (f : Follows c L j (c .window .lookahead))
+    → block c L j ≡ getD (f .blocks) (min j (c .window .memory)) 0
+read-datum = Rattle.codec.proofs.Marked.read-datum
 
 -- With lookahead 0 the mark 255 never comes.
 pub no-mark-ahead : (rec : List ℕ) → Below 256 rec → (c : Code) → parse rec ≡ done c → c .window .lookahead ≡ 0
