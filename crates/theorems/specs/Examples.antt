@@ -1,16 +1,16 @@
--- E1 to E10 as one statement, proved by computing: from bytes where the documents give bytes.
+-- E1 to E10 and a foreign table as one statement, proved by computing: from bytes where the documents give bytes.
 -- In order: compiled, weighed, what run-length jobs come to; codeAt; code1, record1; code2, record2, oldRecord2;
--- code7, record7; code8; job9, ladder, ladderRows, code9; code10, record10, listing10; Examples, the statement;
--- examples, its proof.
+-- code7, record7; code8; job9, ladder, ladderRows, code9; code10, record10, listing10; oneWay, otherWay, allBits;
+-- Examples, the statement; examples, its proof.
 -- Assumes nothing.
 use mathlib.Core.Path.{_≡_, refl}
 use mathlib.Core.List.{List, [], _∷_, _++_}
 use Prim.Native.Nat.{ℕ}
 use Rattle.laws.specs.Lists.{sum}
-use Rattle.answer.specs.declared.Refusal.the-variants.{NoCode, Field, ShortOutput}
+use Rattle.answer.specs.declared.Refusal.the-variants.{NoCode, Field, ShortOutput, WindowFails}
 use Rattle.answer.specs.Outcomes.{Outcome, done, refused, onward}
 use Rattle.constraint.specs.Walking.{Constraint, runLength}
-use Rattle.table.specs.Rows.{edge, Rows, Code, withTail}
+use Rattle.table.specs.Rows.{Edge, edge, Rows, Code, withTail}
 use Rattle.window.specs.Works.{works}
 use Rattle.window.specs.Search.{sizes, window}
 use Rattle.record_obeys.specs.Obeys.{obeys}
@@ -129,6 +129,18 @@ listing10 =
     bytes "2 3 3 0 1\n0 0 011 0\n0 1 011 2\n0 2 101 0\n0 3 101 2\n1 0 110 1\n1 1 111 0\n"
     ++ bytes "1 2 101 0\n1 3 101 2\n2 0 110 1\n2 1 111 0\n2 2 010 1\n2 3 111 2\n"
 
+-- a state that has the word 0 for datum 0 and the word 1 for datum 1, both edges to itself
+abbrev pub oneWay : ℕ → List Edge
+oneWay s = edge 0 s ∷ edge 1 s ∷ []
+
+-- one that has them the other way round
+abbrev pub otherWay : ℕ → List Edge
+otherWay s = edge 1 s ∷ edge 0 s ∷ []
+
+-- the code of such states, m 0, a 0, for a constraint of one state that allows all bits
+abbrev pub allBits : Rows → Code
+allBits t = codeAt 1 2 0 0 (ladder (0 ∷ [])) t
+
 -- document 01's examples, as document 02 has worked them anew
 pub record Examples : Type 0 where
   -- E1 (0,1), p 1, q 2, cap 1: weights 1, 1; the table; its record
@@ -169,6 +181,10 @@ pub record Examples : Type 0 where
   pub e10 : encodeUnder record10 1 [] ≡ done (3 ∷ [])
   -- and 5 where the record states the tail datum 2
   pub e10-closed : encodeUnder (pack (withTail code10 2)) 1 [] ≡ done (5 ∷ [])
+  -- "Unreachable states of a foreign table count too": state 1 is not reachable, and only with it the window fails
+  pub foreign-alone : parse (pack (allBits (oneWay 0 ∷ []))) ≡ done (allBits (oneWay 0 ∷ []))
+  pub foreign-alike : parse (pack (allBits (oneWay 0 ∷ oneWay 1 ∷ []))) ≡ done (allBits (oneWay 0 ∷ oneWay 1 ∷ []))
+  pub foreign-fails : parse (pack (allBits (oneWay 0 ∷ otherWay 1 ∷ []))) ≡ refused WindowFails
 
 -- they hold
 pub examples : Examples
@@ -202,4 +218,7 @@ examples = record {
   e10-listed = refl;
   e10 = refl;
   e10-closed = refl;
+  foreign-alone = refl;
+  foreign-alike = refl;
+  foreign-fails = refl;
 }
