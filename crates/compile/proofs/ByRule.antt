@@ -1,16 +1,25 @@
--- The component that compiling takes and every split that it makes go by the rule.
--- In order: component; each-split, last-split, splits-by-rule.
+-- The component that compiling takes, every split that it makes and the table of the last graph go by the rule.
+-- In order: component; each-split, last-split, splits-by-rule; table-rule.
 -- Assumes nothing.
-use Rattle.laws.proofs.All.{_≡_, false, ℕ, suc, _<_, T, length, getD, sum, T→true, bool-eq}
-use Rattle.compile_graph.specs.Arcs.{out}
+use Rattle.laws.proofs.All.{_≡_, sym, _↔_, _⊎_, false, List, [], _∷_, map, ℕ, suc, _≤_, _<_, zero-le}
+use Rattle.laws.proofs.All.{suc-le-suc, not-suc-le-zero, T, length, getD, take, range, concat, sum}
+use Rattle.laws.proofs.All.{elem, one, T→true, bool-eq}
+use Rattle.table.specs.Rows.{at}
+use Rattle.compile_graph.specs.Arcs.{Arc, arc, Work, out}
 use Rattle.compile_graph.specs.Component.{within, live, componentStates}
-use Rattle.compile_graph.specs.Splitting.{sort, chosen, candidates, kept, split, goesOn, splits}
+use Rattle.compile_graph.specs.Invariant.{count, Inv}
+use Rattle.compile_graph.specs.Splitting.{sort, same, chosen, candidates, kept, split, goesOn, splits}
 use Rattle.compile_graph.specs.Rule.{Rule}
-use Rattle.compile_graph.specs.Reachable.{IsComponent}
+use Rattle.compile_graph.specs.Reachable.{Reachable, IsComponent}
+use Rattle.compile_graph.proofs.Arcs.{tot-sort}
+use Rattle.compile_graph.proofs.InOrder.{edges-rise}
+use Rattle.compile_graph.proofs.Loop.{splitted-end, splitted-full}
 use Rattle.compile_graph.proofs.Weights.{weights-length}
 use Rattle.compile_graph.proofs.Power.{power-inside}
 use Rattle.compile_graph.proofs.Passed.{each-passed, splits-last}
 use Rattle.compile_graph.proofs.Reachable.{component-is}
+use Rattle.compile_table.specs.TableOf.{tableStates, tableOf}
+use Rattle.compile_table.proofs.TableOf.{table-length, reached, row-edges, reached-first, states-rise}
 use Rattle.compile_job.specs.Jobs.{Job, Allowed}
 use Rattle.compile.specs.Compile.{ways, graphOf, weightsOf, componentOf, startOf, finishedOf}
 use Rattle.compile.proofs.Compiled.{live-some}
@@ -48,3 +57,43 @@ module _ (j : Job) (a : Allowed j) (h : 0 < sum (componentOf j .weights)) where
       × Rule n x s (candidates n (x .weights) (getD (x .weights) s 0) (sort (out (x .arcs) s)))
       (kept n (x .weights) (x .arcs) s)) × ((T (goesOn n x) → ⊥) → finishedOf j ≡ x)
   splits-by-rule k = (each-split k, last-split k)
+
+  -- the table of the finished graph has the states that the first n edges by word, then target, reach from state 0, in
+  -- their order, and these edges
+  pub table-rule : length (finishedOf j .arcs) ≤ 2048
+      → let n = ways j in let x = finishedOf j in let t = tableOf n x in
+      (S : List ℕ) × (length S ≡ length t) × (getD S 0 0 ≡ 0)
+      × ((i k : ℕ) → i < k → k < length S → getD S i 0 < getD S k 0)
+      × ((s : ℕ) → T (elem s S)
+      ↔ Reachable (concat (map (λ s. take n (sort (out (x .arcs) s))) (range (length (x .weights))))) 0 s)
+      × ((i d : ℕ) → i < length t → d < n → let e = getD (sort (out (x .arcs) (getD S i 0))) d (arc 0 0 0) in
+      (at t i d .word ≡ e .word) × (at t i d .next < length t) × (getD S (at t i d .next) 0 ≡ e .target))
+      × ((s : ℕ) → let es = sort (out (x .arcs) s) in ((e : Arc) → count e es ≡ count e (out (x .arcs) s))
+      × ((i k : ℕ) → i < k → k < length es → let e = getD es i (arc 0 0 0) in let f = getD es k (arc 0 0 0) in
+      (e .word < f .word) ⊎ ((e .word ≡ f .word) × (e .target < f .target))))
+  table-rule few = (
+    tableStates n x,
+    sym (table-length n x (I .inside) pos),
+    reached-first n x pos,
+    states-rise n x,
+    reached n x (I .inside) pos,
+    row-edges n x (I .inside) pos (splitted-full n (sum (componentOf j .weights)) (ways-pos j) (componentOf j)
+        (job-inv j a h) few),
+    λ s. (λ e. tot-sort (one (same e)) (out (x .arcs) s), edges-rise (x .arcs) (I .distinct) s),
+  )
+    where
+      n : ℕ
+      n = ways j
+
+      x : Work
+      x = finishedOf j
+
+      I : Inv n (sum (componentOf j .weights)) x
+      I = splitted-end n (sum (componentOf j .weights)) (ways-pos j) (componentOf j) (job-inv j a h) .0
+
+      some : (v : List ℕ) → 0 < sum v → 0 < length v
+      some [] k = absurd (not-suc-le-zero k)
+      some (w ∷ v) k = suc-le-suc zero-le
+
+      pos : 0 < length (x .weights)
+      pos = some (x .weights) (rw (I .whole) h)

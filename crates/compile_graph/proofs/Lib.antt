@@ -17,6 +17,7 @@ pub mod PartedJoined
 pub mod PartedRoots
 pub mod PartedInv
 pub mod PartedBack
+pub mod InOrder
 pub mod Split
 pub mod Loop
 pub mod Roots

@@ -13,12 +13,12 @@
 use mathlib.Core.Path.{_≡_}
 use mathlib.Core.Logic.{_⊎_, _↔_}
 use mathlib.Core.Bool.{true, not, _&&_}
-use mathlib.Core.List.{List, [], _∷_, _++_}
+use mathlib.Core.List.{List, [], _∷_, _++_, map}
 use Prim.Native.Nat.{ℕ, _+_, _*_, _-_, _/_, _%_, _^_, _≤_, _<_, min}
 use lib.Count.{ones, trailingZeros}
 use lib.Dec.{T, eqb}
 use lib.ListN.{length, getD, take, drop, replicate}
-use Rattle.laws.specs.Lists.{if_then_else_, sum, elem}
+use Rattle.laws.specs.Lists.{if_then_else_, range, concat, sum, elem}
 use Rattle.laws.specs.Sums.{Each, Once, Below}
 use Rattle.answer.specs.declared.Refusal.{Refusal}
 use Rattle.answer.specs.declared.Refusal.the-variants.{Parameters, States, NoCode, TooHeavy, TooManyEdges, NoWindow}
@@ -35,7 +35,7 @@ use Rattle.bits.specs.Fields.{field, bitsOf}
 use Rattle.constraint.specs.Walking.{Constraint, after, Lawful}
 use Rattle.constraint.specs.Follow.{Finds, channel}
 use Rattle.joining.specs.Joined.{pairOf, pairs, joined, Reachable, FirstMet}
-use Rattle.table.specs.Rows.{Rows, edges, Code, withTail}
+use Rattle.table.specs.Rows.{Rows, edges, at, Code, withTail}
 use Rattle.table.specs.Paths.{spells, Blocks, recording, Full}
 use Rattle.table.specs.Formed.{Formed}
 use Rattle.table.specs.Marks.{some}
@@ -54,6 +54,10 @@ use Rattle.codec_steps.specs.Reading.{markAhead, block, decode}
 use Rattle.codec.specs.Answers.{encodeUnder, decodeUnder, encodeChecked, decodeChecked}
 use Rattle.codec.specs.Follows.{Follows}
 use Rattle.codec.specs.Damage.{StandsClear, Recording, SameOutside, differences}
+use Rattle.compile_graph.specs.Arcs.{Arc, arc, out}
+use Rattle.compile_graph.specs.Invariant.{count}
+use Rattle.compile_graph.specs.Reachable.{Reachable as ReachableBy}
+use Rattle.compile_graph.specs.Splitting.{sort}
 use Rattle.compile_table.specs.TableOf.{tableOf}
 use Rattle.compile_labels.specs.Labels.{relabelledRow, relabelled, Rearranged}
 use Rattle.compile_job.specs.Jobs.{Job, Allowed, statesOf, readJob, readRunLength, readJoined, Joins}
@@ -297,6 +301,20 @@ labels-rule = Rattle.compile_labels.proofs.Labels.labels-rule
 pub labels-hold : (j : Job) → Allowed j → 0 < sum (componentOf j .weights) → length (finishedOf j .arcs) ≤ 2048
     → Full (ways j) (tableOf (ways j) (finishedOf j))
 labels-hold = Rattle.compile.proofs.Accepted.labelled-full
+
+-- That table: the states that the first n edges by word, then target, reach from 0, in order, and these edges.
+pub table-rule : (j : Job) → Allowed j → 0 < sum (componentOf j .weights) → length (finishedOf j .arcs) ≤ 2048
+    → let n = ways j in let x = finishedOf j in let t = tableOf n x in
+    (S : List ℕ) × (length S ≡ length t) × (getD S 0 0 ≡ 0)
+    × ((i k : ℕ) → i < k → k < length S → getD S i 0 < getD S k 0)
+    × ((s : ℕ) → T (elem s S)
+    ↔ ReachableBy (concat (map (λ s. take n (sort (out (x .arcs) s))) (range (length (x .weights))))) 0 s)
+    × ((i d : ℕ) → i < length t → d < n → let e = getD (sort (out (x .arcs) (getD S i 0))) d (arc 0 0 0) in
+    (at t i d .word ≡ e .word) × (at t i d .next < length t) × (getD S (at t i d .next) 0 ≡ e .target))
+    × ((s : ℕ) → let es = sort (out (x .arcs) s) in ((e : Arc) → count e es ≡ count e (out (x .arcs) s))
+    × ((i k : ℕ) → i < k → k < length es → let e = getD es i (arc 0 0 0) in let f = getD es k (arc 0 0 0) in
+    (e .word < f .word) ⊎ ((e .word ≡ f .word) × (e .target < f .target))))
+table-rule = Rattle.compile.proofs.ByRule.table-rule
 
 -- ---- (d) Two marks: a block that cannot be read shows whether what went before is at fault, 254, or the words ahead,
 -- 255. What is said of `block c L j` is said of byte j of every decoding, and by `stream-words` of that of a stream.
