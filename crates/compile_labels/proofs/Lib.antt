@@ -1,6 +1,8 @@
 pub mod Rising
 pub mod Data
 pub mod Labels
+pub mod Answered
+pub mod ByRule
 pub mod Columns
 pub mod Homes
 pub mod Passes

@@ -284,7 +284,8 @@ pub reach-told : (rec : List ℕ) (d : BitRange) → let a = reachAnswer (reachU
 reach-told = Rattle.stream_damage.proofs.Calls.reach-told
 
 -- ---- (c) One word, one datum where it can be: `relabelled` gives the data of a table anew. Main's `tableFor` is the
--- table of the finished graph, relabelled, so what Main says of tables, windows and records is said of the new data.
+-- table of the finished graph, relabelled, so what Main says of tables, windows and records is said of the new data. In
+-- `labels-rule` xs are the data that the edges of state s first take, n for none, and ds all their data in the end.
 
 -- Giving the data anew keeps state 0, and in every other state each edge, with each datum once.
 pub labels : (n : ℕ) (t : Rows) → Full n t → (edges (relabelled n t) 0 ≡ edges t 0)
@@ -292,12 +293,26 @@ pub labels : (n : ℕ) (t : Rows) → Full n t → (edges (relabelled n t) 0 ≡
     × ((s : ℕ) → s < length t → Rearranged n (edges t s) (edges (relabelled n t) s))
 labels = Rattle.compile_labels.proofs.Labels.labels
 
--- Edges take the lowest free datum that the lowest earlier state with their word gave it; others the free data, rising.
-pub labels-rule : (n : ℕ) (t : Rows) → Full n t → (s : ℕ) → 0 < s → s < length t
+-- A later state's edges are made of its own and of the states before it, as these are in the end.
+pub labels-row : (n : ℕ) (t : Rows) → Full n t → (s : ℕ) → 0 < s → s < length t
     → edges (relabelled n t) s ≡ relabelledRow n (take s (relabelled n t)) (edges t s)
-labels-rule = Rattle.compile_labels.proofs.Labels.labels-rule
+labels-row = Rattle.compile_labels.proofs.Labels.labels-rule
 
--- Both hold of every table that is compiled: it has n edges a state when its data are given.
+-- Edges take the lowest free datum that the lowest earlier state with their word gave it; others the free data, rising.
+pub labels-rule : (n : ℕ) (t : Rows) → Full n t → (s : ℕ) → 0 < s → s < length t → let new = relabelled n t in
+    (xs : List ℕ) × (ds : List ℕ) × (length xs ≡ n) × (length ds ≡ n) × Once ds
+    × ((k : ℕ) → k < n → (getD ds k 0 < n) × (at new s (getD ds k 0) ≡ at t s k))
+    × ((k : ℕ) → k < n → getD xs k 0 < n → let d = getD xs k 0 in let w = at t s k .word in
+    (getD ds k 0 ≡ d) × ((i : ℕ) → i < k → getD xs i 0 ≡ d → ⊥)
+    × ((u : ℕ) × (u < s) × (at new u d .word ≡ w) × ((v e : ℕ) → v < u → e < n → at new v e .word ≡ w → ⊥)
+    × ((e : ℕ) → e < d → at new u e .word ≡ w → (i : ℕ) × (i < k) × (getD xs i 0 ≡ e))))
+    × ((k : ℕ) → k < n → n ≤ getD xs k 0 → let w = at t s k .word in (u : ℕ) → u < s
+    → ((v e : ℕ) → v < u → e < n → at new v e .word ≡ w → ⊥)
+    → (e : ℕ) → e < n → at new u e .word ≡ w → (i : ℕ) × (i < k) × (getD xs i 0 ≡ e))
+    × ((i k : ℕ) → i < k → k < n → n ≤ getD xs i 0 → n ≤ getD xs k 0 → getD ds i 0 < getD ds k 0)
+labels-rule = Rattle.compile_labels.proofs.ByRule.data-rule
+
+-- All three hold of every table that is compiled: it has n edges a state when its data are given.
 pub labels-hold : (j : Job) → Allowed j → 0 < sum (componentOf j .weights) → length (finishedOf j .arcs) ≤ 2048
     → Full (ways j) (tableOf (ways j) (finishedOf j))
 labels-hold = Rattle.compile.proofs.Accepted.labelled-full
