@@ -18,6 +18,7 @@ pub mod PartedRoots
 pub mod PartedInv
 pub mod PartedBack
 pub mod InOrder
+pub mod SplitList
 pub mod Split
 pub mod Loop
 pub mod Roots

@@ -1,8 +1,8 @@
 -- The main theorems, each written out in full; its proof only cites laws. A `Kind` is one of the three kinds of job.
--- In order: kinds, allowed, no-code, greatest, component, each-split, goes-on, splits-end, shortest-idle, least-window,
--- refusals, calls, written, compiled-code, max-record, compiled-passes; checker-exact, check-calls, record-order,
--- record-fields, record-numbers, record-table, field-bits, records; encodes, decodes, returns, recognised, one-datum,
--- demand-3, reach, local, different-data, loaded, checked; sets, good-places; words.
+-- In order: kinds, allowed, no-code, greatest, component, each-split, split-list, goes-on, splits-end, shortest-idle,
+-- least-window, refusals, calls, written, compiled-code, max-record, compiled-passes; checker-exact, check-calls,
+-- record-order, record-fields, record-numbers, record-table, field-bits, records; encodes, decodes, returns,
+-- recognised, one-datum, demand-3, reach, local, different-data, loaded, checked; sets, good-places; words.
 -- Assumes nothing.
 use mathlib.Core.Path.{_≡_}
 use mathlib.Core.Logic.{_⊎_, _↔_}
@@ -34,10 +34,11 @@ use Rattle.codec.specs.Answers.{encodeUnder, decodeUnder, encodeChecked, decode
 use Rattle.codec.specs.With.{encodedWith, decodedWith}
 use Rattle.codec.specs.Found.{found}
 use Rattle.codec.specs.Damage.{StandsClear, Recording, SameOutside}
-use Rattle.compile_graph.specs.Arcs.{Arc, Work, out}
+use Rattle.compile_graph.specs.Arcs.{Arc, arc, Work, out}
 use Rattle.compile_graph.specs.Weights.{AtMost}
 use Rattle.compile_graph.specs.Component.{within, live, componentStates}
 use Rattle.compile_graph.specs.Reachable.{Reachable, ReachedBack}
+use Rattle.compile_graph.specs.Invariant.{count}
 use Rattle.compile_graph.specs.Splitting.{sort, chosen, candidates, stretch, divisible, kept, split, goesOn, splits}
 use Rattle.compile_table.specs.TableOf.{tableOf}
 use Rattle.compile_labels.specs.Labels.{relabelled}
@@ -84,6 +85,19 @@ pub each-split : (j : Job) → Allowed j → 0 < sum (componentOf j .weights) �
     (candidates n (x .weights) (getD (x .weights) s 0) (sort (out (x .arcs) s))) (kept n (x .weights) (x .arcs) s))
     × ((T (goesOn n x) → ⊥) → finishedOf j ≡ x)
 each-split = Rattle.compile.proofs.ByRule.splits-by-rule
+
+-- That list: the first edge, by word, then target, to a lighter state, then the first n − 1 others in this order.
+pub split-list : (j : Job) → Allowed j → 0 < sum (componentOf j .weights) → (k : ℕ) → let n = ways j in
+    let x = splits k n (componentOf j) in let v = x .weights in let s = chosen v (x .arcs) in T (goesOn n x)
+    → let es = sort (out (x .arcs) s) in let l = candidates n v (getD v s 0) es in let o = arc 0 0 0 in
+    ((i k : ℕ) → i < k → k < length es → let e = getD es i o in let f = getD es k o in
+    (e .word < f .word) ⊎ ((e .word ≡ f .word) × (e .target < f .target)))
+    × ((e : Arc) → count e es ≡ count e (out (x .arcs) s))
+    × ((p : ℕ) × (p < length es) × (getD l 0 o ≡ getD es p o) × (getD v (getD es p o .target) 0 < getD v s 0)
+    × ((i : ℕ) → i < p → getD v s 0 ≤ getD v (getD es i o .target) 0)
+    × ((i : ℕ) → i < p → i + 1 < n → getD l (i + 1) o ≡ getD es i o)
+    × ((i : ℕ) → p < i → i < n → getD l i o ≡ getD es i o))
+split-list = Rattle.compile.proofs.ByRule.split-list
 
 -- Splitting goes on exactly while some state has fewer than n edges out and there are at most 2,048 edges.
 pub goes-on : (n : ℕ) (x : Work) → T (goesOn n x)
