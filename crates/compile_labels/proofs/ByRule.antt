@@ -1,7 +1,7 @@
 -- The data of a state's edges go by the rule: an edge takes the lowest free datum that the lowest earlier state with
 -- its word gave it, and the edges that find none take the free data, rising.
 -- In order: asked-at, asked-home, asked-none, taken, new-one, fits, what an edge asks for; ds-edge, ds-kept, ds-rise,
--- the data; given-rule, none-rule, data-rule.
+-- the data; given-rule, none-rule, labels-rule.
 -- Assumes nothing.
 use Rattle.laws.proofs.All.{_≡_, refl, sym, ap, subst, _∙_, Bool, true, false, _&&_, List, [], ℕ, _≤_, _<_, zero-add}
 use Rattle.laws.proofs.All.{arith, decLt, T, T-not, T→true, eqb→eq, eq-eqb, length, getD, take, length-map}
@@ -150,7 +150,7 @@ module _ (n : ℕ) (t : Rows) (full : Full n t) (s : ℕ) (pos : 0 < s) (hs : s 
 
   ds-edge : (k : ℕ) → k < n → at new s (getD ds k 0) ≡ at t s k
   ds-edge k h =
-      ap (λ r. getD r (getD ds k 0) (edge 0 0)) (labels.labels-rule n t full s pos hs)
+      ap (λ r. getD r (getD ds k 0) (edge 0 0)) (labels.labels-row n t full s pos hs)
       ∙ map-range-at (bearer es ds) n (getD ds k 0) (edge 0 0) (ds-lt k h)
       ∙ ap (λ i. getD es i (edge 0 0)) (index-at ds ds-once k (rw ds-long h))
 
@@ -223,7 +223,7 @@ module _ (n : ℕ) (t : Rows) (full : Full n t) (s : ℕ) (pos : 0 < s) (hs : s 
 
   -- THEOREM: xs are the data that the edges of state s find in the lowest earlier state with their word, n for none,
   -- and ds the data that they have
-  pub data-rule : let new = relabelled n t in
+  pub labels-rule : let new = relabelled n t in
       (xs : List ℕ) × (ds : List ℕ) × (length xs ≡ n) × (length ds ≡ n) × Once ds
       × ((k : ℕ) → k < n → (getD ds k 0 < n) × (at new s (getD ds k 0) ≡ at t s k))
       × ((k : ℕ) → k < n → getD xs k 0 < n → let d = getD xs k 0 in let w = at t s k .word in
@@ -234,4 +234,4 @@ module _ (n : ℕ) (t : Rows) (full : Full n t) (s : ℕ) (pos : 0 < s) (hs : s 
       → ((v e : ℕ) → v < u → e < n → at new v e .word ≡ w → ⊥)
       → (e : ℕ) → e < n → at new u e .word ≡ w → (i : ℕ) × (i < k) × (getD xs i 0 ≡ e))
       × ((i k : ℕ) → i < k → k < n → n ≤ getD xs i 0 → n ≤ getD xs k 0 → getD ds i 0 < getD ds k 0)
-  data-rule = (xs, ds, xs-long, ds-long, ds-once, λ k h. (ds-lt k h, ds-edge k h), given-rule, none-rule, ds-rise)
+  labels-rule = (xs, ds, xs-long, ds-long, ds-once, λ k h. (ds-lt k h, ds-edge k h), given-rule, none-rule, ds-rise)

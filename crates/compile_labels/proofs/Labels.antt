@@ -1,6 +1,6 @@
 -- A table with its data given anew has in each state the edges it had, in another order.
 -- In order: rearranged-row, rearranged-same, rearranged-at, one state; relabelled-length, relabelled-first,
--- labels-rule, labels, relabelled-full, relabelled-at, all states; tabled-relabelled, what holds of every edge.
+-- labels-row, labels, relabelled-full, relabelled-at, all states; tabled-relabelled, what holds of every edge.
 -- Assumes nothing.
 use Rattle.laws.proofs.All.{_≡_, refl, sym, ap, subst, _∙_, List, [], _∷_, ℕ, zero, suc, _+_, _<_, zero-le, suc-le-suc}
 use Rattle.laws.proofs.All.{le-of-suc-le-suc, not-suc-le-zero, arith, T, length, getD, take, drop, length-append}
@@ -80,12 +80,12 @@ relabelled-first n (es ∷ rest) =
     ∙ ap (λ l. edges l 0) (extend-start (relabelledRow n) (es ∷ []) rest)
 
 -- THEOREM: an edge of a later state takes its datum by the rule, with the states before as they are in the end
-pub labels-rule : (n : ℕ) (t : Rows) → Full n t → (s : ℕ) → 0 < s → s < length t
+pub labels-row : (n : ℕ) (t : Rows) → Full n t → (s : ℕ) → 0 < s → s < length t
     → edges (relabelled n t) s ≡ relabelledRow n (take s (relabelled n t)) (edges t s)
 unfolding relabelled
-labels-rule n [] full s pos h = absurd (not-suc-le-zero h)
-labels-rule n (es ∷ rest) full zero pos h = absurd (not-suc-le-zero pos)
-labels-rule n (es ∷ rest) full (suc k) pos h =
+labels-row n [] full s pos h = absurd (not-suc-le-zero h)
+labels-row n (es ∷ rest) full zero pos h = absurd (not-suc-le-zero pos)
+labels-row n (es ∷ rest) full (suc k) pos h =
     let R = relabelled n (es ∷ rest) in
     let e : 1 + k ≡ suc k = omega arith in
     subst (λ s. edges R s ≡ relabelledRow n (take s R) (edges rest k)) e
@@ -101,7 +101,7 @@ module _ (n : ℕ) (t : Rows) (full : Full n t) where
       state zero h =
           subst (Rearranged n (edges t 0)) (sym (relabelled-first n t)) (rearranged-same n (edges t 0) (full 0 h))
       state (suc k) h =
-          subst (Rearranged n (edges t (suc k))) (sym (labels-rule n t full (suc k) (suc-le-suc zero-le) h))
+          subst (Rearranged n (edges t (suc k))) (sym (labels-row n t full (suc k) (suc-le-suc zero-le) h))
           (rearranged-row n (edges t (suc k)) (full (suc k) h) (take (suc k) (relabelled n t)))
 
   pub relabelled-full : Full n (relabelled n t)

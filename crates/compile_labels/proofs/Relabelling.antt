@@ -13,7 +13,7 @@ use Rattle.table.proofs.RowsOf.{length-rows, row-at, row-long}
 use Rattle.compile_labels.specs.Labels.{dataOf, bearer, relabelledRow, relabelled}
 use Rattle.compile_labels.specs.Parts.{rowAt, Worded, Homes, noted, Reordered}
 use Rattle.compile_labels.proofs.Data.{data-length, data-onto}
-use Rattle.compile_labels.proofs.Labels.{relabelled-length, labels-rule}
+use Rattle.compile_labels.proofs.Labels.{relabelled-length, labels-row}
 use Rattle.compile_labels.proofs.Columns.{length-row, worded-rows, words-row, reordered-row, reordered-rows}
 use Rattle.compile_labels.proofs.Homes.{homes-none, homes-more}
 
@@ -107,7 +107,7 @@ module _ (n count : ℕ) (word₀ next₀ : List ℕ) (few : n ≤ 16) (small : 
             reordered-row count n i (take n ds) word next word′ next′ few a b
             (ap length e ∙ data-length n E (take n (rowAt word i)) words-long) state-onto
             ∙ ap₂ (λ es D. map (bearer es D) (range n)) row-left data-is
-            ∙ sym (labels-rule n t full i pos (rw (length-rows A₀) hi))
+            ∙ sym (labels-row n t full i pos (rw (length-rows A₀) hi))
 
         front-more : take (i + 1) R ≡ E ++ rowOf A′ i ∷ []
         front-more =

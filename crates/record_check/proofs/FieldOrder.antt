@@ -1,5 +1,5 @@
 -- Refusals 7 and 8 of a record come exactly as the first check that its fields, by their places, do not meet says.
--- In order: facts, Front, told-head, Next, next-fact, Rest, told-rest, what the tests say; refused-at, record-order.
+-- In order: facts, Front, told-head, Next, next-fact, Rest, told-rest, what the tests say; refused-at, record-fields.
 -- Assumes nothing.
 use Rattle.laws.proofs.All.{_≡_, refl, sym, subst, _∙_, _⊎_, inl, inr, _↔_, Bool, false, _&&_, List, [], _∷_, ℕ, zero}
 use Rattle.laws.proofs.All.{suc, _+_, _*_, _^_, _≤_, _<_, arith, T, leb, ltb, eqb, eqb→eq, ltb→lt, lt→ltb, length}
@@ -130,12 +130,12 @@ module _ (xs : List ℕ) (r : Refusal) where
       ((λ e. f (sym (at-places xs) ∙ e)), (λ x. at-places xs ∙ g x))
 
   -- THEOREM: "the first check is 8 below five", then "header by 7, 8, the rest by 7"
-  pub record-order : (numberOf r ≡ 7) ⊎ (numberOf r ≡ 8) → let B = bitsOf xs in let h = headAt B in
+  pub record-fields : (numberOf r ≡ 7) ⊎ (numberOf r ≡ 8) → let B = bitsOf xs in let h = headAt B in
       (parse xs ≡ refused r)
       ↔ First (check Length (5 ≤ length xs) ∷ check Field (Front h) ∷ check Length (length xs ≡ size h)
       ∷ check Field (Rest h B) ∷ []) r
   unfolding parse
-  record-order m =
+  record-fields m =
       let (f, g) = refused-first (fieldsChecked xs) judged r later in
       let (u, v) = refused-at in
       ((λ e. u (f e)), (λ x. g (v x)))

@@ -296,7 +296,7 @@ labels = Rattle.compile_labels.proofs.Labels.labels
 -- A later state's edges are made of its own and of the states before it, as these are in the end.
 pub labels-row : (n : ℕ) (t : Rows) → Full n t → (s : ℕ) → 0 < s → s < length t
     → edges (relabelled n t) s ≡ relabelledRow n (take s (relabelled n t)) (edges t s)
-labels-row = Rattle.compile_labels.proofs.Labels.labels-rule
+labels-row = Rattle.compile_labels.proofs.Labels.labels-row
 
 -- Edges take the lowest free datum that the lowest earlier state with their word gave it; others the free data, rising.
 pub labels-rule : (n : ℕ) (t : Rows) → Full n t → (s : ℕ) → 0 < s → s < length t → let new = relabelled n t in
@@ -310,7 +310,7 @@ pub labels-rule : (n : ℕ) (t : Rows) → Full n t → (s : ℕ) → 0 < s → 
     → ((v e : ℕ) → v < u → e < n → at new v e .word ≡ w → ⊥)
     → (e : ℕ) → e < n → at new u e .word ≡ w → (i : ℕ) × (i < k) × (getD xs i 0 ≡ e))
     × ((i k : ℕ) → i < k → k < n → n ≤ getD xs i 0 → n ≤ getD xs k 0 → getD ds i 0 < getD ds k 0)
-labels-rule = Rattle.compile_labels.proofs.ByRule.data-rule
+labels-rule = Rattle.compile_labels.proofs.ByRule.labels-rule
 
 -- All three hold of every table that is compiled: it has n edges a state when its data are given.
 pub labels-hold : (j : Job) → Allowed j → 0 < sum (componentOf j .weights) → length (finishedOf j .arcs) ≤ 2048

@@ -192,7 +192,7 @@ pub record-fields : (xs : List ℕ) (r : Refusal) → (numberOf r ≡ 7) ⊎ (nu
     ⊎ ((field B o 1 ≡ 1) × (field B (o + 1) 4 < K)))
     × ((e : ℕ) → e < states * 2 ^ p → field B (34 + 10 * K + q + e * (q + 7)) 7 < states)
     × (field B n (8 * size - n) ≡ 0)) ∷ []) r
-record-fields = Rattle.record_check.proofs.FieldOrder.record-order
+record-fields = Rattle.record_check.proofs.FieldOrder.record-fields
 
 -- A record that passes has the numbers in its first 34 bits: p, q, states − 1, m, a, K − 1, start and tail.
 pub record-numbers : (xs : List ℕ) (c : Code) → parse xs ≡ done c → let B = bitsOf xs in (c .p ≡ field B 0 3)
