@@ -1,17 +1,20 @@
 -- How a trace ends, by the answer of the call; how a run ends, by its status and by the action.
--- In order: end-refused, end-done, done-gives; number-well, way-by-decoding.
+-- In order: end-refused, end-done, done-gives; number-ends, number-misused, same-action, misused-most, asked-ends;
+-- way-by-decoding.
 -- Assumes nothing.
-use Rattle.laws.proofs.All.{_≡_, refl, List, ℕ, arith}
+use Rattle.laws.proofs.All.{_≡_, refl, sym, ap, subst, _∙_, List, ℕ, _≤_, arith}
 use Rattle.answer.specs.declared.Refusal.{Refusal}
 use Rattle.answer.specs.declared.Answer.the-variants.{Done, Refused}
 use Rattle.answer.specs.Outcomes.{Outcome, done, refused, answerOf}
 use Rattle.command_arguments.specs.declared.Status.{Status}
 use Rattle.command_arguments.specs.declared.Status.the-variants.{Failed, Misused, NoRecording, Done as Ended}
+use Rattle.command_arguments.specs.declared.Action.{Action}
 use Rattle.command_arguments.specs.declared.Way.{Way}
 use Rattle.command_arguments.specs.declared.Way.the-variants.{Encode, Decode}
 use Rattle.command_arguments.specs.Shapes.{statusOf}
-use Rattle.command_outputs.specs.Results.{Gives, WellOnly}
+use Rattle.command_outputs.specs.Results.{Gives, EndsBy, WellOnly}
 use Rattle.command.specs.Ending.{endOf, decoding, wayBy}
+use Rattle.command.specs.Acting.{EndsWell, EndsShort, EndsAs}
 
 pub end-refused : (o : Outcome (List ℕ)) (r : Refusal) → answerOf o ≡ Refused r → Failed ≡ endOf o
 end-refused (refused x) r e = refl
@@ -25,12 +28,33 @@ pub done-gives : (o : Outcome (List ℕ)) (n : ℕ) → answerOf o ≡ Done n �
 done-gives (done xs) n e = tt
 done-gives (refused x) n e = let z : _≡_ {A = ℕ} 0 1 = cc in absurd (omega arith)
 
--- a run with status 0 ended well
-pub number-well : {P : Type 0} (s : Status) (r : ℕ) → r ≡ statusOf s → WellOnly P s → r ≡ 0 → P
-number-well Ended r e w z = w
-number-well Failed r e w z = absurd (omega arith)
-number-well Misused r e w z = absurd (omega arith)
-number-well NoRecording r e w z = absurd (omega arith)
+-- the number of a status says how the run ended
+pub number-ends : {a : Action} (s : Status) (r : ℕ) → r ≡ statusOf s → EndsBy (EndsWell a) (EndsShort a) s → EndsAs a r
+number-ends Ended r e w = record { well = λ z. w; short = λ z. absurd (omega arith) }
+number-ends Failed r e w = record { well = λ z. absurd (omega arith); short = λ z. absurd (omega arith) }
+number-ends Misused r e w = record { well = λ z. absurd (omega arith); short = λ z. absurd (omega arith) }
+number-ends NoRecording r e w = record { well = λ z. absurd (omega arith); short = λ z. w }
+
+-- status 2 says neither
+pub number-misused : {a : Action} (s : Status) (r : ℕ) → r ≡ statusOf s → s ≡ Misused → EndsAs a r
+number-misused s r e h =
+    let q : r ≡ 2 = e ∙ ap statusOf h in
+    record { well = λ z. absurd (omega arith); short = λ z. absurd (omega arith) }
+
+-- an action that is this one
+pub same-action : {a b : Action} {r : ℕ} → a ≡ b → EndsAs b r → EndsAs a r
+same-action {r = r} e h = subst (λ a. EndsAs a r) (sym e) h
+
+-- wrong usage is status 2
+pub misused-most : (s : Status) → s ≡ Misused → statusOf s ≤ 2
+misused-most s h = let q : statusOf s ≡ 2 = ap statusOf h in omega arith
+
+-- a run with a status up to 2 does not end with 3
+pub asked-ends : (s : Status) → statusOf s ≤ 2 → WellOnly (Unit {0}) s
+asked-ends Ended m = tt
+asked-ends Failed m = tt
+asked-ends Misused m = tt
+asked-ends NoRecording m = absurd (omega arith)
 
 pub way-by-decoding : (w : Way) → wayBy (decoding w) ≡ w
 way-by-decoding Encode = refl

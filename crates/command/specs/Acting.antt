@@ -1,6 +1,8 @@
 -- Which definition the status of an action comes from: a run ends with status 0 only where the action's definition has
--- a result, for some of what the action can be given. What it was given is the system's to say: no contract names it.
--- In order: CompiledNumbers, CompiledJob, CompiledJoined; Viewed, Closed; SetFails, Listed; EndsWell, Acted.
+-- a result, and with status 3 only where it has one for words that are no recording, for some of what the action can be
+-- given. What it was given is the system's to say: no contract names it.
+-- In order: CompiledNumbers, CompiledJob, CompiledJoined; Viewed, Closed; SetFails, Listed; EndsWell, EndsShort,
+-- EndsAs; Acted, ActedShort.
 -- Assumes nothing.
 use mathlib.Core.Path.{_≡_}
 use mathlib.Core.List.{List}
@@ -20,9 +22,9 @@ use Rattle.command_arguments.specs.declared.Status.{Status}
 use Rattle.command_arguments.specs.declared.Status.the-variants.{Failed}
 use Rattle.command_outputs.specs.Results.{Gives}
 use Rattle.command_verify.specs.Verifying.{VerifiedWords, VerifiedStream}
-use Rattle.command_code.specs.Coding.{Coded}
+use Rattle.command_code.specs.Coding.{Coded, Spoiled}
 use Rattle.command_weave.specs.Weaves.{Rearranged}
-use Rattle.command_stream.specs.Streamed.{Packed, Unpacked, EncodedStream, DecodedStream, Reached}
+use Rattle.command_stream.specs.Streamed.{Packed, Unpacked, EncodedStream, DecodedStream, SpoiledStream, Reached}
 
 -- some run-length job is compiled
 pub record CompiledNumbers : Type 0 where
@@ -87,7 +89,38 @@ EndsWell (Verify Words) = VerifiedWords
 EndsWell (Verify AsStream) = VerifiedStream
 EndsWell Unknown = ⊥
 
+-- what lets an action end with status 3: words that were decoded and are no recording
+abbrev pub EndsShort : Action → Type 0
+EndsShort Compile = ⊥
+EndsShort CompileJob = ⊥
+EndsShort CompileJoined = ⊥
+EndsShort Trace = ⊥
+EndsShort Collection = ⊥
+EndsShort Help = ⊥
+EndsShort Version = ⊥
+EndsShort (Viewing v) = ⊥
+EndsShort WithTail = ⊥
+EndsShort (Coding w) = Spoiled w
+EndsShort (Stream Pack) = ⊥
+EndsShort (Stream Unpack) = ⊥
+EndsShort (Stream Encode) = ⊥
+EndsShort (Stream Decode) = SpoiledStream
+EndsShort (Stream Reach) = ⊥
+EndsShort (Recordings how) = ⊥
+EndsShort (Verify f) = ⊥
+EndsShort Unknown = ⊥
+
+-- what the exit status r of an action says: 0 that it ended well, and 3 that it decoded words that are no recording
+pub record EndsAs (a : Action) (r : ℕ) : Type 0 where
+  pub well : r ≡ 0 → EndsWell a
+  pub short : r ≡ 3 → EndsShort a
+
 -- some action ended well
 pub record Acted : Type 0 where
   pub action : Action
   pub well : EndsWell action
+
+-- some action ended with status 3
+pub record ActedShort : Type 0 where
+  pub action : Action
+  pub short : EndsShort action

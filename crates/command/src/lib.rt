@@ -5,8 +5,9 @@ ghost use Rattle.command_arguments.specs.declared.Action.the-variants.{Collecti
 ghost use Rattle.command_arguments.specs.declared.Form.the-variants.{Words, Stream as AsStream};
 ghost use Rattle.command_arguments.specs.declared.OnStream.the-variants.{Pack, Unpack, Encode, Decode};
 ghost use Rattle.command_arguments.specs.declared.OnRecordings.the-variants.{Weave, Unweave};
+ghost use Rattle.command_arguments.specs.Shapes.{statusOf};
 ghost use Rattle.command.specs.Ending.{wayBy};
-ghost use Rattle.command.specs.Acting.{EndsWell, Acted};
+ghost use Rattle.command.specs.Acting.{EndsAs, Acted, ActedShort};
 
 mod compiling;
 mod records;
@@ -29,7 +30,9 @@ use command_messages::usage::print_use;
 use command_messages::usage::print_version;
 
 // help [ACTION]
-fn help() -> Status {
+fn help() -> Status
+    ensures past { λ s. ⌜ statusOf s ≤ 2 ⌝ }
+{
     if os::arg_count() < 3 {
         return print_use(Action::Help);
     }
@@ -44,7 +47,7 @@ fn help() -> Status {
 // encode or decode. It is exported so that it has a stack frame of its own.
 #[no_mangle]
 pub extern "C" fn sbc_action_code(back: bool) -> u32
-    ensures answer { λ r. ⌜ (r ≡ 0 → EndsWell (Coding (wayBy back))) ⌝ }
+    ensures answer { λ r. ⌜ EndsAs (Coding (wayBy back)) r ⌝ }
     ensures past { λ r. ⌜ r ≤ 3 ⌝ }
 {
     status_number(command_code::code_files(way_by(back)))
@@ -53,7 +56,7 @@ pub extern "C" fn sbc_action_code(back: bool) -> u32
 // set. It is exported so that it has a stack frame of its own.
 #[no_mangle]
 pub extern "C" fn sbc_action_set() -> u32
-    ensures answer { λ r. ⌜ (r ≡ 0 → EndsWell Collection) ⌝ }
+    ensures answer { λ r. ⌜ EndsAs Collection r ⌝ }
     ensures past { λ r. ⌜ r ≤ 3 ⌝ }
 {
     status_number(records::set_file())
@@ -62,7 +65,7 @@ pub extern "C" fn sbc_action_set() -> u32
 // pack. It is exported so that it has a stack frame of its own.
 #[no_mangle]
 pub extern "C" fn sbc_action_pack() -> u32
-    ensures answer { λ r. ⌜ (r ≡ 0 → EndsWell (Stream Pack)) ⌝ }
+    ensures answer { λ r. ⌜ EndsAs (Stream Pack) r ⌝ }
     ensures past { λ r. ⌜ r ≤ 3 ⌝ }
 {
     status_number(command_stream::pack_file())
@@ -71,7 +74,7 @@ pub extern "C" fn sbc_action_pack() -> u32
 // unpack. It is exported so that it has a stack frame of its own.
 #[no_mangle]
 pub extern "C" fn sbc_action_unpack() -> u32
-    ensures answer { λ r. ⌜ (r ≡ 0 → EndsWell (Stream Unpack)) ⌝ }
+    ensures answer { λ r. ⌜ EndsAs (Stream Unpack) r ⌝ }
     ensures past { λ r. ⌜ r ≤ 3 ⌝ }
 {
     status_number(command_stream::unpack_file())
@@ -80,7 +83,7 @@ pub extern "C" fn sbc_action_unpack() -> u32
 // encode-stream. It is exported so that it has a stack frame of its own.
 #[no_mangle]
 pub extern "C" fn sbc_action_encode_stream() -> u32
-    ensures answer { λ r. ⌜ (r ≡ 0 → EndsWell (Stream Encode)) ⌝ }
+    ensures answer { λ r. ⌜ EndsAs (Stream Encode) r ⌝ }
     ensures past { λ r. ⌜ r ≤ 3 ⌝ }
 {
     status_number(command_stream::encode_file())
@@ -89,7 +92,7 @@ pub extern "C" fn sbc_action_encode_stream() -> u32
 // decode-stream. It is exported so that it has a stack frame of its own.
 #[no_mangle]
 pub extern "C" fn sbc_action_decode_stream() -> u32
-    ensures answer { λ r. ⌜ (r ≡ 0 → EndsWell (Stream Decode)) ⌝ }
+    ensures answer { λ r. ⌜ EndsAs (Stream Decode) r ⌝ }
     ensures past { λ r. ⌜ r ≤ 3 ⌝ }
 {
     status_number(command_stream::decode_file())
@@ -98,7 +101,7 @@ pub extern "C" fn sbc_action_decode_stream() -> u32
 // weave. It is exported so that it has a stack frame of its own.
 #[no_mangle]
 pub extern "C" fn sbc_action_weave() -> u32
-    ensures answer { λ r. ⌜ (r ≡ 0 → EndsWell (Recordings Weave)) ⌝ }
+    ensures answer { λ r. ⌜ EndsAs (Recordings Weave) r ⌝ }
     ensures past { λ r. ⌜ r ≤ 3 ⌝ }
 {
     status_number(command_weave::rearrange_file(OnRecordings::Weave))
@@ -107,7 +110,7 @@ pub extern "C" fn sbc_action_weave() -> u32
 // unweave. It is exported so that it has a stack frame of its own.
 #[no_mangle]
 pub extern "C" fn sbc_action_unweave() -> u32
-    ensures answer { λ r. ⌜ (r ≡ 0 → EndsWell (Recordings Unweave)) ⌝ }
+    ensures answer { λ r. ⌜ EndsAs (Recordings Unweave) r ⌝ }
     ensures past { λ r. ⌜ r ≤ 3 ⌝ }
 {
     status_number(command_weave::rearrange_file(OnRecordings::Unweave))
@@ -116,7 +119,7 @@ pub extern "C" fn sbc_action_unweave() -> u32
 // verify. It is exported so that it has a stack frame of its own.
 #[no_mangle]
 pub extern "C" fn sbc_action_verify() -> u32
-    ensures answer { λ r. ⌜ (r ≡ 0 → EndsWell (Verify Words)) ⌝ }
+    ensures answer { λ r. ⌜ EndsAs (Verify Words) r ⌝ }
     ensures past { λ r. ⌜ r ≤ 3 ⌝ }
 {
     status_number(command_verify::verifying::verify_file())
@@ -125,7 +128,7 @@ pub extern "C" fn sbc_action_verify() -> u32
 // verify-stream. It is exported so that it has a stack frame of its own.
 #[no_mangle]
 pub extern "C" fn sbc_action_verify_stream() -> u32
-    ensures answer { λ r. ⌜ (r ≡ 0 → EndsWell (Verify AsStream)) ⌝ }
+    ensures answer { λ r. ⌜ EndsAs (Verify AsStream) r ⌝ }
     ensures past { λ r. ⌜ r ≤ 3 ⌝ }
 {
     status_number(command_verify::verifying::verify_stream_file())
@@ -133,7 +136,7 @@ pub extern "C" fn sbc_action_verify_stream() -> u32
 
 // Does an action on bit streams; the answer is the exit status.
 fn act_on_stream(s: OnStream) -> u32
-    ensures answer { λ r. ⌜ (r ≡ 0 → EndsWell (Stream s)) ⌝ }
+    ensures answer { λ r. ⌜ EndsAs (Stream s) r ⌝ }
     ensures past { λ r. ⌜ r ≤ 3 ⌝ }
 {
     match s {
@@ -147,7 +150,7 @@ fn act_on_stream(s: OnStream) -> u32
 
 // Does an action on several recordings at once; the answer is the exit status.
 fn act_on_recordings(how: OnRecordings) -> u32
-    ensures answer { λ r. ⌜ (r ≡ 0 → EndsWell (Recordings how)) ⌝ }
+    ensures answer { λ r. ⌜ EndsAs (Recordings how) r ⌝ }
     ensures past { λ r. ⌜ r ≤ 3 ⌝ }
 {
     match how {
@@ -158,7 +161,7 @@ fn act_on_recordings(how: OnRecordings) -> u32
 
 // Does an action that verifies; the answer is the exit status.
 fn act_on_words(f: Form) -> u32
-    ensures answer { λ r. ⌜ (r ≡ 0 → EndsWell (Verify f)) ⌝ }
+    ensures answer { λ r. ⌜ EndsAs (Verify f) r ⌝ }
     ensures past { λ r. ⌜ r ≤ 3 ⌝ }
 {
     match f {
@@ -169,7 +172,7 @@ fn act_on_words(f: Form) -> u32
 
 // Does an action; the answer is the exit status.
 fn act(a: Action) -> u32
-    ensures answer { λ r. ⌜ (r ≡ 0 → EndsWell a) ⌝ }
+    ensures answer { λ r. ⌜ EndsAs a r ⌝ }
     ensures past { λ r. ⌜ r ≤ 3 ⌝ }
 {
     match a {
@@ -192,7 +195,7 @@ fn act(a: Action) -> u32
 
 // Does an action, if there are as many arguments as it takes.
 fn act_fitting(a: Action) -> u32
-    ensures answer { λ r. ⌜ (r ≡ 0 → EndsWell a) ⌝ }
+    ensures answer { λ r. ⌜ EndsAs a r ⌝ }
     ensures past { λ r. ⌜ r ≤ 3 ⌝ }
 {
     let s = shape_of(a);
@@ -205,6 +208,7 @@ fn act_fitting(a: Action) -> u32
 // Does what the arguments say; the answer is the exit status: 0, 1, 2 or 3.
 pub fn run() -> u32
     ensures answer { λ r. ⌜ (r ≡ 0 → Acted) ⌝ }
+    ensures short { λ r. ⌜ (r ≡ 3 → ActedShort) ⌝ }
     ensures past { λ r. ⌜ r ≤ 3 ⌝ }
 {
     let mut word = io::buffer();
@@ -226,6 +230,7 @@ pub fn run() -> u32
 #[no_mangle]
 pub extern "C" fn sbc_main() -> u32
     ensures answer { λ r. ⌜ (r ≡ 0 → Acted) ⌝ }
+    ensures short { λ r. ⌜ (r ≡ 3 → ActedShort) ⌝ }
     ensures past { λ r. ⌜ r ≤ 3 ⌝ }
 {
     run()

@@ -1,12 +1,13 @@
 // The actions on one record and on a set of records.
 ghost use mathlib.Core.Path.{_≡_};
+ghost use Prim.Native.Nat.{_≤_};
 ghost use lib.ListN.{length};
 ghost use Rattle.answer.specs.Outcomes.{answerOf, outputOf};
 ghost use Rattle.record_tail.specs.Closing.{closedWith};
 ghost use Rattle.record_check.specs.Parse.{parse};
 ghost use Rattle.set_check.specs.Sets.{readSet};
 ghost use Rattle.command_arguments.specs.declared.Action.the-variants.{Viewing, WithTail, Collection};
-ghost use Rattle.command_arguments.specs.Shapes.{shapeOf};
+ghost use Rattle.command_arguments.specs.Shapes.{shapeOf, statusOf};
 ghost use Rattle.command_inputs.specs.Inputs.{From};
 ghost use Rattle.command_outputs.specs.Results.{Fails, FailsBy, WellOnly};
 ghost use Rattle.command.specs.Acting.{Viewed, Closed, SetFails, Listed};
@@ -36,7 +37,9 @@ use set_lines::put_set;
 use table::Table;
 
 // Prints a view of a table.
-fn print_view(v: View, t: Table) -> Status {
+fn print_view(v: View, t: Table) -> Status
+    ensures past { λ s. ⌜ statusOf s ≤ 1 ⌝ }
+{
     let mut out = page();
     let n = put_view(&mut out, v, t);
     print(&out[..n])

@@ -1,18 +1,18 @@
 -- What is done under a record.
--- In order: coded; Whole, Coded; Ends; longestOf.
+-- In order: coded; Whole, Coded; Short, Spoiled; endCode; longestOf.
 -- Assumes nothing.
 use mathlib.Core.Path.{_≡_}
 use mathlib.Core.List.{List}
-use Prim.Native.Nat.{ℕ, _≤_}
+use Prim.Native.Nat.{ℕ}
 use lib.ListN.{length}
 use Rattle.answer.specs.declared.Answer.the-variants.{Done}
 use Rattle.answer.specs.Outcomes.{Outcome, answerOf}
 use Rattle.codec.specs.Answers.{encodeUnder, decodeUnder}
 use Rattle.codec_verify.specs.Verify.{verifyUnder}
 use Rattle.command_outputs.specs.Results.{Gives}
-use Rattle.command_verify.specs.Verifying.{Counted}
+use Rattle.command_verify.specs.Verifying.{endBy, Fewer}
 use Rattle.command_arguments.specs.declared.Status.{Status}
-use Rattle.command_arguments.specs.Shapes.{statusOf}
+use Rattle.command_arguments.specs.declared.Status.the-variants.{Done as Ended}
 use Rattle.command_arguments.specs.declared.Way.{Way}
 use Rattle.command_arguments.specs.declared.Way.the-variants.{Encode, Decode}
 
@@ -34,10 +34,23 @@ pub record Coded (w : Way) : Type 0 where
   pub gives : Gives (coded w under room bytes)
   pub whole : Whole w under bytes
 
--- how a run may end: encoding with status 0 or 1, decoding by how many words come back
-abbrev pub Ends : Way → List ℕ → List ℕ → Status → Type 0
-Ends Encode rec xs s = statusOf s ≤ 1
-Ends Decode rec xs s = Counted (answerOf (verifyUnder rec xs)) (length xs) s
+-- words that are decoded are no recording: fewer of them come back
+abbrev pub Short : Way → List ℕ → List ℕ → Type 0
+Short Encode rec xs = ⊥
+Short Decode rec xs = Fewer (answerOf (verifyUnder rec xs)) (length xs)
+
+-- some words are decoded under some record, and are no recording
+pub record Spoiled (w : Way) : Type 0 where
+  pub under : List ℕ
+  pub room : ℕ
+  pub bytes : List ℕ
+  pub gives : Gives (coded w under room bytes)
+  pub short : Short w under bytes
+
+-- how a run ends whose result was written: encoding well, decoding by how many words come back
+abbrev pub endCode : Way → List ℕ → List ℕ → Status
+endCode Encode rec xs = Ended
+endCode Decode rec xs = endBy (answerOf (verifyUnder rec xs)) (length xs)
 
 -- the most bytes that are taken: 1,000,000 blocks, and the words of as many
 abbrev pub longestOf : Way → ℕ

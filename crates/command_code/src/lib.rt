@@ -1,13 +1,15 @@
 // The actions that encode and decode.
 ghost use mathlib.Core.Path.{_≡_};
+ghost use mathlib.Core.Logic.{_⊎_};
 ghost use lib.ListN.{length};
 ghost use Rattle.answer.specs.Outcomes.{answerOf, outputOf};
 ghost use Rattle.command_arguments.specs.declared.Action.the-variants.{Coding};
 ghost use Rattle.command_arguments.specs.declared.Status.the-variants.{Failed};
 ghost use Rattle.command_arguments.specs.Shapes.{shapeOf};
 ghost use Rattle.command_inputs.specs.Inputs.{From};
-ghost use Rattle.command_outputs.specs.Results.{Fails, WellOnly};
-ghost use Rattle.command_code.specs.Coding.{coded, Coded, Ends, longestOf};
+ghost use Rattle.command_outputs.specs.Results.{Fails, EndsBy};
+ghost use Rattle.command_verify.specs.Verifying.{afterBy};
+ghost use Rattle.command_code.specs.Coding.{coded, Coded, Spoiled, endCode, longestOf};
 use answer::Answer;
 use codec_record::decoding::decode;
 use codec_record::encoding::encode;
@@ -53,8 +55,7 @@ fn longest(w: Way) -> usize
 
 // How a run ends that ended so far as `s`: a decoding by whether the words are a recording.
 fn end_code(w: Way, s: Status, under: &[u8], bytes: &[u8]) -> Status
-    ensures answer { λ e. ⌜ Ends w (now (under .entry)) (now (bytes .entry)) e ⌝ }
-    ensures past { λ e. ⌜ (s ≡ Failed → e ≡ Failed) ⌝ }
+    ensures answer { λ e. ⌜ e ≡ afterBy s (endCode w (now (under .entry)) (now (bytes .entry))) ⌝ }
 {
     match w {
         Way::Encode => after_writing(s),
@@ -73,8 +74,8 @@ fn code_bytes(w: Way, u: Input, under: &[u8], b: Input, bytes: &[u8], out: &mut 
         now (out .exit)
         ≡ outputOf (coded w (now (under .entry)) (length (now (out .entry))) (now (bytes .entry)))
         (now (out .entry)) ⌝ }
-    ensures past { λ s. ⌜ WellOnly (Coded w) s ⌝ }
-    ensures verified { λ s. ⌜ Ends w (now (under .entry)) (now (bytes .entry)) s ⌝ }
+    ensures past { λ s. ⌜ EndsBy (Coded w) (Spoiled w) s ⌝ }
+    ensures verified { λ s. ⌜ ((s ≡ Failed) ⊎ (s ≡ endCode w (now (under .entry)) (now (bytes .entry)))) ⌝ }
 {
     let r = code(w, under, bytes, out);
     let s = finish_code(Action::Coding(w), w, r, out);
@@ -83,7 +84,7 @@ fn code_bytes(w: Way, u: Input, under: &[u8], b: Input, bytes: &[u8], out: &mut 
 
 // encode RECORD DATA OUT, decode RECORD WORDS OUT
 pub fn code_files(w: Way) -> Status
-    ensures answer { λ s. ⌜ WellOnly (Coded w) s ⌝ }
+    ensures answer { λ s. ⌜ EndsBy (Coded w) (Spoiled w) s ⌝ }
 {
     let a = Action::Coding(w);
     if is_twice(a) {

@@ -4,6 +4,7 @@ ghost use Prim.Native.Nat.{_≤_};
 ghost use lib.Dec.{eqb};
 ghost use Rattle.laws.specs.Sums.{one, times};
 ghost use Rattle.text.specs.Texts.{Added};
+ghost use Rattle.command_arguments.specs.Shapes.{statusOf};
 ghost use Rattle.command_outputs.specs.Results.{Within, Fails};
 ghost use Rattle.command_marks.specs.Marking.{marksLine};
 use answer::Answer;
@@ -78,6 +79,7 @@ fn tell_marks(w: Way, r: Answer, out: &[u8])
 pub fn finish_code(a: Action, w: Way, r: Answer, out: &[u8]) -> Status
     requires { ⌜ Within r (now out) ⌝ }
     ensures answer { λ s. ⌜ Fails r s ⌝ }
+    ensures past { λ s. ⌜ statusOf s ≤ 1 ⌝ }
 {
     let i = written_place(a);
     let s = finish(a, i, r, out);

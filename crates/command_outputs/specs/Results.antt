@@ -1,6 +1,6 @@
 -- What a call leaves: how many of the bytes are the result; and how a run ends: where the call is refused, and by what
 -- writing the result came to.
--- In order: Within; Fails; FailsBy, Gives, WellOnly; endedBy.
+-- In order: Within; Fails; FailsBy, Gives; EndsBy, WellOnly; endedBy.
 -- Assumes nothing.
 use mathlib.Core.Path.{_≡_}
 use mathlib.Core.List.{List}
@@ -34,12 +34,16 @@ abbrev pub Gives : {A : Type 0} → Outcome A → Type 0
 Gives (done x) = Unit {0}
 Gives (refused r) = ⊥
 
--- a run ends well only where P holds
+-- how a run may end: well only where W holds, and with status 3 only where N does
+abbrev pub EndsBy : Type 0 → Type 0 → Status → Type 0
+EndsBy W N Ended = W
+EndsBy W N Failed = Unit {0}
+EndsBy W N Misused = Unit {0}
+EndsBy W N NoRecording = N
+
+-- a run ends well only where P holds, and never with status 3
 abbrev pub WellOnly : Type 0 → Status → Type 0
-WellOnly P Ended = P
-WellOnly P Failed = Unit {0}
-WellOnly P Misused = Unit {0}
-WellOnly P NoRecording = Unit {0}
+WellOnly P s = EndsBy P ⊥ s
 
 -- how a run ends by what writing its result came to: well where all of it was written
 abbrev pub endedBy : Stored → Status

@@ -1,7 +1,8 @@
 // Results written: to the file that an action's argument names, or to standard output, which a file named - is.
 ghost use mathlib.Core.Path.{_≡_};
+ghost use Prim.Native.Nat.{_≤_};
 ghost use Rattle.io.specs.Counts.{Counts};
-ghost use Rattle.command_arguments.specs.Shapes.{shapeOf};
+ghost use Rattle.command_arguments.specs.Shapes.{shapeOf, statusOf};
 ghost use Rattle.command_outputs.specs.Results.{Within, Fails, endedBy};
 use answer::Answer;
 use command_arguments::Action;
@@ -43,7 +44,9 @@ fn ended(name: &[u8], s: Stored) -> Status
 }
 
 // Writes the file of this name, unless it is one that the action read.
-fn store_named(a: Action, name: &[u8], bytes: &[u8]) -> Status {
+fn store_named(a: Action, name: &[u8], bytes: &[u8]) -> Status
+    ensures past { λ s. ⌜ statusOf s ≤ 1 ⌝ }
+{
     if is_same(name, b"-") {
         return print(bytes);
     }
@@ -57,6 +60,7 @@ fn store_named(a: Action, name: &[u8], bytes: &[u8]) -> Status {
 // Writes the result of an action to the file that argument i names; to standard output where there is no such argument.
 fn store_at(a: Action, i: usize, bytes: &[u8]) -> Status
     requires { ⌜ i ≡ shapeOf a .written ⌝ }
+    ensures past { λ s. ⌜ statusOf s ≤ 1 ⌝ }
 {
     if os::arg_count() <= i {
         return print(bytes);
@@ -75,6 +79,7 @@ pub fn finish(a: Action, i: usize, r: Answer, out: &[u8]) -> Status
     requires { ⌜ i ≡ shapeOf a .written ⌝ }
     requires { ⌜ Within r (now out) ⌝ }
     ensures answer { λ s. ⌜ Fails r s ⌝ }
+    ensures past { λ s. ⌜ statusOf s ≤ 1 ⌝ }
 {
     match r {
         Answer::Refused(x) => refuse(x),

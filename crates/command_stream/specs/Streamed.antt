@@ -1,5 +1,5 @@
--- What lets an action on bit streams end well: a result for some of what it can be given.
--- In order: Packed, Unpacked; EncodedStream, DecodedStream; Reached.
+-- What lets an action on bit streams end well, or with status 3: a result for some of what it can be given.
+-- In order: Packed, Unpacked; EncodedStream, DecodedStream, SpoiledStream; Reached.
 -- Assumes nothing.
 use mathlib.Core.Path.{_≡_}
 use mathlib.Core.List.{List}
@@ -11,6 +11,7 @@ use Rattle.stream.specs.Recorded.{encodeStream, decodeStream}
 use Rattle.codec_verify.specs.Verify.{verifyStream}
 use Rattle.stream_damage.specs.BitReach.{reachUnder}
 use Rattle.command_outputs.specs.Results.{Gives}
+use Rattle.command_verify.specs.Verifying.{Fewer}
 use Rattle.command_stream.specs.Reaching.{bitsFrom}
 
 -- some words of q bits are packed
@@ -43,6 +44,15 @@ pub record DecodedStream : Type 0 where
   pub stream : List ℕ
   pub gives : Gives (decodeStream under count room stream)
   pub whole : answerOf (verifyStream under count stream) ≡ Done count
+
+-- so many words of some stream are decoded under some record, and are no recording: fewer of them come back
+pub record SpoiledStream : Type 0 where
+  pub under : List ℕ
+  pub count : ℕ
+  pub room : ℕ
+  pub stream : List ℕ
+  pub gives : Gives (decodeStream under count room stream)
+  pub short : Fewer (answerOf (verifyStream under count stream)) count
 
 -- the reach of damage from a first bit to a last one, which is not below it, is known under some record
 pub record Reached : Type 0 where

@@ -1,5 +1,6 @@
 // The actions on bit streams in files: packing, unpacking, encoding to a stream, decoding from one.
 ghost use mathlib.Core.Path.{_≡_};
+ghost use mathlib.Core.Logic.{_⊎_};
 ghost use Prim.Native.Nat.{_+_};
 ghost use lib.ListN.{length};
 ghost use Rattle.answer.specs.Outcomes.{answerOf, outputOf};
@@ -8,11 +9,12 @@ ghost use Rattle.stream.specs.Recorded.{encodeStream, decodeStream};
 ghost use Rattle.codec_verify.specs.Verify.{verifyStream};
 ghost use Rattle.command_arguments.specs.declared.Action.the-variants.{Stream};
 ghost use Rattle.command_arguments.specs.declared.OnStream.the-variants.{Pack, Unpack, Encode, Decode};
+ghost use Rattle.command_arguments.specs.declared.Status.the-variants.{Failed};
 ghost use Rattle.command_arguments.specs.Shapes.{shapeOf};
 ghost use Rattle.command_inputs.specs.Inputs.{From};
-ghost use Rattle.command_outputs.specs.Results.{Fails, WellOnly};
-ghost use Rattle.command_verify.specs.Verifying.{Counted};
-ghost use Rattle.command_stream.specs.Streamed.{Packed, Unpacked, EncodedStream, DecodedStream};
+ghost use Rattle.command_outputs.specs.Results.{Fails, EndsBy, WellOnly};
+ghost use Rattle.command_verify.specs.Verifying.{endBy};
+ghost use Rattle.command_stream.specs.Streamed.{Packed, Unpacked, EncodedStream, DecodedStream, SpoiledStream};
 
 pub mod reaching;
 
@@ -178,9 +180,11 @@ fn decode_words(
         ≡ outputOf
         (decodeStream (now (under .entry)) (count .value) (length (now (out .entry))) (now (stream .entry)))
         (now (out .entry)) ⌝ }
-    ensures past { λ s. ⌜ WellOnly DecodedStream s ⌝ }
+    ensures past { λ s. ⌜ EndsBy DecodedStream SpoiledStream s ⌝ }
     ensures verified { λ s. ⌜
-        Counted (answerOf (verifyStream (now (under .entry)) (count .value) (now (stream .entry)))) (count .value) s ⌝ }
+        ((s ≡ Failed)
+        ⊎ (s
+        ≡ endBy (answerOf (verifyStream (now (under .entry)) (count .value) (now (stream .entry)))) (count .value))) ⌝ }
 {
     let r = decode_stream(under, count.value, stream, out);
     let s = finish_code(Action::Stream(OnStream::Decode), Way::Decode, r, out);
@@ -189,7 +193,7 @@ fn decode_words(
 
 // decode-stream RECORD COUNT STREAM OUT
 pub fn decode_file() -> Status
-    ensures answer { λ s. ⌜ WellOnly DecodedStream s ⌝ }
+    ensures answer { λ s. ⌜ EndsBy DecodedStream SpoiledStream s ⌝ }
 {
     let a = Action::Stream(OnStream::Decode);
     let count = number_at(a, 3, GREATEST);

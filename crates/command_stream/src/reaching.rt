@@ -5,7 +5,7 @@ ghost use Rattle.text.specs.Texts.{Added};
 ghost use Rattle.stream_damage.specs.BitReach.{reachUnder, reachAnswer};
 ghost use Rattle.command_arguments.specs.declared.Action.the-variants.{Stream};
 ghost use Rattle.command_arguments.specs.declared.OnStream.the-variants.{Reach};
-ghost use Rattle.command_arguments.specs.Shapes.{shapeOf};
+ghost use Rattle.command_arguments.specs.Shapes.{shapeOf, statusOf};
 ghost use Rattle.command_inputs.specs.Inputs.{From};
 ghost use Rattle.command_outputs.specs.Results.{FailsBy, WellOnly};
 ghost use Rattle.command_stream.specs.Reaching.{bitsFrom, reachLine};
@@ -38,7 +38,9 @@ fn put_reach(out: &mut [u8], b: BlockRange) -> usize
 }
 
 // Prints the line of blocks.
-fn print_reach(b: BlockRange) -> Status {
+fn print_reach(b: BlockRange) -> Status
+    ensures past { λ s. ⌜ statusOf s ≤ 1 ⌝ }
+{
     let mut line = [0u8; 64];
     let n = put_reach(&mut line, b);
     print(&line[..n])

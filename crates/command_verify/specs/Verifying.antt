@@ -1,12 +1,14 @@
 -- What is said of words that were verified, and how a run ends by how many of them come back.
--- In order: recordingLine, shortLine; blocksUnder; Counted; VerifiedWords, VerifiedStream.
+-- In order: recordingLine, shortLine; blocksUnder; endBy, afterBy, Fewer; VerifiedWords, VerifiedStream.
 -- Assumes nothing.
 use mathlib.Core.Path.{_≡_}
 use mathlib.Core.List.{List, [], _∷_}
 use Prim.Native.Nat.{ℕ, _-_, _<_}
+use lib.Dec.{ltb}
 use lib.ListN.{length}
+use Rattle.laws.specs.Lists.{if_then_else_}
 use Rattle.answer.specs.declared.Answer.{Answer}
-use Rattle.answer.specs.declared.Answer.the-variants.{Done}
+use Rattle.answer.specs.declared.Answer.the-variants.{Done, Refused}
 use Rattle.answer.specs.Outcomes.{Outcome, done, refused, answerOf}
 use Rattle.sentences.specs.Sentences.{said}
 use Rattle.table.specs.Rows.{Code}
@@ -28,13 +30,21 @@ abbrev pub blocksUnder : Outcome Code → ℕ → ℕ
 blocksUnder (done c) n = n - c .window .lookahead
 blocksUnder (refused r) n = 0
 
--- how a run may end by the answer on n words: well only where all of them come back, with status 3 only where they were
--- counted and some do not
-abbrev pub Counted : Answer → ℕ → Status → Type 0
-Counted r n Ended = r ≡ Done n
-Counted r n Failed = Unit {0}
-Counted r n Misused = Unit {0}
-Counted r n NoRecording = (k : ℕ) × (r ≡ Done k) × (k < n)
+-- how a run ends by the answer on n words: it fails where they are refused, with status 3 where fewer come back
+abbrev pub endBy : Answer → ℕ → Status
+endBy (Refused r) n = Failed
+endBy (Done k) n = if ltb k n then NoRecording else Ended
+
+-- how a run ends that ended so far as the first: as the second where all was written, and otherwise it fails
+abbrev pub afterBy : Status → Status → Status
+afterBy Ended e = e
+afterBy Failed e = Failed
+afterBy Misused e = Failed
+afterBy NoRecording e = Failed
+
+-- the answer on n words is that fewer come back
+abbrev pub Fewer : Answer → ℕ → Type 0
+Fewer r n = (k : ℕ) × (r ≡ Done k) × (k < n)
 
 -- some words are a recording under some record
 pub record VerifiedWords : Type 0 where

@@ -1,15 +1,11 @@
 // What is said of words that were verified, and how a run ends by it.
 ghost use mathlib.Core.Path.{_≡_};
-ghost use Prim.Native.Nat.{ℕ, _≤_};
 ghost use lib.ListN.{length};
 ghost use Rattle.text.specs.Texts.{Added};
-ghost use Rattle.answer.specs.declared.Answer.the-variants.{Done};
 ghost use Rattle.answer.specs.Outcomes.{answerOf};
 ghost use Rattle.codec_verify.specs.Verify.{verifyUnder, verifyStream};
-ghost use Rattle.command_arguments.specs.declared.Status.the-variants.{Failed};
-ghost use Rattle.command_arguments.specs.Shapes.{statusOf};
-ghost use Rattle.command_outputs.specs.Results.{Fails};
-ghost use Rattle.command_verify.specs.Verifying.{shortLine, Counted};
+ghost use Rattle.command_arguments.specs.declared.Status.the-variants.{Done as Ended};
+ghost use Rattle.command_verify.specs.Verifying.{shortLine, endBy, afterBy};
 
 pub mod verifying;
 
@@ -42,9 +38,7 @@ fn say_short(k: usize, n: usize) {
 
 // How a run ends by the answer on n words; where some of them do not come back, that is said.
 pub fn judged(r: Answer, n: usize) -> Status
-    requires { ⌜ ((k : ℕ) → r ≡ Done k → k ≤ n) ⌝ }
-    ensures answer { λ s. ⌜ Counted r n s ⌝ }
-    ensures past { λ s. ⌜ Fails r s ⌝ }
+    ensures answer { λ s. ⌜ s ≡ endBy r n ⌝ }
 {
     match r {
         Answer::Refused(x) => refuse(x),
@@ -60,8 +54,7 @@ pub fn judged(r: Answer, n: usize) -> Status
 
 // How a run ends that verifies nothing and ended so far as `s`: well where all was written, and otherwise it fails.
 pub fn after_writing(s: Status) -> Status
-    ensures answer { λ e. ⌜ statusOf e ≤ 1 ⌝ }
-    ensures past { λ e. ⌜ (s ≡ Failed → e ≡ Failed) ⌝ }
+    ensures answer { λ e. ⌜ e ≡ afterBy s Ended ⌝ }
 {
     match s {
         Status::Done => Status::Done,
@@ -73,8 +66,9 @@ pub fn after_writing(s: Status) -> Status
 // recording.
 pub fn after_words(s: Status, under: &[u8], words: &[u8]) -> Status
     ensures answer { λ e. ⌜
-        Counted (answerOf (verifyUnder (now (under .entry)) (now (words .entry)))) (length (now (words .entry))) e ⌝ }
-    ensures past { λ e. ⌜ (s ≡ Failed → e ≡ Failed) ⌝ }
+        e
+        ≡ afterBy s
+        (endBy (answerOf (verifyUnder (now (under .entry)) (now (words .entry)))) (length (now (words .entry)))) ⌝ }
 {
     match s {
         Status::Done => judged(verify(under, words), words.len()),
@@ -85,8 +79,7 @@ pub fn after_words(s: Status, under: &[u8], words: &[u8]) -> Status
 // The same of the words of a stream.
 pub fn after_stream(s: Status, under: &[u8], count: usize, stream: &[u8]) -> Status
     ensures answer { λ e. ⌜
-        Counted (answerOf (verifyStream (now (under .entry)) count (now (stream .entry)))) count e ⌝ }
-    ensures past { λ e. ⌜ (s ≡ Failed → e ≡ Failed) ⌝ }
+        e ≡ afterBy s (endBy (answerOf (verifyStream (now (under .entry)) count (now (stream .entry)))) count) ⌝ }
 {
     match s {
         Status::Done => judged(verify_stream(under, count, stream), count),

@@ -1,5 +1,6 @@
 // The actions that tell whether words are a recording.
 ghost use mathlib.Core.Path.{_≡_};
+ghost use Prim.Native.Nat.{_≤_};
 ghost use lib.ListN.{length};
 ghost use Rattle.text.specs.Texts.{Added};
 ghost use Rattle.answer.specs.declared.Answer.the-variants.{Done};
@@ -8,7 +9,7 @@ ghost use Rattle.record_check.specs.Parse.{parse};
 ghost use Rattle.codec_verify.specs.Verify.{verifyUnder, verifyStream};
 ghost use Rattle.command_arguments.specs.declared.Action.the-variants.{Verify};
 ghost use Rattle.command_arguments.specs.declared.Form.the-variants.{Words, Stream};
-ghost use Rattle.command_arguments.specs.Shapes.{shapeOf};
+ghost use Rattle.command_arguments.specs.Shapes.{shapeOf, statusOf};
 ghost use Rattle.command_inputs.specs.Inputs.{From};
 ghost use Rattle.command_outputs.specs.Results.{Fails, WellOnly};
 ghost use Rattle.command_verify.specs.Verifying.{recordingLine, blocksUnder, VerifiedWords, VerifiedStream};
@@ -55,7 +56,9 @@ fn put_recording(out: &mut [u8], n: usize) -> usize
 }
 
 // Prints the line of a recording of n words under the record in the bytes.
-fn print_recording(bytes: &[u8], n: usize) -> Status {
+fn print_recording(bytes: &[u8], n: usize) -> Status
+    ensures past { λ s. ⌜ statusOf s ≤ 1 ⌝ }
+{
     let mut line = [0u8; 64];
     let size = put_recording(&mut line, blocks_under(bytes, n));
     print(&line[..size])
@@ -71,6 +74,7 @@ fn verify_words(u: Input, under: &[u8], b: Input, words: &[u8]) -> Status
         s ⌝ }
     ensures past { λ s. ⌜ WellOnly VerifiedWords s ⌝ }
     ensures failed { λ s. ⌜ Fails (answerOf (verifyUnder (now (under .entry)) (now (words .entry)))) s ⌝ }
+    ensures most { λ s. ⌜ statusOf s ≤ 1 ⌝ }
 {
     let r = verify(under, words);
     match judged(r, words.len()) {
@@ -90,6 +94,7 @@ fn verify_counted(u: Input, under: &[u8], count: Number, b: Input, stream: &[u8]
     ensures past { λ s. ⌜ WellOnly VerifiedStream s ⌝ }
     ensures failed { λ s. ⌜
         Fails (answerOf (verifyStream (now (under .entry)) (count .value) (now (stream .entry)))) s ⌝ }
+    ensures most { λ s. ⌜ statusOf s ≤ 1 ⌝ }
 {
     let r = verify_stream(under, count.value, stream);
     match judged(r, count.value) {

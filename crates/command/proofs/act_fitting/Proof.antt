@@ -1,7 +1,7 @@
--- `act_fitting` meets its contract: the action ended well, or the arguments were too few or too many.
+-- `act_fitting` meets its contract: the status is that of the action, or the arguments were too few or too many.
 -- Assumes nothing.
-use Rattle.laws.proofs.All.{ap, _∙_, arith, needs}
-use Rattle.command_arguments.specs.Shapes.{statusOf}
+use Rattle.laws.proofs.All.{needs}
+use Rattle.command.proofs.Ending.{number-misused}
 use Rattle.command.proofs.act_fitting.Statement.{statement}
 use Rattle.command.proofs.act_fitting.Tie as tie
 
@@ -11,8 +11,7 @@ returns c = c .act .ensures
 returns-2 : tie.Need-returns-2
 returns-2 c =
     let n = c .status-number .ensures in
-    let e = n .0 ∙ ap statusOf (c .before .misused .ensures) in
-    (λ z. absurd (omega arith), n .1)
+    (number-misused (c .before .misused .result) _ (n .0) (c .before .misused .ensures), n .1)
 
 pub act-fitting-spec : {M : Type 1} → statement M
 act-fitting-spec =

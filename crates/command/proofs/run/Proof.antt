@@ -1,4 +1,4 @@
--- `run` meets its contract: the action that the first argument names ended well.
+-- `run` meets its contract: the status is that of the action that the first argument names.
 -- Assumes nothing.
 use Rattle.laws.proofs.All.{ap, _∙_, arith, needs}
 use Rattle.command_arguments.specs.Shapes.{statusOf}
@@ -9,18 +9,19 @@ returns : tie.Need-returns
 returns c =
     let n = c .status-number .ensures in
     let e = n .0 ∙ ap statusOf (c .before .misused .ensures) in
-    (λ z. absurd (omega arith), n .1)
+    (λ z. absurd (omega arith), (λ z. absurd (omega arith), n .1))
 
 returns-2 : tie.Need-returns-2
 returns-2 c =
     let n = c .status-number2 .ensures in
     let e = n .0 ∙ ap statusOf (c .before .misused-word .ensures) in
-    (λ z. absurd (omega arith), n .1)
+    (λ z. absurd (omega arith), (λ z. absurd (omega arith), n .1))
 
 returns-3 : tie.Need-returns-3
 returns-3 c =
     let e = c .act-fitting .ensures in
-    (λ z. record { action = c .before .before .action-of .result; well = e .0 z }, e .1)
+    let a = c .before .before .action-of .result in
+    (λ z. record { action = a; well = e .0 .well z }, (λ z. record { action = a; short = e .0 .short z }, e .1))
 
 pub run-spec : {M : Type 1} → statement M
 run-spec =

@@ -3,7 +3,8 @@
 -- Assumes nothing.
 use Rattle.laws.proofs.All.{now, length, needs}
 use Rattle.command_code.specs.Coding.{coded}
-use Rattle.command_outputs.proofs.Results.{result-within, fails-kept, fails-outcome}
+use Rattle.command_outputs.proofs.Results.{result-within, fails-outcome}
+use Rattle.command_verify.proofs.Counts.{after-either, after-kept}
 use Rattle.command_code.proofs.Ending.{ends-coded}
 use Rattle.command_code.proofs.code_bytes.Statement.{statement}
 use Rattle.command_code.proofs.code_bytes.Tie as tie
@@ -24,15 +25,16 @@ returns c =
     let call = called .code in
     let a = called .before .before .before .before .before .args in
     let o = coded (a .w) (now (a .under)) (length (now (a .out))) (now (a .bytes)) in
-    let f = fails-kept (call .result) (done .finish-code .result) (c .end-code .result) (done .finish-code .ensures)
-    (c .end-code .ensures .1) in (
+    let f = after-kept (call .result) (done .finish-code .result) (c .end-code .result) _ (c .end-code .ensures)
+    (done .finish-code .ensures .0) in
+    let h = after-either (done .finish-code .result) (c .end-code .result) _ (c .end-code .ensures) in (
       fails-outcome o (call .result) (c .end-code .result) (call .ensures .0) f,
       (
         call .ensures .1,
         (
           ends-coded (a .w) (now (a .under)) (now (a .bytes)) (length (now (a .out))) (call .result)
-              (c .end-code .result) (call .ensures .0) f (c .end-code .ensures .0),
-          c .end-code .ensures .0,
+              (c .end-code .result) (call .ensures .0) f h,
+          h,
         ),
       ),
     )

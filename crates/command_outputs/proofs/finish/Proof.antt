@@ -1,7 +1,7 @@
 -- `finish` meets its contract: the result lies within the bytes, and a refusal ends as `refuse` does.
 -- Assumes nothing.
 use Rattle.laws.proofs.All.{sym, now, length-take-le, needs}
-use Rattle.command_outputs.proofs.Results.{front-long, fails-refused, fails-done}
+use Rattle.command_outputs.proofs.Results.{front-long, fails-refused, fails-done, failed-most}
 use Rattle.command_outputs.proofs.finish.Statement.{statement}
 use Rattle.command_outputs.proofs.finish.Tie as tie
 
@@ -16,14 +16,16 @@ slice-aggregate-store-at c =
 returns : tie.Need-returns
 returns c =
     let x = c .before .before in
-    let start = x .before .before .before in
-    fails-refused (start .args .r) (x .r .given .0 .0) (c .refuse .result) (x .r .given .1) (c .refuse .ensures)
+    let start = x .before .before .before in (
+      fails-refused (start .args .r) (x .r .given .0 .0) (c .refuse .result) (x .r .given .1) (c .refuse .ensures),
+      failed-most (c .refuse .result) (c .refuse .ensures),
+    )
 
 returns-2 : tie.Need-returns-2
 returns-2 c =
     let n = c .before .before .before in
     let start = n .before .before .before in
-    fails-done (start .args .r) (n .r2 .given .0 .0) (c .store-at .result) (n .r2 .given .1)
+    (fails-done (start .args .r) (n .r2 .given .0 .0) (c .store-at .result) (n .r2 .given .1), c .store-at .ensures)
 
 pub finish-spec : {M : Type 1} → statement M
 finish-spec =

@@ -16,7 +16,7 @@ returns : tie.Need-returns
 returns c =
     let call = c .before .before .before .before .encode-stream in (
       fails-outcome (encodeStream _ _ _) (call .result) (c .finish-code .result) (call .ensures .0)
-          (c .finish-code .ensures),
+          (c .finish-code .ensures .0),
       (
         call .ensures .1,
         fails-well (encodeStream _ _ _) (call .result) (c .finish-code .result) (call .ensures .0)

@@ -1,36 +1,26 @@
 -- A refusal fails; of words that were counted, some do not come back or all do.
-use Rattle.laws.proofs.All.{_≡_, ap, _∙_, arith, needs}
-use Rattle.answer.specs.declared.Answer.the-variants.{Done}
-use Rattle.command_outputs.proofs.Results.{fails-refused, fails-done}
-use Rattle.command_verify.proofs.Counts.{counted-failed}
+use Rattle.laws.proofs.All.{_∙_, needs}
+use Rattle.command_verify.proofs.Counts.{end-refused, end-short, end-whole}
 use Rattle.command_verify.proofs.judged.Statement.{statement}
 use Rattle.command_verify.proofs.judged.Tie as tie
 
 returns : tie.Need-returns
 returns c =
     let k = c .before .before .before in
-    let a = k .before .before .args in (
-      (k .r2 .given .0 .0, k .r2 .given .1, c .before .if1 .taken),
-      fails-done (a .r) _ _ (k .r2 .given .1),
-    )
+    let a = k .before .before .args in
+    end-short (a .r) (a .n) _ (k .r2 .given .1) (c .before .if1 .taken)
 
 returns-2 : tie.Need-returns-2
 returns-2 c =
     let k = c .before .before in
-    let a = k .before .before .args in (
-      counted-failed (a .r) (a .n) _ (c .refuse .ensures),
-      fails-refused (a .r) _ _ (k .r .given .1) (c .refuse .ensures),
-    )
+    let a = k .before .before .args in
+    c .refuse .ensures ∙ end-refused (a .r) (a .n) _ (k .r .given .1)
 
 returns-3 : tie.Need-returns-3
 returns-3 c =
     let k = c .before .before in
-    let s = k .before .before in
-    let n = k .r2 .given .0 .0 in
-    let e : n ≡ s .args .n = omega (arith, s .pre n (k .r2 .given .1), c .if1 .left) in (
-      k .r2 .given .1 ∙ ap Done e,
-      fails-done (s .args .r) _ _ (k .r2 .given .1),
-    )
+    let a = k .before .before .args in
+    end-whole (a .r) (a .n) _ (k .r2 .given .1) (c .if1 .left)
 
 pub judged-spec : {M : Type 1} → statement M
 judged-spec =

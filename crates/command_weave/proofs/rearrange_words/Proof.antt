@@ -17,11 +17,12 @@ finish-requires c κs =
 
 returns : tie.Need-returns
 returns c =
-    let call = c .before .before .before .before .rearrange in (
-      fails-outcome (rearrangeInto _ _ _ _) (call .result) (c .finish .result) (call .ensures .0) (c .finish .ensures),
+    let call = c .before .before .before .before .rearrange in
+    let e = c .finish .ensures in (
+      fails-outcome (rearrangeInto _ _ _ _) (call .result) (c .finish .result) (call .ensures .0) (e .0),
       (
         call .ensures .1,
-        fails-well (rearrangeInto _ _ _ _) (call .result) (c .finish .result) (call .ensures .0) (c .finish .ensures)
+        fails-well (rearrangeInto _ _ _ _) (call .result) (c .finish .result) (call .ensures .0) e
             (λ g. record { depth = _; room = _; words = _; gives = g }),
       ),
     )

@@ -19,7 +19,7 @@ returns : tie.Need-returns
 returns c =
     let call = c .before .before .before .before .compile-run-length in
     let e = call .ensures in (
-      fails-outcome (compileRunLength _ _) (call .result) (c .finish .result) (e .0) (c .finish .ensures),
+      fails-outcome (compileRunLength _ _) (call .result) (c .finish .result) (e .0) (c .finish .ensures .0),
       (
         e .1,
         fails-well (compileRunLength _ _) (call .result) (c .finish .result) (e .0) (c .finish .ensures)

@@ -6,8 +6,9 @@ use Rattle.set_check.specs.declared.SetAnswer.the-variants.{Good}
 use Rattle.set_check.specs.Sets.{Walk, codes, stopped, readSet}
 use Rattle.set_check.specs.Results.{setAnswer}
 use Rattle.command_arguments.specs.declared.Status.{Status}
-use Rattle.command_arguments.specs.declared.Status.the-variants.{Done, Failed, Misused, NoRecording}
+use Rattle.command_arguments.specs.declared.Status.the-variants.{Failed}
 use Rattle.command_outputs.specs.Results.{WellOnly}
+use Rattle.command_outputs.proofs.Results.{well-holds}
 use Rattle.command.specs.Acting.{SetFails, Listed}
 use Rattle.command.proofs.records.tell_set.Statement.{statement}
 use Rattle.command.proofs.records.tell_set.Tie as tie
@@ -20,12 +21,6 @@ bad (stopped i r) s h = h
 listed : (w : Walk) (n : ℕ) → setAnswer w ≡ Good n → (cs : List Code) × (w ≡ codes cs)
 listed (codes cs) n e = (cs, refl)
 listed (stopped i r) n e = let z : _≡_ {A = ℕ} 0 1 = cc in absurd (omega arith)
-
-well : {P : Type 0} → P → (s : Status) → WellOnly P s
-well p Done = p
-well p Failed = tt
-well p Misused = tt
-well p NoRecording = tt
 
 returns : tie.Need-returns
 returns c =
@@ -40,7 +35,8 @@ returns-2 c =
     let set = now (check .before .before .args .set) in
     let (cs, e) = listed (readSet set) _ (sym (check .check-set .ensures) ∙ n .n .given .1) in
     let s = c .print .result in
-    (subst (λ w. SetFails w s) (sym e) tt, well (record { bytes = set; records = cs; good = e }) s)
+    let p : Listed = record { bytes = set; records = cs; good = e } in
+    (subst (λ w. SetFails w s) (sym e) tt, well-holds s (c .print .ensures) p)
 
 pub tell-set-spec : {M : Type 1} → statement M
 tell-set-spec =

@@ -10,7 +10,7 @@ use Rattle.record.specs.Checks.{outcomeIn}
 use Rattle.record_check.specs.Parse.{parse}
 use Rattle.command_arguments.specs.declared.Status.{Status}
 use Rattle.command_outputs.specs.Results.{FailsBy}
-use Rattle.command_outputs.proofs.Results.{failed-by, by-well}
+use Rattle.command_outputs.proofs.Results.{failed-most, failed-by, by-well}
 use Rattle.command.proofs.records.view_bytes.Statement.{statement}
 use Rattle.command.proofs.records.view_bytes.Tie as tie
 
@@ -23,7 +23,8 @@ returns c =
     let start = c .before .before .before .before .before .before .before in
     let o = parse (now (start .args .bytes)) in
     let f = failed-by o (c .refuse .result) (c .refuse .ensures) in
-    (f, by-well o _ f (λ g. record { bytes = _; gives = g }))
+    let m = failed-most (c .refuse .result) (c .refuse .ensures) in
+    (f, by-well o _ m f (λ g. record { bytes = _; gives = g }))
 
 returns-2 : tie.Need-returns-2
 returns-2 c =
@@ -31,7 +32,7 @@ returns-2 c =
     let load = told .before .before .before in
     let o = parse (now (load .before .before .args .bytes)) in
     let f = shown (load .load .result) o (c .print-view .result) (load .load .ensures .0) (told .enum-told .given .1) in
-    (f, by-well o _ f (λ g. record { bytes = _; gives = g }))
+    (f, by-well o _ (c .print-view .ensures) f (λ g. record { bytes = _; gives = g }))
 
 pub view-bytes-spec : {M : Type 1} → statement M
 view-bytes-spec =

@@ -8,7 +8,7 @@ use Rattle.stream_damage.specs.declared.ReachAnswer.the-variants.{Blocks}
 use Rattle.stream_damage.specs.BitReach.{reachUnder, reachAnswer}
 use Rattle.command_arguments.specs.declared.Status.{Status}
 use Rattle.command_outputs.specs.Results.{FailsBy}
-use Rattle.command_outputs.proofs.Results.{failed-by, by-well}
+use Rattle.command_outputs.proofs.Results.{failed-most, failed-by, by-well}
 use Rattle.command_stream.specs.Reaching.{bitsFrom}
 use Rattle.command_stream.proofs.reaching.tell_reach.Statement.{statement}
 use Rattle.command_stream.proofs.reaching.tell_reach.Tie as tie
@@ -23,8 +23,10 @@ returns c =
     let start = c .before .before .before .before .before .before in
     let a = start .args in
     let o = reachUnder (now (a .under)) (bitsFrom (a .first .value) (a .last .value)) in
-    let f = failed-by o _ (c .refuse .ensures) in
-    (f, by-well o _ f (λ g. record { under = _; first = _; last = _; order = start .pre .3; gives = g }))
+    let s = c .refuse .result in
+    let m = failed-most s (c .refuse .ensures) in
+    let f = failed-by o s (c .refuse .ensures) in
+    (f, by-well o s m f (λ g. record { under = _; first = _; last = _; order = start .pre .3; gives = g }))
 
 returns-2 : tie.Need-returns-2
 returns-2 c =
@@ -34,7 +36,8 @@ returns-2 c =
     let a = start .args in
     let o = reachUnder (now (a .under)) (bitsFrom (a .first .value) (a .last .value)) in
     let f = told o _ (c .print-reach .result) (sym (r .reach-of .ensures) ∙ b .b .given .1) in
-    (f, by-well o _ f (λ g. record { under = _; first = _; last = _; order = start .pre .3; gives = g }))
+    let m = c .print-reach .ensures in
+    (f, by-well o _ m f (λ g. record { under = _; first = _; last = _; order = start .pre .3; gives = g }))
 
 pub tell-reach-spec : {M : Type 1} → statement M
 tell-reach-spec =
