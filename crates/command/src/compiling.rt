@@ -5,7 +5,7 @@ ghost use Rattle.answer.specs.Outcomes.{answerOf, outputOf};
 ghost use Rattle.compile.specs.Compile.{compileRunLength, compileJob, compileJoined};
 ghost use Rattle.command_arguments.specs.declared.Action.the-variants.{Compile, CompileJob, CompileJoined, Trace};
 ghost use Rattle.command_arguments.specs.Shapes.{shapeOf};
-ghost use Rattle.command_inputs.specs.Inputs.{From};
+ghost use Rattle.command_inputs.specs.Inputs.{From, SaidAll};
 ghost use Rattle.command_outputs.specs.Results.{Fails, WellOnly};
 ghost use Rattle.command.specs.Ending.{endOf};
 ghost use Rattle.command.specs.Acting.{CompiledNumbers, CompiledJob, CompiledJoined};
@@ -28,7 +28,7 @@ use trace::tracing::trace_run_length;
 
 // The record of a run-length job.
 fn compile_numbers(said: Numbers, out: &mut [u8]) -> Status
-    requires { ⌜ said .at ≡ shapeOf Compile .number ⌝ }
+    requires { ⌜ SaidAll (shapeOf Compile .number) said ⌝ }
     ensures answer { λ s. ⌜ Fails (answerOf (compileRunLength (said .job) (length (now (out .entry))))) s ⌝ }
     ensures written { λ s. ⌜
         now (out .exit)
@@ -111,7 +111,7 @@ pub fn compile_joined_file() -> Status
 
 // How a trace ends: as compiling the job does.
 fn traced(said: Numbers, out: &mut [u8]) -> Status
-    requires { ⌜ said .at ≡ shapeOf Trace .number ⌝ }
+    requires { ⌜ SaidAll (shapeOf Trace .number) said ⌝ }
     ensures answer { λ s. ⌜ s ≡ endOf (compileRunLength (said .job) (length (now (out .entry)))) ⌝ }
     ensures past { λ s. ⌜ WellOnly CompiledNumbers s ⌝ }
 {

@@ -8,7 +8,7 @@ ghost use Rattle.record_check.specs.Parse.{parse};
 ghost use Rattle.set_check.specs.Sets.{readSet};
 ghost use Rattle.command_arguments.specs.declared.Action.the-variants.{Viewing, WithTail, Collection};
 ghost use Rattle.command_arguments.specs.Shapes.{shapeOf, statusOf};
-ghost use Rattle.command_inputs.specs.Inputs.{From};
+ghost use Rattle.command_inputs.specs.Inputs.{From, FromWhole, Said};
 ghost use Rattle.command_outputs.specs.Results.{Fails, FailsBy, WellOnly};
 ghost use Rattle.command.specs.Acting.{Viewed, Closed, SetFails, Listed};
 use answer::Verdict;
@@ -76,7 +76,7 @@ pub fn view_file(v: View) -> Status
 // The record in the bytes with another tail datum; the run fails where it is refused. `l` is what was read of the
 // record.
 fn close_bytes(l: Input, bytes: &[u8], datum: Number, out: &mut [u8]) -> Status
-    requires { ⌜ From (shapeOf WithTail .under) l (now bytes) × (datum .at ≡ shapeOf WithTail .number) ⌝ }
+    requires { ⌜ From (shapeOf WithTail .under) l (now bytes) × Said (shapeOf WithTail .number) datum ⌝ }
     ensures answer { λ s. ⌜
         Fails (answerOf (closedWith (now (bytes .entry)) (datum .value) (length (now (out .entry))))) s ⌝ }
     ensures written { λ s. ⌜
@@ -110,7 +110,7 @@ pub fn close_file() -> Status
 
 // Prints a good set, or says the refusal of a bad one. `l` is what was read of the set.
 fn tell_set(l: Input, set: &[u8]) -> Status
-    requires { ⌜ From (shapeOf Collection .read) l (now set) ⌝ }
+    requires { ⌜ FromWhole (shapeOf Collection .read) l (now set) ⌝ }
     ensures answer { λ s. ⌜ SetFails (readSet (now (set .entry))) s ⌝ }
     ensures past { λ s. ⌜ WellOnly Listed s ⌝ }
 {

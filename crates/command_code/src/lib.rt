@@ -6,7 +6,7 @@ ghost use Rattle.answer.specs.Outcomes.{answerOf, outputOf};
 ghost use Rattle.command_arguments.specs.declared.Action.the-variants.{Coding};
 ghost use Rattle.command_arguments.specs.declared.Status.the-variants.{Failed};
 ghost use Rattle.command_arguments.specs.Shapes.{shapeOf};
-ghost use Rattle.command_inputs.specs.Inputs.{From};
+ghost use Rattle.command_inputs.specs.Inputs.{From, FromWhole};
 ghost use Rattle.command_outputs.specs.Results.{Fails, EndsBy};
 ghost use Rattle.command_verify.specs.Verifying.{afterBy};
 ghost use Rattle.command_code.specs.Coding.{coded, Coded, Spoiled, endCode, longestOf};
@@ -67,7 +67,7 @@ fn end_code(w: Way, s: Status, under: &[u8], bytes: &[u8]) -> Status
 // words that were decoded are no recording. `u` and `b` are what was read of the record and of the bytes.
 fn code_bytes(w: Way, u: Input, under: &[u8], b: Input, bytes: &[u8], out: &mut [u8]) -> Status
     requires { ⌜
-        From (shapeOf (Coding w) .under) u (now under) × From (shapeOf (Coding w) .read) b (now bytes) ⌝ }
+        From (shapeOf (Coding w) .under) u (now under) × FromWhole (shapeOf (Coding w) .read) b (now bytes) ⌝ }
     ensures answer { λ s. ⌜
         Fails (answerOf (coded w (now (under .entry)) (length (now (out .entry))) (now (bytes .entry)))) s ⌝ }
     ensures written { λ s. ⌜

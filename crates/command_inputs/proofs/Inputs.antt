@@ -8,11 +8,11 @@ use Rattle.files.specs.declared.Loaded.{Loaded}
 use Rattle.files.specs.declared.Loaded.the-variants.{Whole, Unreadable, TooLong}
 use Rattle.files.specs.Files.{Fits}
 use Rattle.command_arguments.specs.declared.Parsed.{Parsed}
-use Rattle.command_arguments.specs.declared.Parsed.the-variants.{Number as Said}
+use Rattle.command_arguments.specs.declared.Parsed.the-variants.{Number as Digits}
 use Rattle.command_inputs.specs.declared.Input.{Input}
 use Rattle.command_inputs.specs.Inputs.{noNumber, numberOf, inputOf}
 
-module _ (i most n : ℕ) (p : Parsed) (e : p ≡ Said n) where
+module _ (i most n : ℕ) (p : Parsed) (e : p ≡ Digits n) where
   pub number-taken : n ≤ most → record { good = true; value = n; at = i } ≡ numberOf i most p
   number-taken h = sym (ap (numberOf i most) e ∙ simp (le-leb _ _ h))
 

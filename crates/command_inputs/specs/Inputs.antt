@@ -1,5 +1,5 @@
 -- What reading an argument says: the number in its word, or how many bytes its file gave; and which argument it was.
--- In order: noNumber, numberOf; nothingFrom, inputOf; From.
+-- In order: noNumber, numberOf; nothingFrom, inputOf; Said, SaidAll; From, FromWhole.
 -- Assumes nothing.
 use mathlib.Core.Path.{_≡_}
 use mathlib.Core.Bool.{true, false}
@@ -11,8 +11,9 @@ use Rattle.laws.specs.Lists.{if_then_else_}
 use Rattle.files.specs.declared.Loaded.{Loaded}
 use Rattle.files.specs.declared.Loaded.the-variants.{Whole, Unreadable, TooLong}
 use Rattle.command_arguments.specs.declared.Parsed.{Parsed}
-use Rattle.command_arguments.specs.declared.Parsed.the-variants.{Number as Said, Above, Wrong}
+use Rattle.command_arguments.specs.declared.Parsed.the-variants.{Number as Digits, Above, Wrong}
 use Rattle.command_inputs.specs.declared.numbers.Number.{Number}
+use Rattle.command_inputs.specs.declared.numbers.Numbers.{Numbers}
 use Rattle.command_inputs.specs.declared.Input.{Input}
 
 -- argument i says no number that is taken
@@ -21,7 +22,7 @@ noNumber i = record { good = false; value = 0; at = i }
 
 -- the number that argument i says, up to the most that is taken
 abbrev pub numberOf : ℕ → ℕ → Parsed → Number
-numberOf i most (Said n) = if leb n most then record { good = true; value = n; at = i } else noNumber i
+numberOf i most (Digits n) = if leb n most then record { good = true; value = n; at = i } else noNumber i
 numberOf i most Above = noNumber i
 numberOf i most Wrong = noNumber i
 
@@ -35,6 +36,18 @@ inputOf i room (Whole n) = record { good = true; more = false; size = n; at = i 
 inputOf i room TooLong = record { good = true; more = true; size = room; at = i }
 inputOf i room Unreadable = nothingFrom i
 
--- bytes as many as were read of the file that argument i names
+-- argument i says a number that is taken
+abbrev pub Said : ℕ → Number → Type 0
+Said i n = (n .good ≡ true) × (n .at ≡ i)
+
+-- five arguments from i on say numbers that are taken
+abbrev pub SaidAll : ℕ → Numbers → Type 0
+SaidAll i n = (n .good ≡ true) × (n .at ≡ i)
+
+-- the file that argument i names was read, and the bytes are as many as were read of it
 abbrev pub From : ℕ → Input → List ℕ → Type 0
-From i l xs = (l .at ≡ i) × (length xs ≡ l .size)
+From i l xs = (l .good ≡ true) × (l .at ≡ i) × (length xs ≡ l .size)
+
+-- the same of a file that was read to its end
+abbrev pub FromWhole : ℕ → Input → List ℕ → Type 0
+FromWhole i l xs = From i l xs × (l .more ≡ false)

@@ -11,7 +11,7 @@ ghost use Rattle.command_arguments.specs.declared.Action.the-variants.{Stream};
 ghost use Rattle.command_arguments.specs.declared.OnStream.the-variants.{Pack, Unpack, Encode, Decode};
 ghost use Rattle.command_arguments.specs.declared.Status.the-variants.{Failed};
 ghost use Rattle.command_arguments.specs.Shapes.{shapeOf};
-ghost use Rattle.command_inputs.specs.Inputs.{From};
+ghost use Rattle.command_inputs.specs.Inputs.{From, Said};
 ghost use Rattle.command_outputs.specs.Results.{Fails, EndsBy, WellOnly};
 ghost use Rattle.command_verify.specs.Verifying.{endBy};
 ghost use Rattle.command_stream.specs.Streamed.{Packed, Unpacked, EncodedStream, DecodedStream, SpoiledStream};
@@ -43,7 +43,7 @@ use stream_record::encode_stream;
 
 // The stream of words of q bits. `l` is what was read of the words.
 fn pack_words(q: Number, l: Input, words: &[u8], out: &mut [u8]) -> Status
-    requires { ⌜ (q .at ≡ shapeOf (Stream Pack) .number) × From (shapeOf (Stream Pack) .read) l (now words) ⌝ }
+    requires { ⌜ Said (shapeOf (Stream Pack) .number) q × From (shapeOf (Stream Pack) .read) l (now words) ⌝ }
     ensures answer { λ s. ⌜
         Fails (answerOf (packInto (q .value) (length (now (out .entry))) (now (words .entry)))) s ⌝ }
     ensures written { λ s. ⌜
@@ -78,7 +78,7 @@ pub fn pack_file() -> Status
 // The words of q bits of a stream. `l` is what was read of the stream.
 fn unpack_words(q: Number, count: Number, l: Input, stream: &[u8], out: &mut [u8]) -> Status
     requires { ⌜
-        (q .at ≡ shapeOf (Stream Unpack) .number) × (count .at ≡ shapeOf (Stream Unpack) .number + 1)
+        Said (shapeOf (Stream Unpack) .number) q × Said (shapeOf (Stream Unpack) .number + 1) count
         × From (shapeOf (Stream Unpack) .read) l (now stream) ⌝ }
     ensures answer { λ s. ⌜
         Fails
@@ -169,7 +169,7 @@ fn decode_words(
     out: &mut [u8],
 ) -> Status
     requires { ⌜
-        From (shapeOf (Stream Decode) .under) u (now under) × (count .at ≡ shapeOf (Stream Decode) .number)
+        From (shapeOf (Stream Decode) .under) u (now under) × Said (shapeOf (Stream Decode) .number) count
         × From (shapeOf (Stream Decode) .read) b (now stream) ⌝ }
     ensures answer { λ s. ⌜
         Fails

@@ -6,7 +6,7 @@ ghost use Rattle.stream_damage.specs.BitReach.{reachUnder, reachAnswer};
 ghost use Rattle.command_arguments.specs.declared.Action.the-variants.{Stream};
 ghost use Rattle.command_arguments.specs.declared.OnStream.the-variants.{Reach};
 ghost use Rattle.command_arguments.specs.Shapes.{shapeOf, statusOf};
-ghost use Rattle.command_inputs.specs.Inputs.{From};
+ghost use Rattle.command_inputs.specs.Inputs.{From, Said};
 ghost use Rattle.command_outputs.specs.Results.{FailsBy, WellOnly};
 ghost use Rattle.command_stream.specs.Reaching.{bitsFrom, reachLine};
 ghost use Rattle.command_stream.specs.Streamed.{Reached};
@@ -62,8 +62,8 @@ fn reach_of(under: &[u8], first: usize, last: usize) -> ReachAnswer
 // Prints the blocks that overwriting channel bits can spoil, or says the refusal. `u` is what was read of the record.
 fn tell_reach(u: Input, under: &[u8], first: Number, last: Number) -> Status
     requires { ⌜
-        From (shapeOf (Stream Reach) .under) u (now under) × (first .at ≡ shapeOf (Stream Reach) .number)
-        × (last .at ≡ shapeOf (Stream Reach) .number + 1) × (first .value ≤ last .value) ⌝ }
+        From (shapeOf (Stream Reach) .under) u (now under) × Said (shapeOf (Stream Reach) .number) first
+        × Said (shapeOf (Stream Reach) .number + 1) last × (first .value ≤ last .value) ⌝ }
     ensures answer { λ s. ⌜
         FailsBy (reachUnder (now (under .entry)) (bitsFrom (first .value) (last .value))) s ⌝ }
     ensures past { λ s. ⌜ WellOnly Reached s ⌝ }

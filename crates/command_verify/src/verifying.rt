@@ -10,7 +10,7 @@ ghost use Rattle.codec_verify.specs.Verify.{verifyUnder, verifyStream};
 ghost use Rattle.command_arguments.specs.declared.Action.the-variants.{Verify};
 ghost use Rattle.command_arguments.specs.declared.Form.the-variants.{Words, Stream};
 ghost use Rattle.command_arguments.specs.Shapes.{shapeOf, statusOf};
-ghost use Rattle.command_inputs.specs.Inputs.{From};
+ghost use Rattle.command_inputs.specs.Inputs.{From, FromWhole, Said};
 ghost use Rattle.command_outputs.specs.Results.{Fails, WellOnly};
 ghost use Rattle.command_verify.specs.Verifying.{recordingLine, blocksUnder, VerifiedWords, VerifiedStream};
 use crate::judged;
@@ -68,7 +68,7 @@ fn print_recording(bytes: &[u8], n: usize) -> Status
 // of the record and of the words.
 fn verify_words(u: Input, under: &[u8], b: Input, words: &[u8]) -> Status
     requires { ⌜
-        From (shapeOf (Verify Words) .under) u (now under) × From (shapeOf (Verify Words) .read) b (now words) ⌝ }
+        From (shapeOf (Verify Words) .under) u (now under) × FromWhole (shapeOf (Verify Words) .read) b (now words) ⌝ }
     ensures answer { λ s. ⌜
         WellOnly (answerOf (verifyUnder (now (under .entry)) (now (words .entry))) ≡ Done (length (now (words .entry))))
         s ⌝ }
@@ -86,7 +86,7 @@ fn verify_words(u: Input, under: &[u8], b: Input, words: &[u8]) -> Status
 // The same of the words of a stream. `u` and `b` are what was read of the record and of the stream.
 fn verify_counted(u: Input, under: &[u8], count: Number, b: Input, stream: &[u8]) -> Status
     requires { ⌜
-        From (shapeOf (Verify Stream) .under) u (now under) × (count .at ≡ shapeOf (Verify Stream) .number)
+        From (shapeOf (Verify Stream) .under) u (now under) × Said (shapeOf (Verify Stream) .number) count
         × From (shapeOf (Verify Stream) .read) b (now stream) ⌝ }
     ensures answer { λ s. ⌜
         WellOnly

@@ -4,7 +4,7 @@ ghost use lib.ListN.{length};
 ghost use Rattle.answer.specs.Outcomes.{answerOf, outputOf};
 ghost use Rattle.command_arguments.specs.declared.Action.the-variants.{Recordings};
 ghost use Rattle.command_arguments.specs.Shapes.{shapeOf};
-ghost use Rattle.command_inputs.specs.Inputs.{From};
+ghost use Rattle.command_inputs.specs.Inputs.{FromWhole, Said};
 ghost use Rattle.command_outputs.specs.Results.{Fails, WellOnly};
 ghost use Rattle.command_weave.specs.Weaves.{rearrangeInto, Rearranged};
 use answer::Answer;
@@ -41,7 +41,7 @@ fn rearrange(how: OnRecordings, d: usize, words: &[u8], out: &mut [u8]) -> Answe
 // words.
 fn rearrange_words(how: OnRecordings, d: Number, l: Input, words: &[u8], out: &mut [u8]) -> Status
     requires { ⌜
-        (d .at ≡ shapeOf (Recordings how) .number) × From (shapeOf (Recordings how) .read) l (now words) ⌝ }
+        Said (shapeOf (Recordings how) .number) d × FromWhole (shapeOf (Recordings how) .read) l (now words) ⌝ }
     ensures answer { λ s. ⌜
         Fails (answerOf (rearrangeInto how (d .value) (length (now (out .entry))) (now (words .entry)))) s ⌝ }
     ensures written { λ s. ⌜
