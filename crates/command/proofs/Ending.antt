@@ -1,8 +1,10 @@
 -- How a trace ends, by the answer of the call; how a run ends, by its status and by the action.
 -- In order: end-refused, end-done, done-gives; number-ends, number-misused, same-action, misused-most, asked-ends;
--- way-by-decoding.
+-- acted, acted-short, actionTags, unknown-named, fits-not; way-by-decoding.
 -- Assumes nothing.
-use Rattle.laws.proofs.All.{_≡_, refl, sym, ap, subst, _∙_, List, ℕ, _≤_, arith}
+use Rattle.laws.proofs.All.{_≡_, refl, sym, ap, subst, _∙_, Bool, true, false, T, List, [], _∷_, ℕ, _≤_, arith}
+use denote.Enum.Declared.{tagOf}
+use types.Run.{OneOf, miss}
 use Rattle.answer.specs.declared.Refusal.{Refusal}
 use Rattle.answer.specs.declared.Answer.the-variants.{Done, Refused}
 use Rattle.answer.specs.Outcomes.{Outcome, done, refused, answerOf}
@@ -11,10 +13,13 @@ use Rattle.command_arguments.specs.declared.Status.the-variants.{Failed, Misuse
 use Rattle.command_arguments.specs.declared.Action.{Action}
 use Rattle.command_arguments.specs.declared.Way.{Way}
 use Rattle.command_arguments.specs.declared.Way.the-variants.{Encode, Decode}
-use Rattle.command_arguments.specs.Shapes.{statusOf}
+use Rattle.command_arguments.specs.Shapes.{fits, statusOf}
+use Rattle.command_arguments.specs.declared.Shape.{Shape}
+use Rattle.command_arguments.specs.declared.Action.the-variants.{Unknown}
+use Rattle.command_arguments.proofs.Action.{the-type}
 use Rattle.command_outputs.specs.Results.{Gives, EndsBy, WellOnly}
 use Rattle.command.specs.Ending.{endOf, decoding, wayBy}
-use Rattle.command.specs.Acting.{EndsWell, EndsShort, EndsAs}
+use Rattle.command.specs.Acting.{EndsWell, EndsShort, EndsAs, Acted, ActedShort}
 
 pub end-refused : (o : Outcome (List ℕ)) (r : Refusal) → answerOf o ≡ Refused r → Failed ≡ endOf o
 end-refused (refused x) r e = refl
@@ -55,6 +60,26 @@ asked-ends Ended m = tt
 asked-ends Failed m = tt
 asked-ends Misused m = tt
 asked-ends NoRecording m = absurd (omega arith)
+
+pub acted : {a : Action} {r : ℕ} → EndsAs a r → r ≡ 0 → Acted
+acted {a = a} e z = record { action = a; well = e .well z }
+
+pub acted-short : {a : Action} {r : ℕ} → EndsAs a r → r ≡ 3 → ActedShort
+acted-short {a = a} e z = record { action = a; short = e .short z }
+
+-- the tags of the actions that a word can name
+abbrev pub actionTags : List ℕ
+actionTags = 0 ∷ 1 ∷ 2 ∷ 3 ∷ 4 ∷ 5 ∷ 6 ∷ 7 ∷ 8 ∷ 9 ∷ 10 ∷ 11 ∷ 12 ∷ []
+
+-- an action of one of these is not the one that no word names
+pub unknown-named : {P : Type 0} (a : Action) → OneOf actionTags (tagOf the-type a) → a ≡ Unknown → P
+unknown-named a k e = absurd (miss actionTags 13 tt (subst (λ a. OneOf actionTags (tagOf the-type a)) e k))
+
+-- a count that was found to fit does not fail to
+pub fits-not : {P : Type 0} (s t : Shape) (count : ℕ) (b : Bool) → s ≡ t → b ≡ fits (s .fewest) (s .most) count
+    → b ≡ true → fits (t .fewest) (t .most) count ≡ false → P
+fits-not s t count b e f g z =
+    let q : true ≡ false = sym g ∙ f ∙ ap (λ s. fits (s .fewest) (s .most) count) e ∙ z in absurd (subst T q tt)
 
 pub way-by-decoding : (w : Way) → wayBy (decoding w) ≡ w
 way-by-decoding Encode = refl

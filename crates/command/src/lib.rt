@@ -1,14 +1,18 @@
 // The command `sbc`: finds the action that the arguments name, does it on files, and answers with its exit status.
 ghost use mathlib.Core.Path.{_≡_};
+ghost use mathlib.Core.Bool.{false};
 ghost use Prim.Native.Nat.{_≤_};
 ghost use Rattle.command_arguments.specs.declared.Action.the-variants.{Collection, Coding, Stream, Recordings, Verify};
+ghost use Rattle.command_arguments.specs.declared.Action.the-variants.{Unknown};
 ghost use Rattle.command_arguments.specs.declared.Form.the-variants.{Words, Stream as AsStream};
 ghost use Rattle.command_arguments.specs.declared.OnStream.the-variants.{Pack, Unpack, Encode, Decode};
 ghost use Rattle.command_arguments.specs.declared.OnRecordings.the-variants.{Weave, Unweave};
-ghost use Rattle.command_arguments.specs.Shapes.{statusOf};
+ghost use Rattle.command_arguments.specs.Naming.{actionOf};
+ghost use Rattle.command_arguments.specs.Shapes.{shapeOf, fits};
 ghost use Rattle.command.specs.Ending.{wayBy};
 ghost use Rattle.command.specs.Acting.{EndsAs, Acted, ActedShort};
 
+mod asking;
 mod compiling;
 mod records;
 mod ways;
@@ -26,23 +30,7 @@ use command_arguments::shape_of;
 use command_arguments::status_number;
 use command_messages::usage::misused;
 use command_messages::usage::misused_word;
-use command_messages::usage::print_use;
 use command_messages::usage::print_version;
-
-// help [ACTION]
-fn help() -> Status
-    ensures past { λ s. ⌜ statusOf s ≤ 2 ⌝ }
-{
-    if os::arg_count() < 3 {
-        return print_use(Action::Help);
-    }
-    let mut word = io::buffer();
-    let n = os::arg(2, &mut word);
-    match action_of(&word[..n]) {
-        Action::Unknown => misused_word(Action::Help, &word[..n], b": no such action"),
-        a => print_use(a),
-    }
-}
 
 // encode or decode. It is exported so that it has a stack frame of its own.
 #[no_mangle]
@@ -181,7 +169,7 @@ fn act(a: Action) -> u32
         Action::CompileJoined => status_number(compiling::compile_joined_file()),
         Action::Trace => status_number(compiling::trace_numbers()),
         Action::Collection => sbc_action_set(),
-        Action::Help => status_number(help()),
+        Action::Help => status_number(asking::help()),
         Action::Version => status_number(print_version()),
         Action::Viewing(v) => status_number(records::view_file(v)),
         Action::WithTail => status_number(records::close_file()),
@@ -194,15 +182,31 @@ fn act(a: Action) -> u32
 }
 
 // Does an action, if there are as many arguments as it takes.
-fn act_fitting(a: Action) -> u32
+fn act_fitting(a: Action, count: usize) -> u32
     ensures answer { λ r. ⌜ EndsAs a r ⌝ }
     ensures past { λ r. ⌜ r ≤ 3 ⌝ }
+    ensures fitting { λ r. ⌜ (fits (shapeOf a .fewest) (shapeOf a .most) count ≡ false → r ≡ 2) ⌝ }
 {
     let s = shape_of(a);
-    if is_fitting(s.fewest, s.most, os::arg_count()) {
+    if is_fitting(s.fewest, s.most, count) {
         return act(a);
     }
     status_number(misused(a))
+}
+
+// Does the action that a word names, with so many arguments; the answer is the exit status.
+fn run_word(word: &[u8], count: usize) -> u32
+    ensures answer { λ r. ⌜ EndsAs (actionOf (now (word .entry))) r ⌝ }
+    ensures past { λ r. ⌜ r ≤ 3 ⌝ }
+    ensures named { λ r. ⌜ (actionOf (now (word .entry)) ≡ Unknown → r ≡ 2) ⌝ }
+    ensures fitting { λ r. ⌜
+        (fits (shapeOf (actionOf (now (word .entry))) .fewest) (shapeOf (actionOf (now (word .entry))) .most) count
+        ≡ false → r ≡ 2) ⌝ }
+{
+    match action_of(word) {
+        Action::Unknown => status_number(misused_word(Action::Unknown, word, b": no such action")),
+        a => act_fitting(a, count),
+    }
 }
 
 // Does what the arguments say; the answer is the exit status: 0, 1, 2 or 3.
@@ -216,14 +220,7 @@ pub fn run() -> u32
     if os::errno() != 0 {
         return status_number(misused(Action::Unknown));
     }
-    match action_of(&word[..n]) {
-        Action::Unknown => status_number(misused_word(
-            Action::Unknown,
-            &word[..n],
-            b": no such action",
-        )),
-        a => act_fitting(a),
-    }
+    run_word(&word[..n], os::arg_count())
 }
 
 // Does what the arguments say; the answer is the exit status: 0, 1, 2 or 3.

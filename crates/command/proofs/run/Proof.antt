@@ -2,6 +2,7 @@
 -- Assumes nothing.
 use Rattle.laws.proofs.All.{ap, _∙_, arith, needs}
 use Rattle.command_arguments.specs.Shapes.{statusOf}
+use Rattle.command.proofs.Ending.{acted, acted-short}
 use Rattle.command.proofs.run.Statement.{statement}
 use Rattle.command.proofs.run.Tie as tie
 
@@ -13,15 +14,8 @@ returns c =
 
 returns-2 : tie.Need-returns-2
 returns-2 c =
-    let n = c .status-number2 .ensures in
-    let e = n .0 ∙ ap statusOf (c .before .misused-word .ensures) in
-    (λ z. absurd (omega arith), (λ z. absurd (omega arith), n .1))
-
-returns-3 : tie.Need-returns-3
-returns-3 c =
-    let e = c .act-fitting .ensures in
-    let a = c .before .before .action-of .result in
-    (λ z. record { action = a; well = e .0 .well z }, (λ z. record { action = a; short = e .0 .short z }, e .1))
+    let e = c .run-word .ensures in
+    (acted (e .0), (acted-short (e .0), e .1 .0))
 
 pub run-spec : {M : Type 1} → statement M
 run-spec =
@@ -29,5 +23,4 @@ run-spec =
     (tie.spec
     (λ c κs. search needs) (λ c. search needs) (λ c κs. search needs) (λ c κs. search needs) (λ c κs. search needs)
     (λ c κs. search needs) returns (λ c. search needs) (λ c. search needs) (λ c κs. search needs)
-    (λ c. search needs) (λ c. search needs) (λ c. search needs) (λ c. search needs) (λ c κs. search needs)
-    (λ c κs. search needs) (λ c κs. search needs) returns-2 returns-3)
+    (λ c κs. search needs) returns-2)

@@ -2,8 +2,8 @@
 -- Assumes nothing.
 use Rattle.laws.proofs.All.{needs}
 use Rattle.command.proofs.Ending.{misused-most}
-use Rattle.command.proofs.help.Statement.{statement}
-use Rattle.command.proofs.help.Tie as tie
+use Rattle.command.proofs.asking.help.Statement.{statement}
+use Rattle.command.proofs.asking.help.Tie as tie
 
 returns-2 : tie.Need-returns-2
 returns-2 c = misused-most (c .misused-word .result) (c .misused-word .ensures)
