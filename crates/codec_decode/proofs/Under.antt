@@ -15,7 +15,8 @@ use Rattle.codec.specs.With.{decodedWith}
 use Rattle.codec.proofs.Tabled.{decode-ready, decode-within}
 
 module _ (t : Table) (room : ℕ) (ws : List ℕ) (v : Verdict)
-    (e : (c : Code) → c .q ≡ t .q → c .window .lookahead ≡ t .lookahead → decoded c room ws ≡ verdictOn v (decode c ws)) where
+    (e : (c : Code) → c .q ≡ t .q → c .window .lookahead ≡ t .lookahead
+    → decoded c room ws ≡ verdictOn v (decode c ws)) where
   abbrev outcome : decoded (codeIn t) room ws ≡ verdictOn v (decode (codeIn t) ws)
   outcome = e (codeIn t) refl refl
 

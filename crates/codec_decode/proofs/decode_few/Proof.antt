@@ -1,6 +1,7 @@
 -- The checks in their order, then the blocks.
 -- Assumes nothing.
-use Rattle.laws.proofs.All.{_≡_, sym, subst, _∙_, true, _-_, _≤_, arith, not-true, not-false, now, T, length, drop, needs}
+use Rattle.laws.proofs.All.{_≡_, sym, subst, _∙_, true, _-_, _≤_, arith, not-true, not-false, now, T, length, drop}
+use Rattle.laws.proofs.All.{needs}
 use Rattle.answer.specs.declared.Refusal.the-variants.{Field}
 use Rattle.table.specs.Value.{Ready, ready, codeIn}
 use Rattle.table.proofs.ReadyTables.{ready→}
