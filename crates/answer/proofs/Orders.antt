@@ -1,5 +1,5 @@
 -- A row of checks is refused with r exactly when r is the refusal of the first that fails.
--- In order: first-none, first-unless; onward-exact; fitting-exact, fitting-done.
+-- In order: first-none, first-unless, first-onward; onward-exact; fitting-exact, fitting-done.
 -- Assumes nothing.
 use Rattle.laws.proofs.All.{_≡_, sym, ap, _∙_, _⊎_, inl, inr, _↔_, Bool, true, false, List, [], ℕ, _≤_, _<_, leb}
 use Rattle.laws.proofs.All.{lt-leb, length}
@@ -26,6 +26,13 @@ first-unless s false o r t (u, v) = (
   (λ e. inl (refused-inj s r e, λ p. absurd (t .passes .1 p))),
   (λ x. elim x [ inl (e, _) ↦ ap refused e | inr (p, _) ↦ absurd (t .passes .1 p) ]),
 )
+
+-- the same, where something comes after the row's result
+pub first-onward : {A B P N F : Type 0} (s : Refusal) (b : Bool) (o : Outcome A) (f : A → Outcome B) (r : Refusal)
+    → Told b P N → (onward o f ≡ refused r) ↔ F
+    → (onward (unless s b o) f ≡ refused r) ↔ (((s ≡ r) × (P → ⊥)) ⊎ (P × F))
+first-onward s true o f r t k = first-unless s true (onward o f) r t k
+first-onward s false o f r t k = first-unless s false (onward o f) r t k
 
 -- a first step, and what comes of its result
 pub onward-exact : {A B : Type 0} (o : Outcome A) (f : A → Outcome B) (r : Refusal) → (onward o f ≡ refused r)

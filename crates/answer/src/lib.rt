@@ -40,6 +40,8 @@ pub enum Refusal {
     Stream,
     // 16: recordings to be woven or unwoven whose depth is not 2 to 16, or does not divide their words.
     Depth,
+    // 17: weights that come with a job and are over cap, all 0, or short of the inequality at a state.
+    BadWeights,
 }
 
 // What a check says of a value that stands beside it: the value is good, or why it is declined.
@@ -75,6 +77,7 @@ pub fn refusal_number(r: Refusal) -> u64
         Refusal::TooManyPairs => 14,
         Refusal::Stream => 15,
         Refusal::Depth => 16,
+        Refusal::BadWeights => 17,
     }
 }
 

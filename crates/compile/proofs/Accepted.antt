@@ -25,19 +25,21 @@ use Rattle.compile_table.proofs.TableOf.{Tabled}
 use Rattle.compile_labels.proofs.Labels.{relabelled-length, tabled-relabelled}
 use Rattle.window_least.proofs.Windowed.{window-found}
 use Rattle.compile_job.specs.Jobs.{Job, Allowed}
-use Rattle.compile.specs.Compile.{ways, componentOf, startOf, finishedOf, tableFor, code, compile}
-use Rattle.compile.proofs.Compiled.{live-some, states-few, table-coded}
-use Rattle.compile.proofs.Compile.{ways-pos, Reason, reason, coded}
+use Rattle.compile.specs.Compile.{ways, weightsOf, componentOf, startOf, finishedOf, tableFor, code, compile}
+use Rattle.compile.proofs.Compiled.{states-few, table-coded}
+use Rattle.compile.proofs.Compile.{ways-pos, in-use-length, in-use-enough, job-live, Reason, reason, coded}
 
 -- the table before its data are given: n edges a state, each a word that the constraint reads between the roots
 plain-table : (j : Job) → Allowed j → 0 < sum (componentOf j .weights) → length (finishedOf j .arcs) ≤ 2048
     → (root : ℕ → ℕ) × Tabled (Reads (j .constraint) (j .q)) (ways j) (tableOf (ways j) (finishedOf j)) root
     × (root 0 ≡ startOf j) × (length (tableOf (ways j) (finishedOf j)) ≤ sum (componentOf j .weights))
 plain-table j a h few =
-    let n = ways j in
-    let (z, ez) = live-some (j .constraint) (a .well) n (j .q) (j .cap) (ways-pos j) h in
-    let (root, t, s) = table-coded (j .constraint) (a .well) n (j .q) (j .cap) (ways-pos j) z ez few in
-    (root, t, s, states-few (j .constraint) (a .well) n (j .q) (j .cap) (ways-pos j) z ez)
+    let v = weightsOf j in
+    let l = in-use-length j a in
+    let e = in-use-enough j a in
+    let (z, ez) = job-live j a h in
+    let (root, t, s) = table-coded (j .constraint) (a .well) (ways j) (j .q) (ways-pos j) v l e z ez few in
+    (root, t, s, states-few (j .constraint) (a .well) (ways j) (j .q) (ways-pos j) v l e z ez)
 
 -- the table whose data are given has n edges in each state
 pub labelled-full : (j : Job) → Allowed j → 0 < sum (componentOf j .weights) → length (finishedOf j .arcs) ≤ 2048

@@ -27,18 +27,15 @@ use Rattle.compile_table.specs.TableOf.{tableStates, tableOf}
 use Rattle.compile_table.proofs.TableOf.{table-length, reached, row-edges, reached-first, states-rise}
 use Rattle.compile_job.specs.Jobs.{Job, Allowed}
 use Rattle.compile.specs.Compile.{ways, graphOf, weightsOf, componentOf, startOf, finishedOf}
-use Rattle.compile.proofs.Compiled.{live-some}
-use Rattle.compile.proofs.Compile.{ways-pos, job-inv}
+use Rattle.compile.proofs.Compile.{ways-pos, job-inside, job-live, job-inv}
 
 module _ (j : Job) (a : Allowed j) (h : 0 < sum (componentOf j .weights)) where
   -- of the states of weight above 0 those of the component, from the start on
   pub component : IsComponent (weightsOf j) (within (live (weightsOf j)) (graphOf j)) (startOf j)
       (componentStates (weightsOf j) (graphOf j))
   component =
-      let (z, ez) = live-some (j .constraint) (a .well) (ways j) (j .q) (j .cap) (ways-pos j) h in
-      component-is (weightsOf j) (graphOf j)
-      (rw (weights-length (ways j) (graphOf j) (j .cap) (length (j .constraint)))
-      (power-inside (j .constraint) (a .well) (j .q))) z ez
+      let (z, ez) = job-live j a h in
+      component-is (weightsOf j) (graphOf j) (job-inside j a) z ez
 
   -- the graph after k splits, while splitting goes on: the next is its split, by the rule's state, list and run
   pub each-split : (k : ℕ) → let n = ways j in let x = splits k n (componentOf j) in

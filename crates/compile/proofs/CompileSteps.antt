@@ -1,11 +1,11 @@
 -- Compiling stage by stage: what each stage of the code needs, and what compiling comes to at each of its returns.
 -- In order: compile-heavy, compile-crowded, compile-table; crowded-stays; weighed-bad, weighed-good; has-states,
--- held-powers, held-tabled, held-weights, held-component; begun-splits, begun-crowded, begun-room, begun-short,
--- begun-work, begun-finished.
+-- held-powers, held-tabled, held-component, held-weights, held-computed, held-brought, held-low; begun-splits,
+-- begun-crowded, begun-room, begun-short, begun-work, begun-finished.
 -- Assumes nothing.
 use Rattle.laws.proofs.All.{_≡_, sym, ap, ap₂, subst, _∙_, Bool, true, false, not, _&&_, List, ℕ, zero, suc, _+_}
 use Rattle.laws.proofs.All.{_*_, _^_, _≤_, _<_, arith, lt-ltb, le-leb, lt-leb, ltb-false, leb, length, getD}
-use Rattle.laws.proofs.All.{length-map, pow-mono, sum, inl}
+use Rattle.laws.proofs.All.{pow-mono, sum, take, getD-take}
 use Rattle.answer.specs.declared.Refusal.{Refusal}
 use Rattle.answer.specs.declared.Refusal.the-variants.{NoCode, TooHeavy, TooManyEdges, NoWindow}
 use Rattle.answer.specs.Outcomes.{done, refused, unless}
@@ -13,12 +13,9 @@ use Rattle.answer.proofs.Outcomes.{unless-false, refused-not}
 use Rattle.answer.proofs.RefusedOutcomes.{refused-inj}
 use Rattle.compile_limits.specs.Weighed.{weighed}
 use Rattle.compile_limits.proofs.Weighed.{weighed-by}
-use Rattle.constraint.specs.Walking.{Target, walk}
 use Rattle.constraint.specs.Value.{constraintOf}
-use Rattle.constraint.specs.PowerTable.{powerCodes, codeOf, powerTable}
-use Rattle.constraint.proofs.Walking.{walk-target}
+use Rattle.constraint.specs.PowerTable.{powerCodes}
 use Rattle.constraint.proofs.Values.{length-constraintOf}
-use Rattle.constraint.proofs.PowerTable.{codes-at, length-power}
 use Rattle.table.specs.Rows.{at}
 use Rattle.window.specs.Search.{window}
 use Rattle.compile_graph.specs.declared.Graph.{Graph}
@@ -26,7 +23,7 @@ use Rattle.compile_graph.specs.declared.NextGraph.{NextGraph}
 use Rattle.compile_component.specs.declared.component_graph.ComponentAnswer.{ComponentAnswer}
 use Rattle.compile_graph.specs.Weights.{weights}
 use Rattle.compile_component.specs.ComponentParts.{FoundIn}
-use Rattle.compile_graph.specs.Arcs.{Work}
+use Rattle.compile_graph.specs.Arcs.{Arc, Work}
 use Rattle.compile_graph.specs.Splitting.{crowded, unfinished, splits, splitAll}
 use Rattle.compile_graph.specs.Invariant.{Inv}
 use Rattle.compile_graph.specs.Value.{weightsIn, workIn}
@@ -34,16 +31,16 @@ use Rattle.compile_weights.specs.PowerTable.{tabled, Powers}
 use Rattle.compile_split.specs.SplitParts.{Splits, SplitAllInto}
 use Rattle.compile_table.specs.Finishing.{Finished}
 use Rattle.compile_table.proofs.Finishing.{split-finished}
-use Rattle.compile_weights.proofs.TabledWords.{tabled-power}
+use Rattle.compile_weights.proofs.Powers as tables
 use Rattle.compile_graph.proofs.Loop.{splits-off}
 use Rattle.compile_job.specs.declared.JobValue.{JobValue}
 use Rattle.compile_job.specs.Jobs.{Job, Allowed}
 use Rattle.compile_job.proofs.JobSteps.{unless-yes}
-use Rattle.compile.specs.Compile.{ways, graphOf, weightsOf, componentOf, finishedOf, tableFor, code, compile}
+use Rattle.compile.specs.Compile.{ways, graphOf, greatestOf, weightsOf, componentOf, finishedOf, tableFor}
+use Rattle.compile.specs.Compile.{code, compile}
 use Rattle.compile_job.specs.JobValues.{jobIn, JobReady}
 use Rattle.compile.specs.Stages.{Begun}
-use Rattle.compile.proofs.Compiled.{live-some, first-inv}
-use Rattle.compile.proofs.Compile.{ways-pos, compile-none}
+use Rattle.compile.proofs.Compile.{ways-pos, in-use-vector, job-inv, compile-none}
 
 -- ---- the outcome at each return
 module _ (j : Job) where
@@ -104,72 +101,46 @@ module _ (j : JobValue) (r : JobReady j) where
   pub has-states : 0 < j .constraint .states
   has-states = let k = r .allowed .k₁ in let l = length-constraintOf (j .constraint) in omega arith
 
-  words-few : 2 ^ j .q ≤ 256
-  words-few = let h : 2 ^ j .q ≤ 2 ^ 8 = pow-mono (r .allowed .q₂) in omega arith
-
-  leads : (s w : ℕ) → s < j .constraint .states → w < 2 ^ j .q
-      → getD (powerCodes (constraintOf (j .constraint)) (j .q)) (s * 256 + w) 0
-      ≡ walk (constraintOf (j .constraint)) (j .q) w s
-  leads s w h l =
-      let k = r .limits in
-      codes-at (constraintOf (j .constraint)) (j .q) s w words-few (rw (length-constraintOf (j .constraint)) h)
-      (omega arith) l
-
-  job-powers : Powers (powerCodes (constraintOf (j .constraint)) (j .q)) (2 ^ j .q) (j .constraint .states)
-  job-powers = record {
-    long = length-map (powerTable (constraintOf (j .constraint)) (j .q)) codeOf
-        ∙ length-power (constraintOf (j .constraint)) (j .q);
-    states = r .limits;
-    few = words-few;
-    leads = λ s w h l.
-        let K = length-constraintOf (j .constraint) in
-        let h' : s < length (constraintOf (j .constraint)) = rw K h in
-        subst (λ k. Target k (getD (powerCodes (constraintOf (j .constraint)) (j .q)) (s * 256 + w) 0)) K
-        (subst (Target (length (constraintOf (j .constraint)))) (sym (leads s w h l))
-        (walk-target (constraintOf (j .constraint)) (r .allowed .well) (j .q) w s (inl h')));
-  }
-
-  job-tabled : tabled (powerCodes (constraintOf (j .constraint)) (j .q)) (2 ^ j .q) (j .constraint .states)
-      ≡ graphOf (jobIn j)
-  job-tabled =
-      let c = constraintOf (j .constraint) in
-      let K = length-constraintOf (j .constraint) in
-      ap (tabled (powerCodes c (j .q)) (2 ^ j .q)) (sym K)
-      ∙ tabled-power c (j .q) (powerCodes c (j .q)) (λ s w h l. leads s w (rw K at h) l)
-
-  -- the same of the table that the code holds
+  -- the table that the code holds
   module _ (P : List ℕ) (words : ℕ) (e : P ≡ powerCodes (constraintOf (j .constraint)) (j .q)) (f : words ≡ 2 ^ j .q)
     where
       pub held-powers : Powers P words (j .constraint .states)
       held-powers =
-          subst (λ X. Powers X words (j .constraint .states)) (sym e)
-          (subst (λ w. Powers (powerCodes (constraintOf (j .constraint)) (j .q)) w (j .constraint .states)) (sym f)
-          job-powers)
+          tables.held-powers (j .constraint) (j .q) (r .limits) (r .allowed .q₂) (r .allowed .well) P words e f
 
       pub held-tabled : tabled P words (j .constraint .states) ≡ graphOf (jobIn j)
-      held-tabled = ap₂ (λ X w. tabled X w (j .constraint .states)) e f ∙ job-tabled
+      held-tabled =
+          tables.held-tabled (j .constraint) (j .q) (r .limits) (r .allowed .q₂) (r .allowed .well) P words e f
 
-      module _ (n : ℕ) (v : List ℕ) (p : n ≡ ways (jobIn j))
-          (q : v ≡ weights n (j .cap) (j .constraint .states) (tabled P words (j .constraint .states))) where
-        pub held-weights : v ≡ weightsOf (jobIn j)
-        held-weights =
-            q ∙ ap₂ (λ m k. weights m (j .cap) k (tabled P words (j .constraint .states))) p
-            (sym (length-constraintOf (j .constraint)))
-            ∙ ap (weights (ways (jobIn j)) (j .cap) (length (jobIn j .constraint))) held-tabled
+      -- THEOREM: the component that the code finds is the job's
+      pub held-component : (v : List ℕ) → v ≡ weightsOf (jobIn j) → (x : ComponentAnswer)
+          → FoundIn v (tabled P words (j .constraint .states)) x → FoundIn (weightsOf (jobIn j)) (graphOf (jobIn j)) x
+      held-component v q x h =
+          subst (λ y. FoundIn y (graphOf (jobIn j)) x) q (subst (λ y. FoundIn v y x) held-tabled h)
 
-        -- THEOREM: the component that the code finds is the job's
-        pub held-component : (x : ComponentAnswer) → FoundIn v (tabled P words (j .constraint .states)) x
-            → FoundIn (weightsOf (jobIn j)) (graphOf (jobIn j)) x
-        held-component x h =
-            subst (λ y. FoundIn y (graphOf (jobIn j)) x) held-weights (subst (λ y. FoundIn v y x) held-tabled h)
+  -- the weights that the code finds are the greatest
+  pub held-weights : (g : List Arc) (n : ℕ) (v : List ℕ) → g ≡ graphOf (jobIn j) → n ≡ ways (jobIn j)
+      → v ≡ weights n (j .cap) (j .constraint .states) g → v ≡ greatestOf (jobIn j)
+  held-weights g n v e p q =
+      q ∙ ap₂ (λ m k. weights m (j .cap) k g) p (sym (length-constraintOf (j .constraint)))
+      ∙ ap (weights (ways (jobIn j)) (j .cap) (length (jobIn j .constraint))) e
+
+  -- and where the job brings none, they are in use; otherwise those that it brings are
+  pub held-computed : j .brings ≡ false → greatestOf (jobIn j) ≡ weightsOf (jobIn j)
+  held-computed e = rw e
+
+  pub held-brought : j .brings ≡ true → take (j .constraint .states) (j .weight) ≡ weightsOf (jobIn j)
+  held-brought e = rw e
+
+  pub held-low : j .brings ≡ true → (s : ℕ) → s < j .constraint .states → getD (j .weight) s 0 ≤ 16
+  held-low e s h =
+      let v = in-use-vector (jobIn j) (r .allowed) .capped s in
+      let q : getD (weightsOf (jobIn j)) s 0 ≡ getD (j .weight) s 0 =
+      ap (λ v. getD v s 0) (sym (held-brought e)) ∙ getD-take (j .constraint .states) (j .weight) s 0 h in
+      omega (arith, r .allowed .cap₂)
 
 -- ---- the component, split to the end
 module _ (j : Job) (a : Allowed j) (n : ℕ) (g : Graph) (start : ℕ) (b : Begun j n g start) where
-  inv : Inv (ways j) (sum (componentOf j .weights)) (componentOf j)
-  inv =
-      let (z, ez) = live-some (j .constraint) (a .well) (ways j) (j .q) (j .cap) (ways-pos j) (b .some) in
-      first-inv (j .constraint) (a .well) (ways j) (j .q) (j .cap) (ways-pos j) z ez
-
   few : n ≤ 16
   few = let e = b .count in let h : 2 ^ j .p ≤ 2 ^ 4 = pow-mono (a .p₂) in omega arith
 
@@ -182,7 +153,7 @@ module _ (j : Job) (a : Allowed j) (n : ℕ) (g : Graph) (start : ℕ) (b : Begu
     some = let e = b .count in let h = ways-pos j in omega arith;
     few = few;
     inv = subst (λ x. Inv n (sum (x .weights)) x) (sym (b .work))
-        (subst (λ m. Inv m (sum (componentOf j .weights)) (componentOf j)) (sym (b .count)) inv);
+        (subst (λ m. Inv m (sum (componentOf j .weights)) (componentOf j)) (sym (b .count)) (job-inv j a (b .some)));
     weighs = subst (λ x. sum (x .weights) ≤ 128) (sym (b .work)) (b .light);
   }
 

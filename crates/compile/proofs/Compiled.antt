@@ -1,6 +1,6 @@
--- What compiling makes of a constraint: n edges a state, each a word that the constraint reads between the roots; and
--- when all weights are 0.
--- In order: live-some, first-inv, states-few, table-coded, none-weighs.
+-- What compiling makes of a constraint under weights that meet the inequality: n edges a state, each a word that the
+-- constraint reads between the roots; and when all weights are 0.
+-- In order: inside; live-some, first-inv, first-rooted, states-few, table-coded, none-weighs.
 -- Assumes nothing.
 use Rattle.laws.proofs.All.{_≡_, refl, sym, ap, _∙_, List, [], _∷_, ℕ, zero, suc, _≤_, _<_, zero-le, suc-le-suc}
 use Rattle.laws.proofs.All.{le-refl, le-trans, le-of-eq, arith, T, lt→ltb, length, getD, length-map, from, range}
@@ -8,24 +8,22 @@ use Rattle.laws.proofs.All.{sum, elem, indexOf, length-from, Each, each-map, ea
 use Rattle.laws.proofs.All.{tot-length, tot-some, each-elem, →elem-filter, elem-range, at-index, tot-filter-le}
 use Rattle.compile_graph.specs.Invariant.{Inside, Inv}
 use Rattle.compile_graph.specs.Arcs.{Arc, Work, power, Reads}
-use Rattle.compile_graph.specs.Weights.{weights}
+use Rattle.compile_graph.specs.Weights.{Enough}
 use Rattle.compile_graph.specs.Splitting.{splitAll}
 use Rattle.constraint.specs.Walking.{Constraint, Well}
 use Rattle.compile_graph.specs.Component.{both, within, renamed, weighs, live, componentStates, componentGraph}
 use Rattle.compile_table.specs.TableOf.{tableStates, tableOf}
-use Rattle.compile_graph.proofs.Weights.{weights-length, weights-enough, enough-total}
+use Rattle.compile_graph.proofs.Weights.{enough-total}
 use Rattle.compile_graph.proofs.Found.{started-inv, start-C, in-both, v′-length}
 use Rattle.compile_graph.proofs.Power.{power-distinct, power-reads, power-inside}
 use Rattle.compile_graph.proofs.Roots.{Rooted, splits-rooted}
 use Rattle.compile_graph.proofs.Loop.{states-le, splitted-end, splitted-full}
 use Rattle.compile_table.proofs.TableOf.{Tabled, tabled, reached-first}
 
-module _ (c : Constraint) (well : Well c) (n q cap : ℕ) (hn : 0 < n) where
+module _ (c : Constraint) (well : Well c) (n q : ℕ) (hn : 0 < n) (v : List ℕ) (long : length v ≡ length c)
+    (enough : Enough n (power c q) v) where
   abbrev g : List Arc
   g = power c q
-
-  abbrev v : List ℕ
-  v = weights n cap (length c) g
 
   abbrev x : Work
   x = componentGraph v g
@@ -33,8 +31,8 @@ module _ (c : Constraint) (well : Well c) (n q cap : ℕ) (hn : 0 < n) where
   abbrev C : List ℕ
   C = componentStates v g
 
-  inside : Each (Inside (length v)) g
-  inside = rw (weights-length n g cap (length c)) (power-inside c well q)
+  pub inside : Each (Inside (length v)) g
+  inside = rw long (power-inside c well q)
 
   -- a component that weighs something has a live state
   pub live-some : 0 < sum (x .weights) → (z : ℕ) × T (elem z (live v))
@@ -49,13 +47,13 @@ module _ (c : Constraint) (well : Well c) (n q cap : ℕ) (hn : 0 < n) where
   module _ (z : ℕ) (ez : T (elem z (live v))) where
     pub first-inv : Inv n (sum (x .weights)) x
     first-inv = started-inv v g inside z ez n (power-distinct c q)
-        (enough-total n g v (weights-enough n g cap (length c) hn))
+        (enough-total n g v enough)
 
     -- before any split each state is its own root
-    abbrev Over : ℕ → ℕ → ℕ → Type 0
+    abbrev pub Over : ℕ → ℕ → ℕ → Type 0
     Over a w b = Reads c q (getD C a 0) w (getD C b 0)
 
-    first-rooted : Rooted Over (length (x .weights)) x (λ y. y)
+    pub first-rooted : Rooted Over (length (x .weights)) x (λ y. y)
     unfolding componentGraph componentStates tableStates tableOf splitAll
     first-rooted =
         record {

@@ -2,7 +2,7 @@
 -- In order: too-many-pairs; compiled-constraint; both-obeyed.
 -- Assumes nothing.
 use Rattle.laws.proofs.All.{_≡_, refl, sym, ap, subst, _∙_, _↔_, List, ℕ, _/_, _%_, _<_, length, getD, Each}
-use Rattle.laws.proofs.All.{Once, each-at}
+use Rattle.laws.proofs.All.{Once, each-at, arith}
 use Rattle.answer.specs.declared.Refusal.the-variants.{TooManyPairs}
 use Rattle.answer.specs.Outcomes.{done, refused}
 use Rattle.answer.proofs.Outcomes.{done-inj}
@@ -21,20 +21,25 @@ use Rattle.compile.specs.Compile.{compile, compileJoined}
 use Rattle.compile.specs.Kinds.{joined as two}
 use Rattle.compile.proofs.Compile.{Reason, reason, coded}
 use Rattle.compile.proofs.Accepted.{compiled-passes}
-use Rattle.compile.proofs.Written.{as-allowed, too-many, passes}
+use Rattle.compile.proofs.Early.{Early}
+use Rattle.compile.proofs.Written.{as-allowed, read-refused, passes}
 
 -- ---- 14
+many-early : Early TooManyPairs
+many-early = ((λ l. omega arith), (λ e. omega arith))
+
 pub too-many-pairs : (xs : List ℕ) (room : ℕ) → (compileJoined xs room ≡ refused TooManyPairs)
     ↔ ((c : Constraint) × (d : Constraint) × Joins xs c d
     × ((zs : List ℕ) × Once zs × Each (λ z. Reachable c d (z / 16) (z % 16)) zs × (16 < length zs)))
 too-many-pairs xs room = (
   (λ e.
-      let (c, d, s, h) = too-many-read xs .0 (too-many two xs room .0 e) in
+      let (c, d, s, h) = too-many-read xs .0 (read-refused two xs room TooManyPairs many-early .0 e) in
       let (lc, ld) = joins-lawful xs c d s in
       (c, d, s, more-pairs c d lc ld .0 h)),
   (λ (c, d, s, m).
       let (lc, ld) = joins-lawful xs c d s in
-      too-many two xs room .1 (too-many-read xs .1 (c, d, s, more-pairs c d lc ld .1 m))),
+      read-refused two xs room TooManyPairs many-early .1
+      (too-many-read xs .1 (c, d, s, more-pairs c d lc ld .1 m))),
 )
 
 -- ---- both constraints

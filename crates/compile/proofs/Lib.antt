@@ -11,3 +11,4 @@ pub mod Written
 pub mod Orders
 pub mod ByRule
 pub mod Joined
+pub mod Brought

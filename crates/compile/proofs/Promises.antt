@@ -20,8 +20,8 @@ use Rattle.compile_graph.proofs.Loop.{states-le, splitted-end, splitted-full}
 use Rattle.window_least.proofs.Windowed.{window-found}
 use Rattle.compile_job.specs.Jobs.{Job, Allowed}
 use Rattle.compile.specs.Compile.{ways, componentOf, finishedOf, tableFor, code, compile, compileInto}
-use Rattle.compile.proofs.Compiled.{live-some, first-inv}
-use Rattle.compile.proofs.Compile.{ways-pos, Reason, reason, nothing, heavy, crowding, windowless, coded}
+use Rattle.compile.proofs.Compile.{ways-pos, job-inv, Reason, reason, nothing, heavy, crowding, windowless}
+use Rattle.compile.proofs.Compile.{coded}
 use Rattle.compile.proofs.Accepted.{Made, made, compile-parses}
 
 -- ---- splitting ends with n edges a state or too many edges, and with no more states than the weights sum to
@@ -32,8 +32,7 @@ pub split-ends : (j : Job) → Allowed j → 0 < sum (componentOf j .weights)
 split-ends j a h =
     let n = ways j in
     let S = sum (componentOf j .weights) in
-    let (z, ez) = live-some (j .constraint) (a .well) n (j .q) (j .cap) (ways-pos j) h in
-    let inv = first-inv (j .constraint) (a .well) n (j .q) (j .cap) (ways-pos j) z ez in (
+    let inv = job-inv j a h in (
       states-le n S (ways-pos j) (finishedOf j) (splitted-end n S (ways-pos j) (componentOf j) inv .0),
       splitted-full n S (ways-pos j) (componentOf j) inv,
     )

@@ -1,11 +1,12 @@
--- When compiling ends in a record, and exactly when it is refused with 3 to 6, 13 and 14, from bytes to bytes.
--- In order: written-from, refused-from, short-from, early-from, none-from; kinds, as-onward, as-early, as-allowed;
--- written, calls, none, short, read-refused, too-many, never-short; passes.
+-- When compiling ends in a record, and exactly when it is refused with 3 to 6, with 13, and by reading, from bytes to
+-- bytes.
+-- In order: written-from, refused-from, short-from, early-from, none-from; kinds, as-onward, as-early,
+-- as-allowed; written, calls, none, short, read-refused, never-short; passes.
 -- Assumes nothing.
 use Rattle.laws.proofs.All.{_≡_, refl, sym, ap, _∙_, _⊎_, inl, inr, _↔_, List, ℕ, _≤_, _<_, arith, lt-leb, length}
 use Rattle.laws.proofs.All.{getD, sum}
 use Rattle.answer.specs.declared.Refusal.{Refusal}
-use Rattle.answer.specs.declared.Refusal.the-variants.{NoCode, ShortOutput, TooManyPairs}
+use Rattle.answer.specs.declared.Refusal.the-variants.{NoCode, ShortOutput}
 use Rattle.answer.specs.Refusals.{numberOf}
 use Rattle.answer.specs.Outcomes.{Outcome, done, refused, onward, fitting}
 use Rattle.answer.proofs.Outcomes.{onward→, fitting-true}
@@ -25,7 +26,7 @@ use Rattle.compile.proofs.Compile.{no-code-exact}
 use Rattle.compile.proofs.Accepted.{compiled-passes}
 use Rattle.compile.proofs.Promises.{packed}
 use Rattle.answer.proofs.RefusedOutcomes.{onward-refused, fitting-refused}
-use Rattle.compile.proofs.Early.{Early, early-not, read-early, run-length-early, joined-early}
+use Rattle.compile.proofs.Early.{Early, read-early, run-length-early, joined-early}
 use Rattle.compile.proofs.Exact.{weighs-some, compile-done, compile-refused}
 
 -- o is the reading of a job
@@ -61,7 +62,7 @@ module _ (o : Outcome Job) (early : (r : Refusal) → o ≡ refused r → Early 
     where
       there : onward o (compileInto room) ≡ refused r → (j : Job) × (o ≡ done j) × (compile j ≡ refused r)
       there e =
-          let (j, p, s) = from-refused r (λ k. omega (arith, early-not r k .0 l)) e in elim s [
+          let (j, p, s) = from-refused r (λ k. omega (arith, k .0 l)) e in elim s [
             | inl q ↦ (j, p, q)
             | inr (c, _, q) ↦ absurd (let n = ap numberOf (fitting-refused room (pack c) r q .0) in omega arith)
           ]
@@ -75,23 +76,23 @@ module _ (o : Outcome Job) (early : (r : Refusal) → o ≡ refused r → Early 
       there : onward o (compileInto room) ≡ refused ShortOutput
           → (j : Job) × (c : Code) × (o ≡ done j) × (compile j ≡ done c) × (room < length (pack c))
       there e =
-          let (j, p, s) = from-refused ShortOutput (λ k. early-not ShortOutput k .1 refl) e in
+          let (j, p, s) = from-refused ShortOutput (λ k. k .1 refl) e in
           elim s [
             | inl q ↦ absurd (omega (arith, compile-refused j ShortOutput q))
             | inr (c, q, k) ↦ (j, c, p, q, fitting-refused room (pack c) ShortOutput k .1)
           ]
 
-  -- 1, 2, 8 and 14 come from reading
+  -- all others come from reading
   early-from : (r : Refusal) → Early r → (onward o (compileInto room) ≡ refused r) ↔ (o ≡ refused r)
   unfolding packInto
-  early-from r h = (there, (λ e. rw e))
+  early-from r (h, n) = (there, (λ e. rw e))
     where
       there : onward o (compileInto room) ≡ refused r → o ≡ refused r
       there e = elim (onward-refused o (compileInto room) r e) [
         | inl q ↦ q
         | inr (j, p, q) ↦ elim (onward-refused (compile j) (λ c. packInto c room) r q) [
-          | inl u ↦ let (a, b) = compile-refused j r u in absurd (omega (arith, early-not r h .0 a))
-          | inr (c, _, u) ↦ absurd (early-not r h .1 (ap numberOf (fitting-refused room (pack c) r u .0)))
+          | inl u ↦ let (a, b) = compile-refused j r u in absurd (omega (arith, h a))
+          | inr (c, _, u) ↦ absurd (n (ap numberOf (fitting-refused room (pack c) r u .0)))
         ]
       ]
 
@@ -112,7 +113,7 @@ pub kinds : (xs : List ℕ) (room : ℕ) → ((readAs general xs ≡ readJob xs)
     × (compileAs joined xs room ≡ compileJoined xs room))
 kinds xs room = ((refl, refl), (refl, refl), (refl, refl))
 
-as-onward : (k : Kind) (xs : List ℕ) (room : ℕ) → onward (readAs k xs) (compileInto room) ≡ compileAs k xs room
+pub as-onward : (k : Kind) (xs : List ℕ) (room : ℕ) → onward (readAs k xs) (compileInto room) ≡ compileAs k xs room
 unfolding compileJob compileRunLength compileJoined
 as-onward general xs room = refl
 as-onward run-length xs room = refl
@@ -153,12 +154,9 @@ module _ (k : Kind) (xs : List ℕ) (room : ℕ) where
       ↔ ((j : Job) × (c : Code) × (readAs k xs ≡ done j) × (compile j ≡ done c) × (room < length (pack c)))
   short = rw (as-onward k xs room) at (short-from (readAs k xs) (as-early k xs) room)
 
-  -- 1, 2, 8 and 14 are those of reading the job
+  -- 1, 2, 8, 14 and 17 are those of reading the job
   pub read-refused : (r : Refusal) → Early r → (compileAs k xs room ≡ refused r) ↔ (readAs k xs ≡ refused r)
   read-refused r h = rw (as-onward k xs room) at (early-from (readAs k xs) (as-early k xs) room r h)
-
-  pub too-many : (compileAs k xs room ≡ refused TooManyPairs) ↔ (readAs k xs ≡ refused TooManyPairs)
-  too-many = read-refused TooManyPairs (inr (inr refl))
 
   -- with room for the longest record 13 never comes
   pub never-short : 3865 ≤ room → compileAs k xs room ≡ refused ShortOutput → ⊥

@@ -1,6 +1,7 @@
 -- "Compiling": a job to a code, and to its record in lent bytes, with refusals "3, 4, 5, 6, 13" in this order.
--- In order: ways, graphOf; Vector, what the weights are the greatest of; weightsOf, componentOf, startOf, finishedOf,
--- tableFor; code, compile; compileInto; compileJob, compileRunLength, compileJoined, from bytes to bytes.
+-- In order: ways, graphOf; Vector, what the weights are the greatest of; greatestOf, used, weightsOf, componentOf,
+-- startOf, finishedOf, tableFor; code, compile; compileInto; compileJob, compileRunLength, compileJoined, from bytes to
+-- bytes.
 -- Assumes nothing.
 use mathlib.Core.Bool.{not}
 use mathlib.Core.List.{List}
@@ -19,7 +20,7 @@ use Rattle.compile_graph.specs.Component.{componentStates, componentGraph}
 use Rattle.compile_graph.specs.Splitting.{crowded, splitAll}
 use Rattle.compile_table.specs.TableOf.{tableOf}
 use Rattle.compile_labels.specs.Labels.{relabelled}
-use Rattle.compile_job.specs.Jobs.{Job, readJob, readRunLength, readJoined}
+use Rattle.compile_job.specs.Jobs.{Choice, computed, brought, Job, readJob, readRunLength, readJoined}
 
 -- "Let n = 2^p."
 abbrev pub ways : Job → ℕ
@@ -35,9 +36,18 @@ pub record Vector (j : Job) (u : List ℕ) : Type 0 where
   pub capped : (s : ℕ) → getD u s 0 ≤ j .cap
   pub enough : Enough (ways j) (graphOf j) u
 
--- the weights of the constraint's states
+-- the greatest weights of the constraint's states
+abbrev pub greatestOf : Job → List ℕ
+greatestOf j = weights (ways j) (j .cap) (length (j .constraint)) (graphOf j)
+
+-- those, or the weights that come with the job
+abbrev pub used : List ℕ → Choice → List ℕ
+used v computed = v
+used v (brought u) = u
+
+-- the weights of the constraint's states: "The component, the splits and everything after use them"
 abbrev pub weightsOf : Job → List ℕ
-weightsOf j = weights (ways j) (j .cap) (length (j .constraint)) (graphOf j)
+weightsOf j = used (greatestOf j) (j .choice)
 
 -- the component with its weights
 abbrev pub componentOf : Job → Work

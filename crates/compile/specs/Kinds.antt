@@ -1,10 +1,10 @@
 -- The three kinds of job, so that what holds of all is said once.
--- In order: Kind; readAs; compileAs.
+-- In order: Kind; heldAs, readAs; compileAs.
 -- Assumes nothing.
 use mathlib.Core.List.{List}
 use Prim.Native.Nat.{ℕ}
 use Rattle.answer.specs.Outcomes.{Outcome}
-use Rattle.compile_job.specs.Jobs.{Job, readJob, readRunLength, readJoined}
+use Rattle.compile_job.specs.Jobs.{Job, heldJob, readJob, heldRunLength, readRunLength, readJoined}
 use Rattle.compile.specs.Compile.{compileJob, compileRunLength, compileJoined}
 
 -- "A job", "A run-length job", and a job "for both" of two constraints
@@ -12,6 +12,12 @@ pub data Kind : Type 0 where
   general : Kind
   run-length : Kind
   joined : Kind
+
+-- the job in the bytes, before the weights that come with it are looked at
+abbrev pub heldAs : Kind → List ℕ → Outcome Job
+heldAs general xs = heldJob xs
+heldAs run-length xs = heldRunLength xs
+heldAs joined xs = readJoined xs
 
 -- the job in the bytes
 abbrev pub readAs : Kind → List ℕ → Outcome Job

@@ -1,5 +1,8 @@
 // A job compiled: weights, component, splits, table, data, window, with refusals "3, 4, 5, 6" in this order.
 ghost use mathlib.Core.Path.{_≡_};
+ghost use Prim.Native.Nat.{ℕ, _≤_, _<_};
+ghost use lib.ListN.{getD, take};
+ghost use Rattle.compile_weights.specs.PowerTable.{tabled, Powers};
 ghost use Rattle.answer.specs.declared.Verdict.the-variants.{Good};
 ghost use Rattle.record.specs.Checks.{outcomeIn};
 ghost use Rattle.compile_component.specs.ComponentParts.{FoundIn};
@@ -25,6 +28,20 @@ use table::Table;
 use table::chains::ways;
 use window_least::with_window;
 
+// The weights of a job: those that it brings, or the greatest.
+pub fn weights_of(j: JobValue, power: &[u8; 4096], words: usize, n: usize) -> [usize; 16]
+    requires { ⌜ JobReady j × Powers (now power) words (j .constraint .states)
+        × (tabled (now power) words (j .constraint .states) ≡ graphOf (jobIn j)) × (n ≡ ways (jobIn j)) ⌝ }
+    ensures answer { λ r. ⌜ (take (j .constraint .states) r ≡ weightsOf (jobIn j))
+        × ((s : ℕ) → s < j .constraint .states → getD r s 0 ≤ 16) ⌝ }
+{
+    if j.brings {
+        let weight = j.weight;
+        return weight;
+    }
+    state_weights(power, words, j.constraint.states, n, j.cap)
+}
+
 // The component of a job, with n ways out of each state to come.
 fn component_of(j: JobValue, n: usize) -> ComponentAnswer
     requires { ⌜ JobReady j × (n ≡ ways (jobIn j)) ⌝ }
@@ -33,7 +50,7 @@ fn component_of(j: JobValue, n: usize) -> ComponentAnswer
     let power = power_codes(j.constraint, j.q);
     let words = bits::power(j.q);
     let k = j.constraint.states;
-    let v = state_weights(&power, words, k, n, j.cap);
+    let v = weights_of(j, &power, words, n);
     find_component(&power, words, k, v)
 }
 

@@ -1,15 +1,18 @@
 -- Weights: the greatest vector with A v ≥ n v and entries up to cap.
--- In order: enough-total, weights-length, weights-fixed, weights-enough, weights-greatest,
--- weights-cap.
+-- In order: enough-total, weights-length, weights-fixed, weights-enough, weights-greatest, weights-cap; passing-exact,
+-- still-meets.
 -- Assumes nothing.
 use Rattle.laws.proofs.All.{_≡_, refl, sym, ap, ap₂, _∙_, _⊎_, inl, inr, List, [], _∷_, ℕ, zero, suc, _*_, _/_, _≤_}
 use Rattle.laws.proofs.All.{_<_, zero-le, min, le-of-suc-le-suc, not-suc-le-zero, le-trans, le-of-eq, add-le-add}
 use Rattle.laws.proofs.All.{min-le-left, le-min, zero-min, le-div-iff-mul-le, arith, decLt, length, getD}
 use Rattle.laws.proofs.All.{length-map, replicate, length-replicate, List·getD-eq-default, getD-replicate, range}
 use Rattle.laws.proofs.All.{sum, sum-replicate, length-from, map-range-at, iterate-keeps, settles, tot-le}
-use Rattle.laws.proofs.All.{each-always}
+use Rattle.laws.proofs.All.{each-always, min-le-right, min-eq-left, zero-mul, _↔_, T, _&&_, ltb→lt, lt→ltb, leb→le}
+use Rattle.laws.proofs.All.{le→leb, any, all, and→, →and, all-below→, →all-below, any-below→, →any-below}
 use Rattle.compile_graph.specs.Arcs.{Arc, out}
-use Rattle.compile_graph.specs.Weights.{lower, lowered, weights, Enough, AtMost, product, total, weight}
+use Rattle.compile_graph.specs.Weights.{lower, lowered, weights, Enough, AtMost, product, total, weight, low}
+use Rattle.compile_graph.specs.Weights.{meets}
+use Rattle.compile_graph.specs.Weights.{weighty, passing, Passing}
 use Rattle.compile_graph.proofs.Exchange.{exchange}
 
 product-mono : (u v : List ℕ) → AtMost u v → (g : List Arc) (s : ℕ) → product g u s ≤ product g v s
@@ -111,3 +114,58 @@ weights-cap n g cap K =
       | no h ↦ rw (List·getD-eq-default (replicate K cap) 0 {n = s} (rw (length-replicate K cap) (omega arith)))
           zero-le
     ]
+
+-- ---- weights that are brought
+module _ (n cap : ℕ) (g : List Arc) (v : List ℕ) where
+  -- a state that has no weight weighs 0
+  there-or : (s : ℕ) → (s < length v) ⊎ (getD v s 0 ≡ 0)
+  there-or s = elim (decLt s (length v)) [
+    | yes h ↦ inl h
+    | no h ↦ inr (List·getD-eq-default v 0 {n = s} (omega arith))
+  ]
+
+  -- THEOREM: the test of weights says what they must be
+  pub passing-exact : T (passing n cap g v) ↔ Passing n cap g v
+  unfolding passing
+  passing-exact = (there, back)
+    where
+      S : List ℕ
+      S = range (length v)
+
+      there : T (all (low cap v) S && (any (weighty v) S && all (meets n g v) S)) → Passing n cap g v
+      there t =
+          let (a, u) = and→ (all (low cap v) S) (any (weighty v) S && all (meets n g v) S) t in
+          let (b, c) = and→ (any (weighty v) S) (all (meets n g v) S) u in
+          let (i, _, p) = any-below→ (weighty v) (length v) b in
+          record {
+            capped = λ s. elim (there-or s) [
+              | inl h ↦ leb→le (getD v s 0) cap (all-below→ (low cap v) (length v) a s h)
+              | inr z ↦ rw z zero-le
+            ];
+            some = (i, ltb→lt 0 (getD v i 0) p);
+            enough = λ s. elim (there-or s) [
+              | inl h ↦ leb→le (getD v s 0 * n) (product g v s) (all-below→ (meets n g v) (length v) c s h)
+              | inr z ↦ le-trans (le-of-eq (ap (λ w. w * n) z ∙ zero-mul n)) zero-le
+            ];
+          }
+
+      back : Passing n cap g v → T (all (low cap v) S && (any (weighty v) S && all (meets n g v) S))
+      back p =
+          let (i, h) = p .some in
+          →and (all (low cap v) S) (any (weighty v) S && all (meets n g v) S)
+          (→all-below (low cap v) (length v) (λ s l. le→leb (getD v s 0) cap (p .capped s)))
+          (→and (any (weighty v) S) (all (meets n g v) S)
+          (→any-below (weighty v) (length v) i (within i h (there-or i)) (lt→ltb 0 (getD v i 0) h))
+          (→all-below (meets n g v) (length v) (λ s l. le→leb (getD v s 0 * n) (product g v s) (p .enough s))))
+        where
+          within : (i : ℕ) → 0 < getD v i 0 → (i < length v) ⊎ (getD v i 0 ≡ 0) → i < length v
+          within i h (inl l) = l
+          within i h (inr z) = absurd (omega arith)
+
+  -- the inequality holds at a state exactly when lowering leaves its weight
+  pub still-meets : 0 < n → (s : ℕ) → (lower n g v s ≡ getD v s 0) ↔ T (meets n g v s)
+  still-meets hn s = (
+    (λ e. le→leb (getD v s 0 * n) (product g v s) (le-div-iff-mul-le hn .0
+        (le-trans (le-of-eq (sym e)) (min-le-right (getD v s 0) (product g v s / n))))),
+    (λ t. min-eq-left (le-div-iff-mul-le hn .1 (leb→le (getD v s 0 * n) (product g v s) t))),
+  )

@@ -1,11 +1,14 @@
 -- "Weights" (in the field: an approximate eigenvector of the graph of words).
--- In order: wordsBetween, A(s, t); term, product, A v; Enough, the inequality; AtMost, the order of vectors; lower,
--- lowered, weights; weight and total, the weights to which edges lead.
+-- In order: wordsBetween, A(s, t); product, A v; Enough, the inequality; AtMost, the order of vectors; lower, lowered,
+-- weights; low, weighty, meets, passing, Passing, weights that are brought; weight and total, the weights to which
+-- edges lead.
 -- Assumes nothing.
+use mathlib.Core.Bool.{Bool, _&&_}
 use mathlib.Core.List.{List, map}
-use Prim.Native.Nat.{ℕ, _*_, _/_, _≤_, min}
+use Prim.Native.Nat.{ℕ, _*_, _/_, _≤_, _<_, min}
+use lib.Dec.{ltb, leb}
 use lib.ListN.{length, getD, replicate}
-use Rattle.laws.specs.Lists.{range, sum, filter, iterate}
+use Rattle.laws.specs.Lists.{range, sum, filter, any, all, iterate}
 use Rattle.laws.specs.Sums.{tot}
 use Rattle.compile_graph.specs.Arcs.{Arc, enters, out}
 
@@ -41,6 +44,30 @@ lowered n g v = map (lower n g v) (range (length v))
 -- so K × cap rounds are enough
 unfoldable pub weights : ℕ → ℕ → ℕ → List Arc → List ℕ
 weights n cap K g = iterate (lowered n g) (K * cap) (replicate K cap)
+
+-- the weight of state s is at most cap
+abbrev pub low : ℕ → List ℕ → ℕ → Bool
+low cap v s = leb (getD v s 0) cap
+
+-- it is above 0
+abbrev pub weighty : List ℕ → ℕ → Bool
+weighty v s = ltb 0 (getD v s 0)
+
+-- the inequality at state s
+abbrev pub meets : ℕ → List Arc → List ℕ → ℕ → Bool
+meets n g v s = leb (getD v s 0 * n) (product g v s)
+
+-- weights that are brought "must be at most cap, not all 0, and meet the inequality at each state of the constraint"
+unfoldable pub passing : ℕ → ℕ → List Arc → List ℕ → Bool
+passing n cap g v =
+    let S = range (length v) in
+    all (low cap v) S && (any (weighty v) S && all (meets n g v) S)
+
+-- what that test means
+pub record Passing (n cap : ℕ) (g : List Arc) (v : List ℕ) : Type 0 where
+  pub capped : (s : ℕ) → getD v s 0 ≤ cap
+  pub some : (s : ℕ) × (0 < getD v s 0)
+  pub enough : Enough n g v
 
 -- the weight of the state to which an edge leads
 abbrev pub weight : List ℕ → Arc → ℕ

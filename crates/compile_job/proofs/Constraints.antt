@@ -1,7 +1,7 @@
 -- A constraint that is read from a row of bytes is lawful: it has 1 to 16 states, and their next states are states or
 -- none.
 -- In order: checked, from-checked, the checks after K's; constraint-refused; states-well; length-statesOf;
--- constraintFrom-lawful, constraintFrom-length.
+-- constraintFrom-lawful, constraintFrom-length, constraintFrom-fits.
 -- Assumes nothing.
 use Rattle.laws.proofs.All.{_≡_, refl, sym, ap, subst, _∙_, _⊎_, inl, inr, Bool, _&&_, List, ℕ, zero, suc, _+_, _*_}
 use Rattle.laws.proofs.All.{_≤_, T, ltb, leb, eqb, ltb→lt, leb→le, eqb→eq, length, getD, drop, all, and→, or→, each-map}
@@ -57,29 +57,33 @@ length-statesOf zero xs = refl
 length-statesOf (suc K) xs = ap suc (length-statesOf K (drop 2 xs))
 
 checked-lawful : (fit : Bool) (K : ℕ) (c d : Constraint) → length c ≡ K → checked fit K c ≡ done d
-    → Lawful d × (length d ≡ K)
+    → Lawful d × (length d ≡ K) × T fit
 checked-lawful fit K c d l e =
     let (tk, e₁) = unless→ States (leb 1 K && leb K 16) _ d e in
-    let (_, e₂) = unless→ Length fit _ d e₁ in
+    let (tf, e₂) = unless→ Length fit _ d e₁ in
     let (ts, e₃) = unless→ States (all (goodNext K) c) _ d e₂ in
     let (k₁, k₂) = and→ (leb 1 K) (leb K 16) tk in
     let n₁ : 1 ≤ K = leb→le 1 K k₁ in
     let n₂ : K ≤ 16 = leb→le K 16 k₂ in
     let lawful : Lawful c = record { some = rw l n₁; few = rw l n₂; well = states-well K c l ts } in
-    subst (λ c. Lawful c × (length c ≡ K)) (done-inj c d e₃) (lawful, l)
+    subst (λ c. Lawful c × (length c ≡ K) × T fit) (done-inj c d e₃) (lawful, l, tf)
 
 -- ---- a constraint that is read
 module _ (fits : ℕ → ℕ → Bool) (ys : List ℕ) (c : Constraint) (e : constraintFrom fits ys ≡ done c) where
-  both : Lawful c × (length c ≡ getD ys 0 0)
-  both =
+  all-three : Lawful c × (length c ≡ getD ys 0 0) × T (fits (1 + 2 * getD ys 0 0) (length ys))
+  all-three =
       let K = getD ys 0 0 in
       let (_, e₁) = unless→ Length (leb 1 (length ys)) _ c (sym (from-checked fits ys) ∙ e) in
       checked-lawful (fits (1 + 2 * K) (length ys)) K (statesOf K (drop 1 ys)) c (length-statesOf K (drop 1 ys)) e₁
 
   -- THEOREM: it is lawful
   pub constraintFrom-lawful : Lawful c
-  constraintFrom-lawful = both .0
+  constraintFrom-lawful = all-three .0
 
   -- and has as many states as K says
   pub constraintFrom-length : length c ≡ getD ys 0 0
-  constraintFrom-length = both .1
+  constraintFrom-length = all-three .1
+
+  -- and the bytes that are there fit
+  pub constraintFrom-fits : T (fits (1 + 2 * length c) (length ys))
+  constraintFrom-fits = rw constraintFrom-length (all-three .2)

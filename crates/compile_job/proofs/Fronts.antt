@@ -1,17 +1,21 @@
 -- The front of a job's bytes, p, q and cap: what its checks come to, and what is known where they pass.
 -- In order: front-short, front-parameters, front-passed; fronted→; fronted-onward; front-bad, front-good, front-long;
--- allowed-of.
+-- allowed-of; fitted-allowed.
 -- Assumes nothing.
-use Rattle.laws.proofs.All.{_≡_, refl, ap, _∙_, Bool, true, false, _&&_, List, ℕ, _≤_, _<_, T, leb, leb→le, le→leb}
+use Rattle.laws.proofs.All.{_≡_, refl, ap, subst, _∙_, Bool, true, false, _&&_, List, ℕ, _^_, _≤_, _<_, T, leb}
+use Rattle.laws.proofs.All.{leb→le, le→leb}
 use Rattle.laws.proofs.All.{lt-leb, length, getD, and→}
 use Rattle.answer.specs.declared.Refusal.{Refusal}
-use Rattle.answer.specs.declared.Refusal.the-variants.{Parameters, Length}
+use Rattle.answer.specs.declared.Refusal.the-variants.{Parameters, Length, BadWeights}
 use Rattle.answer.specs.declared.Verdict.{Verdict}
 use Rattle.answer.specs.declared.Verdict.the-variants.{Good, Bad}
 use Rattle.answer.specs.Outcomes.{Outcome, done, refused, unless, onward, verdictOn}
-use Rattle.answer.proofs.Outcomes.{unless-true, unless-false, unless→, said-good, said-bad}
-use Rattle.constraint.specs.Walking.{Constraint, Lawful}
-use Rattle.compile_job.specs.Jobs.{goodParameters, fronted, Allowed}
+use Rattle.answer.proofs.Outcomes.{done-inj, unless-true, unless-false, unless→, onward→, said-good, said-bad}
+use Rattle.compile_graph.specs.Arcs.{power}
+use Rattle.compile_graph.proofs.Weights.{passing-exact}
+use Rattle.compile_job.specs.Jobs.{Choice, computed, brought, Job, goodParameters, fit, fitted, fronted, Fitting}
+use Rattle.compile_job.specs.Jobs.{Allowed}
+use Rattle.compile_job.specs.JobValues.{Counted, Held}
 
 -- ---- its checks, with what follows
 module _ {A : Type 0} (xs : List ℕ) (o : Outcome A) where
@@ -57,10 +61,19 @@ module _ (xs : List ℕ) (v : Verdict) (e : verdictOn v xs ≡ fronted xs (done 
   pub front-long : v ≡ Good → 4 ≤ length xs
   front-long q = fronted→ xs (done xs) xs (said-good v xs (fronted xs (done xs)) e q) .0
 
--- ---- parameters in range and a lawful constraint
-pub allowed-of : (p q cap : ℕ) (c : Constraint) → T (goodParameters p q cap) → Lawful c
-    → Allowed (record { p = p; q = q; cap = cap; constraint = c })
-allowed-of p q cap c t l =
+-- ---- parameters in range, a lawful constraint, and weights that pass where there are any
+fitting : (j : Job) (ch : Choice) → Counted j ch → T (fit j ch) → Fitting j ch
+fitting j computed c t = tt
+fitting j (brought u) c t =
+    (c, passing-exact (2 ^ j .p) (j .cap) (power (j .constraint) (j .q)) u .0 t)
+
+pub allowed-of : (j : Job) → Held j → T (fit j (j .choice)) → Allowed j
+allowed-of j h f =
+    let p = j .p in
+    let q = j .q in
+    let cap = j .cap in
+    let t = h .parameters in
+    let l = h .lawful in
     let (tp, u) = and→ (leb 1 p && leb p 4) ((leb 1 q && leb q 8) && (leb 1 cap && leb cap 16)) t in
     let (tq, tc) = and→ (leb 1 q && leb q 8) (leb 1 cap && leb cap 16) u in
     let (p₁, p₂) = and→ (leb 1 p) (leb p 4) tp in
@@ -76,4 +89,13 @@ allowed-of p q cap c t l =
       k₁ = l .some;
       k₂ = l .few;
       well = l .well;
+      fit = fitting j (j .choice) (h .counted) f;
     }
+
+-- THEOREM: a job whose weights are checked is allowed
+pub fitted-allowed : (o : Outcome Job) (j : Job) → onward o fitted ≡ done j → ((j : Job) → o ≡ done j → Held j)
+    → Allowed j
+fitted-allowed o j e held =
+    let (i, p, q) = onward→ o fitted j e in
+    let (t, s) = unless→ BadWeights (fit i (i .choice)) (done i) j q in
+    subst Allowed (done-inj i j s) (allowed-of i (held i p) t)

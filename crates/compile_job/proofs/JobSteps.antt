@@ -1,11 +1,11 @@
 -- A job read check by check: what reading comes to at each return of the code, and what holds of what is read.
--- In order: in-range, sized-fits; unless-yes; onward-bad, onward-good; jobOf; missing-count, bad-count, bad-size,
+-- In order: in-range, sized-fits; unless-yes; onward-bad, onward-good; missing-count, bad-count, bad-size,
 -- bad-states, good-constraint; lawful-kept; run-length-size, run-length-parameters, run-length-range,
--- run-length-good; ready-kept.
+-- run-length-count, run-length-good; ready-kept.
 -- Assumes nothing.
 use Rattle.laws.proofs.All.{_≡_, refl, sym, ap, ap₂, subst, _∙_, Bool, true, false, _&&_, List, _∷_, map, ℕ, zero}
 use Rattle.laws.proofs.All.{suc, _+_, _*_, _≤_, arith, T, leb, eqb, leb→le, leb-true, eqb-true, length, getD, drop}
-use Rattle.laws.proofs.All.{getD-drop, drop-drop, all, from, range, and→}
+use Rattle.laws.proofs.All.{getD-drop, drop-drop, all, from, range, and→, or→, inl, inr, _||_, _/_, eqb→eq}
 use Rattle.answer.specs.declared.Refusal.{Refusal}
 use Rattle.answer.specs.declared.Refusal.the-variants.{Parameters, States, Length}
 use Rattle.answer.specs.declared.Verdict.{Verdict}
@@ -21,7 +21,9 @@ use Rattle.table.proofs.ReadyTables.{all-map}
 use Rattle.compile_job.specs.declared.JobValue.{JobValue}
 use Rattle.compile_job.specs.declared.JobAnswer.{JobAnswer}
 use Rattle.compile_job.specs.declared.ConstraintAnswer.{ConstraintAnswer}
-use Rattle.compile_job.specs.Jobs.{Job, goodParameters, statesOf, constraintFrom, readRunLength, Allowed}
+use Rattle.compile_job.specs.Jobs.{Job, goodParameters, bringing, heldWith, statesOf, constraintFrom}
+use Rattle.compile_job.specs.Jobs.{heldRunLength}
+use Rattle.compile_job.specs.Jobs.{Allowed}
 use Rattle.compile_job.specs.JobValues.{jobIn, JobReady, jobOutcome, stateAt, goodStateAt, sized}
 use Rattle.compile_job.specs.JobValues.{constraintOutcome}
 use Rattle.compile_job.proofs.Constraints.{checked, from-checked, constraintFrom-lawful}
@@ -31,9 +33,13 @@ in-range low x high e =
     let (a, b) = and→ (leb low x) (leb x high) (subst T (sym e) tt) in
     (leb→le low x a, leb→le x high b)
 
-pub sized-fits : (whole : Bool) (m n : ℕ) → sized whole m n ≡ true → m ≤ n
-sized-fits true m n e = omega (arith, eqb-true m n e)
-sized-fits false m n e = leb-true m n e
+pub sized-fits : (whole weights : Bool) (m n : ℕ) → sized whole weights m n ≡ true → m ≤ n
+sized-fits true true m n e = elim (or→ (eqb m n) (eqb (m + m / 2) n) (subst T (sym e) tt)) [
+  | inl u ↦ omega (arith, eqb→eq m n u)
+  | inr u ↦ omega (arith, eqb→eq (m + m / 2) n u)
+]
+sized-fits true false m n e = omega (arith, eqb-true m n e)
+sized-fits false weights m n e = leb-true m n e
 
 -- ---- one check
 pub unless-yes : {A : Type 0} (r : Refusal) (b : Bool) (x : Outcome A) → b ≡ true → unless r b x ≡ x
@@ -46,10 +52,6 @@ module _ {A B : Type 0} (v : Verdict) (a : A) (f : A → Outcome B) where
 
   pub onward-good : v ≡ Good → onward (verdictOn v a) f ≡ f a
   onward-good q = ap (λ v. onward (verdictOn v a) f) q
-
--- the job with these fields
-abbrev pub jobOf : ℕ → ℕ → ℕ → Constraint → JobValue
-jobOf p q cap k = record { p = p; q = q; cap = cap; constraint = k }
 
 -- ---- the states in a constraint's bytes
 states-from : (K i : ℕ) (ys : List ℕ) → statesOf K (drop (1 + i * 2) ys) ≡ map (stateAt ys) (from i K)
@@ -118,38 +120,43 @@ lawful-kept fits ys r e = (
 
 -- ---- a run-length job
 module _ (xs : List ℕ) where
-  pub run-length-size : eqb (length xs) 5 ≡ false → readRunLength xs ≡ refused Length
-  unfolding readRunLength
+  pub run-length-size : leb 5 (length xs) ≡ false → heldRunLength xs ≡ refused Length
+  unfolding heldRunLength
   run-length-size e = unless-false Length _ _ e
 
-  module _ (e₀ : eqb (length xs) 5 ≡ true) where
-    five : readRunLength xs ≡ unless Parameters (goodParameters (getD xs 2 0) (getD xs 3 0) (getD xs 4 0))
+  module _ (e₀ : leb 5 (length xs) ≡ true) where
+    five : heldRunLength xs ≡ unless Parameters (goodParameters (getD xs 2 0) (getD xs 3 0) (getD xs 4 0))
         (unless States (leb (getD xs 0 0) (getD xs 1 0) && leb (getD xs 1 0) 15)
-        (done (record {
-          p = getD xs 2 0;
-          q = getD xs 3 0;
-          cap = getD xs 4 0;
-          constraint = runLength (getD xs 0 0) (getD xs 1 0);
-        })))
-    unfolding readRunLength
+        (unless Length (eqb (length xs) 5 || eqb (length xs) (5 + (getD xs 1 0 + 1)))
+        (done (heldWith (getD xs 2 0) (getD xs 3 0) (getD xs 4 0) (runLength (getD xs 0 0) (getD xs 1 0))
+        (bringing 5 xs)))))
+    unfolding heldRunLength
     five = unless-yes Length _ _ e₀
 
     pub run-length-parameters : goodParameters (getD xs 2 0) (getD xs 3 0) (getD xs 4 0) ≡ false
-        → readRunLength xs ≡ refused Parameters
+        → heldRunLength xs ≡ refused Parameters
     run-length-parameters e = five ∙ unless-false Parameters _ _ e
 
     module _ (e₁ : goodParameters (getD xs 2 0) (getD xs 3 0) (getD xs 4 0) ≡ true) where
       pub run-length-range : (leb (getD xs 0 0) (getD xs 1 0) && leb (getD xs 1 0) 15) ≡ false
-          → readRunLength xs ≡ refused States
+          → heldRunLength xs ≡ refused States
       run-length-range e = five ∙ unless-yes Parameters _ _ e₁ ∙ unless-false States _ _ e
 
-      -- THEOREM: the run-length job that is read
-      pub run-length-good : (leb (getD xs 0 0) (getD xs 1 0) && leb (getD xs 1 0) 15) ≡ true
-          → (k : Constraint) → constraintOf k ≡ runLength (getD xs 0 0) (getD xs 1 0)
-          → readRunLength xs ≡ done (jobIn (jobOf (getD xs 2 0) (getD xs 3 0) (getD xs 4 0) k))
-      run-length-good e k s =
-          five ∙ unless-yes Parameters _ _ e₁ ∙ unless-yes States _ _ e
-          ∙ ap (λ c. done (record { p = getD xs 2 0; q = getD xs 3 0; cap = getD xs 4 0; constraint = c })) (sym s)
+      module _ (e₂ : (leb (getD xs 0 0) (getD xs 1 0) && leb (getD xs 1 0) 15) ≡ true) where
+        pub run-length-count : (eqb (length xs) 5 || eqb (length xs) (5 + (getD xs 1 0 + 1))) ≡ false
+            → heldRunLength xs ≡ refused Length
+        run-length-count e =
+            five ∙ unless-yes Parameters _ _ e₁ ∙ unless-yes States _ _ e₂ ∙ unless-false Length _ _ e
+
+        -- THEOREM: the run-length job that is read
+        pub run-length-good : (eqb (length xs) 5 || eqb (length xs) (5 + (getD xs 1 0 + 1))) ≡ true
+            → (j : JobValue) (c : Constraint) → constraintOf c ≡ runLength (getD xs 0 0) (getD xs 1 0)
+            → jobIn j ≡ heldWith (getD xs 2 0) (getD xs 3 0) (getD xs 4 0) (constraintOf c) (bringing 5 xs)
+            → heldRunLength xs ≡ done (jobIn j)
+        run-length-good e j c s q =
+            five ∙ unless-yes Parameters _ _ e₁ ∙ unless-yes States _ _ e₂ ∙ unless-yes Length _ _ e
+            ∙ ap (λ c. done (heldWith (getD xs 2 0) (getD xs 3 0) (getD xs 4 0) c (bringing 5 xs))) (sym s)
+            ∙ ap done (sym q)
 
 -- ---- a job that is read
 -- a job beside the verdict `Good` is ready to be compiled, where those that are read are allowed

@@ -1,4 +1,5 @@
 pub mod Constraints
+pub mod Weights
 pub mod Fronts
 pub mod Joining
 pub mod Jobs

@@ -1,19 +1,25 @@
 -- A job of each kind is refused by reading exactly with the refusal of the first check that its bytes do not meet.
--- In order: told-by, told-ranged, told-few, state-fact, nexts-from, told-nexts, what the tests say; read-order;
--- run-length-order.
+-- In order: told-by, told-ranged, told-few, state-fact, nexts-from, told-nexts, told-either, told-fit, what the tests
+-- say; read-order; run-length-order.
 -- Assumes nothing.
-use Rattle.laws.proofs.All.{_≡_, refl, sym, ap, subst, _∙_, _⊎_, inl, inr, _↔_, Bool, true, false, _&&_, List, [], _∷_}
-use Rattle.laws.proofs.All.{ℕ, zero, suc, _+_, _*_, _≤_, _<_, arith, T, leb, ltb, eqb, eqb→eq, ltb→lt, lt→ltb, length}
-use Rattle.laws.proofs.All.{getD, drop, getD-drop, all, and→, →and, or→, →orL, →orR}
+use Rattle.laws.proofs.All.{_≡_, refl, sym, ap, subst, _∙_, _⊎_, inl, inr, _↔_, Bool, true, false, _&&_, _||_, List, []}
+use Rattle.laws.proofs.All.{_∷_, ℕ, zero, suc, _+_, _*_, _^_, _≤_, _<_, arith, ℕ-discrete, T, leb, ltb, eqb, eqb→eq}
+use Rattle.laws.proofs.All.{ltb→lt, lt→ltb, length, getD, drop, getD-drop, all, and→, →and, or→, →orL, →orR}
 use Rattle.answer.specs.declared.Refusal.{Refusal}
-use Rattle.answer.specs.declared.Refusal.the-variants.{Parameters, States, Length}
-use Rattle.answer.specs.Outcomes.{refused}
+use Rattle.answer.specs.declared.Refusal.the-variants.{Parameters, States, Length, BadWeights}
+use Rattle.answer.specs.Outcomes.{done, refused}
 use Rattle.answer.specs.Orders.{check, First}
 use Rattle.answer.proofs.Due.{Told, told-le, told-eq, told-and}
-use Rattle.answer.proofs.Orders.{first-none, first-unless}
+use Rattle.answer.proofs.Orders.{first-none, first-unless, first-onward}
+use Rattle.constraint.specs.Walking.{runLength}
 use Rattle.table.specs.Formed.{goodState, goodNext}
-use Rattle.compile_job.specs.Jobs.{goodParameters, statesOf, readJob, readRunLength}
+use Rattle.compile_graph.specs.Arcs.{power}
+use Rattle.compile_graph.specs.Weights.{Passing}
+use Rattle.compile_graph.proofs.Weights.{passing-exact}
+use Rattle.compile_job.specs.Jobs.{Job, goodParameters, bringing, fit, fitted, statesOf, heldJob, readJob}
+use Rattle.compile_job.specs.Jobs.{heldRunLength, readRunLength, heldWith}
 use Rattle.compile_job.specs.Ranges.{Ranged, Few, Nexts}
+use Rattle.compile_job.proofs.Weights.{bringing-none, bringing-some}
 
 -- ---- what the tests say
 pub told-by : {P : Type 0} (b : Bool) → (T b → P) → (P → T b) → Told b P (P → ⊥)
@@ -77,33 +83,73 @@ pub told-nexts : (K : ℕ) (ys : List ℕ) → Told (all (goodNext K) (statesOf 
 told-nexts K ys =
     let (f, g) = nexts-from K K ys in told-by (all (goodNext K) (statesOf K ys)) f g
 
+-- one of two lengths
+told-either : (n a b : ℕ) → Told (eqb n a || eqb n b) ((n ≡ a) ⊎ (n ≡ b)) ((n ≡ a) ⊎ (n ≡ b) → ⊥)
+told-either n a b =
+    told-by (eqb n a || eqb n b)
+    (λ t. elim (or→ (eqb n a) (eqb n b) t) [ inl u ↦ inl (eqb→eq n a u) | inr u ↦ inr (eqb→eq n b u) ])
+    (λ x. elim x [
+      | inl e ↦ →orL (eqb n a) (eqb n b) (told-eq n a .passes .1 e)
+      | inr e ↦ →orR (eqb n a) (eqb n b) (told-eq n b .passes .1 e)
+    ])
+
+-- no weights come with a job of `size` bytes; those that come with a longer one pass
+told-fit : (j : Job) (size : ℕ) (xs : List ℕ) → let P = (length xs ≡ size)
+    ⊎ Passing (2 ^ j .p) (j .cap) (power (j .constraint) (j .q)) (drop size xs) in
+    Told (fit j (bringing size xs)) P (P → ⊥)
+told-fit j size xs =
+    let u = drop size xs in
+    let (f, g) = passing-exact (2 ^ j .p) (j .cap) (power (j .constraint) (j .q)) u in
+    elim (ℕ-discrete (length xs) size) [
+      | yes e ↦ told-by (fit j (bringing size xs)) (λ t. inl e)
+            (λ p. subst (λ ch. T (fit j ch)) (sym (bringing-none size xs e)) tt)
+      | no n ↦
+            let b = bringing-some size xs n in
+            told-by (fit j (bringing size xs)) (λ t. inr (f (subst (λ ch. T (fit j ch)) b t)))
+            (λ p. elim p [
+              | inl e ↦ absurd (n e)
+              | inr q ↦ subst (λ ch. T (fit j ch)) (sym b) (g q)
+            ])
+    ]
+
 -- ---- a job
 pub read-order : (xs : List ℕ) (r : Refusal) → let n = length xs in let K = getD xs 3 0 in
     (readJob xs ≡ refused r)
     ↔ First (check Length (4 ≤ n) ∷ check Parameters (Ranged (getD xs 0 0) (getD xs 1 0) (getD xs 2 0))
-    ∷ check States (Few K) ∷ check Length (n ≡ 4 + 2 * K) ∷ check States (Nexts K (drop 4 xs)) ∷ []) r
-unfolding readJob
+    ∷ check States (Few K) ∷ check Length ((n ≡ 4 + 2 * K) ⊎ (n ≡ 4 + 3 * K)) ∷ check States (Nexts K (drop 4 xs))
+    ∷ check BadWeights ((n ≡ 4 + 2 * K) ⊎ Passing (2 ^ getD xs 0 0) (getD xs 2 0)
+    (power (statesOf K (drop 4 xs)) (getD xs 1 0)) (drop (4 + 2 * K) xs)) ∷ []) r
+unfolding readJob heldJob
 read-order xs r =
+    let n = length xs in
     let K = getD xs 3 0 in
-    first-unless Length (leb 4 (length xs)) _ r (told-le 4 (length xs))
-    (first-unless Parameters (goodParameters (getD xs 0 0) (getD xs 1 0) (getD xs 2 0)) _ r
+    let c = statesOf K (drop 4 xs) in
+    let j = heldWith (getD xs 0 0) (getD xs 1 0) (getD xs 2 0) c (bringing (4 + 2 * K) xs) in
+    first-onward Length (leb 4 n) _ fitted r (told-le 4 n)
+    (first-onward Parameters (goodParameters (getD xs 0 0) (getD xs 1 0) (getD xs 2 0)) _ fitted r
     (told-ranged (getD xs 0 0) (getD xs 1 0) (getD xs 2 0))
-    (first-unless States (leb 1 K && leb K 16) _ r (told-few K)
-    (first-unless Length (eqb (length xs) (4 + 2 * K)) _ r (told-eq (length xs) (4 + 2 * K))
-    (first-unless States (all (goodNext K) (statesOf K (drop 4 xs))) _ r (told-nexts K (drop 4 xs))
-    (first-none _ r)))))
+    (first-onward States (leb 1 K && leb K 16) _ fitted r (told-few K)
+    (first-onward Length (eqb n (4 + 2 * K) || eqb n (4 + 3 * K)) _ fitted r (told-either n (4 + 2 * K) (4 + 3 * K))
+    (first-onward States (all (goodNext K) c) _ fitted r (told-nexts K (drop 4 xs))
+    (first-unless BadWeights (fit j (j .choice)) (done j) r (told-fit j (4 + 2 * K) xs) (first-none j r))))))
 
 -- ---- a run-length job
-pub run-length-order : (xs : List ℕ) (r : Refusal) → let d = getD xs 0 0 in let k = getD xs 1 0 in
-    (readRunLength xs ≡ refused r)
-    ↔ First (check Length (length xs ≡ 5) ∷ check Parameters (Ranged (getD xs 2 0) (getD xs 3 0) (getD xs 4 0))
-    ∷ check States ((d ≤ k) × (k ≤ 15)) ∷ []) r
-unfolding readRunLength
+pub run-length-order : (xs : List ℕ) (r : Refusal) → let n = length xs in let d = getD xs 0 0 in
+    let k = getD xs 1 0 in (readRunLength xs ≡ refused r)
+    ↔ First (check Length (5 ≤ n) ∷ check Parameters (Ranged (getD xs 2 0) (getD xs 3 0) (getD xs 4 0))
+    ∷ check States ((d ≤ k) × (k ≤ 15)) ∷ check Length ((n ≡ 5) ⊎ (n ≡ 5 + (k + 1)))
+    ∷ check BadWeights ((n ≡ 5) ⊎ Passing (2 ^ getD xs 2 0) (getD xs 4 0) (power (runLength d k) (getD xs 3 0))
+    (drop 5 xs)) ∷ []) r
+unfolding readRunLength heldRunLength
 run-length-order xs r =
+    let n = length xs in
     let d = getD xs 0 0 in
     let k = getD xs 1 0 in
-    first-unless Length (eqb (length xs) 5) _ r (told-eq (length xs) 5)
-    (first-unless Parameters (goodParameters (getD xs 2 0) (getD xs 3 0) (getD xs 4 0)) _ r
+    let j = heldWith (getD xs 2 0) (getD xs 3 0) (getD xs 4 0) (runLength d k) (bringing 5 xs) in
+    first-onward Length (leb 5 n) _ fitted r (told-le 5 n)
+    (first-onward Parameters (goodParameters (getD xs 2 0) (getD xs 3 0) (getD xs 4 0)) _ fitted r
     (told-ranged (getD xs 2 0) (getD xs 3 0) (getD xs 4 0))
-    (first-unless States (leb d k && leb k 15) _ r
-    (told-and (leb d k) (leb k 15) (told-le d k) (told-le k 15)) (first-none _ r)))
+    (first-onward States (leb d k && leb k 15) _ fitted r
+    (told-and (leb d k) (leb k 15) (told-le d k) (told-le k 15))
+    (first-onward Length (eqb n 5 || eqb n (5 + (k + 1))) _ fitted r (told-either n 5 (5 + (k + 1)))
+    (first-unless BadWeights (fit j (j .choice)) (done j) r (told-fit j 5 xs) (first-none j r)))))

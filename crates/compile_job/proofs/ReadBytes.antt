@@ -1,19 +1,22 @@
--- What a job that is read has from its bytes: its numbers, and every next state of its constraint.
--- In order: states-after, states-at, run-at, run-on, run-end, run-short, run-back, where a bit leads; job-is, job-read;
--- run-length-is, run-length-read; from-states, read-after, one constraint at an offset; joined-read.
+-- What a job that is read has from its bytes: its numbers, every next state of its constraint, and its weights.
+-- In order: states-after, states-at, run-at, run-on, run-end, run-short, run-back, where a bit leads; fitted-is,
+-- bytes-bring; job-is, job-read; run-length-is, run-length-read; from-states, read-after, one constraint at an offset;
+-- joined-read.
 -- Assumes nothing.
-use Rattle.laws.proofs.All.{_≡_, refl, sym, ap, subst, _∙_, Bool, _&&_, List, ℕ, zero, suc, _+_, _*_, _≤_, _<_, arith}
-use Rattle.laws.proofs.All.{leb, eqb, leb→le, lt-ltb, le-ltb, lt-leb, le-leb, length, getD, drop, getD-drop, drop-drop}
-use Rattle.laws.proofs.All.{add-zero, all, and→, map-range-at}
-use Rattle.answer.specs.declared.Refusal.the-variants.{Parameters, States, Length}
-use Rattle.answer.specs.Outcomes.{done}
-use Rattle.answer.proofs.Outcomes.{done-inj, unless→}
+use Rattle.laws.proofs.All.{_≡_, refl, sym, ap, subst, _∙_, _⊎_, inl, inr, Bool, _&&_, _||_, List, ℕ, zero, suc, _+_}
+use Rattle.laws.proofs.All.{_*_, _≤_, _<_, arith, T, leb, eqb, leb→le, eqb→eq, lt-ltb, le-ltb, lt-leb, le-leb, length}
+use Rattle.laws.proofs.All.{getD, drop, getD-drop, drop-drop, add-zero, all, and→, or→, map-range-at}
+use Rattle.answer.specs.declared.Refusal.the-variants.{Parameters, States, Length, BadWeights}
+use Rattle.answer.specs.Outcomes.{Outcome, done, onward}
+use Rattle.answer.proofs.Outcomes.{done-inj, unless→, onward→}
 use Rattle.constraint.specs.Walking.{Constraint, runLengthState, runLength, nowhere, after}
 use Rattle.constraint.proofs.Walking.{length-runLength}
 use Rattle.table.specs.Formed.{goodNext}
-use Rattle.compile_job.specs.Jobs.{Job, goodParameters, statesOf, readJob, readRunLength, constraintFrom}
-use Rattle.compile_job.specs.Jobs.{jobWith, Joins}
+use Rattle.compile_job.specs.Jobs.{computed, brought, Job, goodParameters, bringing, fit, fitted, statesOf}
+use Rattle.compile_job.specs.Jobs.{heldJob, readJob, heldRunLength, readRunLength, constraintFrom, heldWith}
+use Rattle.compile_job.specs.Jobs.{Joins}
 use Rattle.compile_job.proofs.Constraints.{length-statesOf, constraintFrom-length}
+use Rattle.compile_job.proofs.Weights.{bringing-none, bringing-some}
 
 -- ---- where a bit leads
 -- in states that are read from the front of bytes
@@ -50,55 +53,83 @@ module _ (d k : ℕ) where
   run-back : (i : ℕ) → d ≤ i → i ≤ k → after (runLength d k) i 1 ≡ 0
   run-back i h l = ap (λ r. r .one) (run-at i l) ∙ rw (le-leb d i h)
 
+-- ---- the weights that come with a job
+-- checking them changes nothing
+fitted-is : (o : Outcome Job) (j : Job) → onward o fitted ≡ done j → o ≡ done j
+fitted-is o j e =
+    let (i, p, q) = onward→ o fitted j e in p ∙ unless→ BadWeights (fit i (i .choice)) (done i) j q .1
+
+-- none at one length, the bytes after the job at the other
+bytes-bring : (size long : ℕ) (xs : List ℕ) → size < long
+    → T (eqb (length xs) size || eqb (length xs) long)
+    → ((length xs ≡ size) × (bringing size xs ≡ computed))
+    ⊎ ((length xs ≡ long) × (bringing size xs ≡ brought (drop size xs)))
+bytes-bring size long xs h t = elim (or→ (eqb (length xs) size) (eqb (length xs) long) t) [
+  | inl u ↦ let e = eqb→eq (length xs) size u in inl (e, bringing-none size xs e)
+  | inr u ↦ let e = eqb→eq (length xs) long u in inr (e, bringing-some size xs (λ k. omega arith))
+]
+
 -- ---- a job
-job-is : (xs : List ℕ) (j : Job) → readJob xs ≡ done j → j ≡ jobWith xs (statesOf (getD xs 3 0) (drop 4 xs))
-unfolding readJob
+job-is : (xs : List ℕ) (j : Job) → readJob xs ≡ done j → let K = getD xs 3 0 in (1 ≤ K)
+    × T (eqb (length xs) (4 + 2 * K) || eqb (length xs) (4 + 3 * K))
+    × (j ≡ heldWith (getD xs 0 0) (getD xs 1 0) (getD xs 2 0) (statesOf K (drop 4 xs)) (bringing (4 + 2 * K) xs))
+unfolding readJob heldJob
 job-is xs j e =
     let K = getD xs 3 0 in
     let c = statesOf K (drop 4 xs) in
-    let (_, e₁) = unless→ Length (leb 4 (length xs)) _ j e in
+    let (_, e₁) = unless→ Length (leb 4 (length xs)) _ j (fitted-is (heldJob xs) j e) in
     let (_, e₂) = unless→ Parameters (goodParameters (getD xs 0 0) (getD xs 1 0) (getD xs 2 0)) _ j e₁ in
-    let (_, e₃) = unless→ States (leb 1 K && leb K 16) _ j e₂ in
-    let (_, e₄) = unless→ Length (eqb (length xs) (4 + 2 * K)) _ j e₃ in
+    let (tk, e₃) = unless→ States (leb 1 K && leb K 16) _ j e₂ in
+    let (tl, e₄) = unless→ Length (eqb (length xs) (4 + 2 * K) || eqb (length xs) (4 + 3 * K)) _ j e₃ in
     let (_, e₅) = unless→ States (all (goodNext K) c) _ j e₄ in
-    sym (done-inj (jobWith xs c) j e₅)
+    (leb→le 1 K (and→ (leb 1 K) (leb K 16) tk .0), tl, sym (done-inj _ j e₅))
 
--- THEOREM: p, q, cap and K are its first four bytes, and its next states the bytes after them
+-- THEOREM: p, q, cap and K are its first four bytes, its next states the bytes after them, and then come its weights
 pub job-read : (xs : List ℕ) (j : Job) → readJob xs ≡ done j → let K = getD xs 3 0 in (j .p ≡ getD xs 0 0)
     × (j .q ≡ getD xs 1 0) × (j .cap ≡ getD xs 2 0) × (length (j .constraint) ≡ K)
     × ((s b : ℕ) → s < K → b < 2 → after (j .constraint) s b ≡ getD xs (4 + 2 * s + b) 0)
+    × (((length xs ≡ 4 + 2 * K) × (j .choice ≡ computed))
+    ⊎ ((length xs ≡ 4 + 3 * K) × (j .choice ≡ brought (drop (4 + 2 * K) xs))))
 job-read xs j e =
     let K = getD xs 3 0 in
-    let q = job-is xs j e in (
+    let (h, t, q) = job-is xs j e in (
       ap (λ j. j .p) q,
       ap (λ j. j .q) q,
       ap (λ j. j .cap) q,
       ap (λ j. length (j .constraint)) q ∙ length-statesOf K (drop 4 xs),
       λ s b h l. ap (λ j. after (j .constraint) s b) q ∙ states-at K 4 xs s b h l,
+      subst (λ ch. ((length xs ≡ 4 + 2 * K) × (ch ≡ computed))
+          ⊎ ((length xs ≡ 4 + 3 * K) × (ch ≡ brought (drop (4 + 2 * K) xs)))) (sym (ap (λ j. j .choice) q))
+          (bytes-bring (4 + 2 * K) (4 + 3 * K) xs (omega arith) t),
     )
 
 -- ---- a run-length job
 run-length-is : (xs : List ℕ) (j : Job) → readRunLength xs ≡ done j → let d = getD xs 0 0 in let k = getD xs 1 0 in
-    (d ≤ k) × (j ≡ record { p = getD xs 2 0; q = getD xs 3 0; cap = getD xs 4 0; constraint = runLength d k })
-unfolding readRunLength
+    (d ≤ k) × T (eqb (length xs) 5 || eqb (length xs) (5 + (k + 1)))
+    × (j ≡ heldWith (getD xs 2 0) (getD xs 3 0) (getD xs 4 0) (runLength d k) (bringing 5 xs))
+unfolding readRunLength heldRunLength
 run-length-is xs j e =
     let d = getD xs 0 0 in
     let k = getD xs 1 0 in
-    let (_, e₁) = unless→ Length (eqb (length xs) 5) _ j e in
+    let (_, e₁) = unless→ Length (leb 5 (length xs)) _ j (fitted-is (heldRunLength xs) j e) in
     let (_, e₂) = unless→ Parameters (goodParameters (getD xs 2 0) (getD xs 3 0) (getD xs 4 0)) _ j e₁ in
-    let (t, e₃) = unless→ States (leb d k && leb k 15) _ j e₂ in
-    (leb→le d k (and→ (leb d k) (leb k 15) t .0), sym (done-inj _ j e₃))
+    let (tk, e₃) = unless→ States (leb d k && leb k 15) _ j e₂ in
+    let (tl, e₄) = unless→ Length (eqb (length xs) 5 || eqb (length xs) (5 + (k + 1))) _ j e₃ in
+    (leb→le d k (and→ (leb d k) (leb k 15) tk .0), tl, sym (done-inj _ j e₄))
 
--- THEOREM: p, q and cap are its last three bytes, and from state i bit 0 leads to i + 1 below k, bit 1 to 0 from d on
+-- THEOREM: p, q and cap are its bytes 2 to 4, from state i bit 0 leads to i + 1 below k and bit 1 to 0 from d on, and
+-- then come its weights
 pub run-length-read : (xs : List ℕ) (j : Job) → readRunLength xs ≡ done j → let d = getD xs 0 0 in
     let k = getD xs 1 0 in let c = j .constraint in (j .p ≡ getD xs 2 0) × (j .q ≡ getD xs 3 0)
     × (j .cap ≡ getD xs 4 0) × (length c ≡ k + 1)
     × ((i : ℕ) → i < k → after c i 0 ≡ i + 1) × (after c k 0 ≡ 255)
     × ((i : ℕ) → i < d → after c i 1 ≡ 255) × ((i : ℕ) → d ≤ i → i ≤ k → after c i 1 ≡ 0)
+    × (((length xs ≡ 5) × (j .choice ≡ computed))
+    ⊎ ((length xs ≡ 5 + (k + 1)) × (j .choice ≡ brought (drop 5 xs))))
 run-length-read xs j e =
     let d = getD xs 0 0 in
     let k = getD xs 1 0 in
-    let (h, q) = run-length-is xs j e in (
+    let (h, t, q) = run-length-is xs j e in (
       ap (λ j. j .p) q,
       ap (λ j. j .q) q,
       ap (λ j. j .cap) q,
@@ -107,6 +138,9 @@ run-length-read xs j e =
       ap (λ j. after (j .constraint) k 0) q ∙ run-end d k,
       λ i l. ap (λ j. after (j .constraint) i 1) q ∙ run-short d k i l h,
       λ i l m. ap (λ j. after (j .constraint) i 1) q ∙ run-back d k i l m,
+      subst (λ ch. ((length xs ≡ 5) × (ch ≡ computed))
+          ⊎ ((length xs ≡ 5 + (k + 1)) × (ch ≡ brought (drop 5 xs)))) (sym (ap (λ j. j .choice) q))
+          (bytes-bring 5 (5 + (k + 1)) xs (omega arith) t),
     )
 
 -- ---- two constraints

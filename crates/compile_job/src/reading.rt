@@ -1,17 +1,22 @@
 // Jobs of all kinds, read from bytes with their refusals.
 ghost use mathlib.Core.Path.{_≡_};
+ghost use mathlib.Core.Bool.{_||_};
 ghost use Prim.Native.Nat.{_+_, _*_, _≤_, min};
+ghost use lib.Dec.{eqb};
 ghost use lib.ListN.{length, getD};
 ghost use Rattle.answer.specs.Outcomes.{refused, done, onward, verdictOn};
 ghost use Rattle.answer.specs.declared.Verdict.the-variants.{Good};
 ghost use Rattle.constraint.specs.Walking.{Lawful};
 ghost use Rattle.constraint.specs.Value.{constraintOf};
-ghost use Rattle.compile_job.specs.Jobs.{goodParameters, readJob, readRunLength, readJoined};
-ghost use Rattle.compile_job.specs.Jobs.{fronted, jobWith, joinedJob};
-ghost use Rattle.compile_job.specs.JobValues.{jobOutcome, constraintOutcome, JobReady};
+ghost use Rattle.compile_job.specs.Jobs.{goodParameters, heldJob, readJob, heldRunLength, readRunLength};
+ghost use Rattle.compile_job.specs.Jobs.{readJoined};
+ghost use Rattle.compile_job.specs.Jobs.{readListed, fitted, fronted, jobBringing, jobWith, joinedJob};
+ghost use Rattle.compile_job.specs.JobValues.{jobIn, jobOutcome, constraintOutcome, Held, Sized, JobReady};
 use crate::ConstraintAnswer;
 use crate::JobAnswer;
 use crate::JobValue;
+use crate::bringing::bring;
+use crate::bringing::passes;
 use crate::rules::between;
 use crate::rules::read_constraint;
 use answer::Refusal;
@@ -34,6 +39,8 @@ fn declined(r: Refusal) -> JobAnswer
         q: 0,
         cap: 0,
         constraint: constraint,
+        brings: false,
+        weight: [0usize; 16],
     };
     JobAnswer {
         verdict: Verdict::Bad(r),
@@ -68,6 +75,27 @@ fn front_verdict(bytes: &[u8]) -> Verdict
     Verdict::Good
 }
 
+// The job that was read, or 17 for weights that fail.
+fn fit_read(r: JobAnswer) -> JobAnswer
+    requires { ⌜ (r .verdict ≡ Good → Held (jobIn (r .job))) ⌝ }
+    ensures answer { λ x. ⌜ jobOutcome x ≡ onward (jobOutcome r) fitted ⌝ }
+{
+    let v = r.verdict;
+    let j = r.job;
+    match v {
+        Verdict::Bad(x) => declined(x),
+        Verdict::Good => {
+            if passes(j) {
+                return JobAnswer {
+                    verdict: Verdict::Good,
+                    job: j,
+                };
+            }
+            declined(Refusal::BadWeights)
+        }
+    }
+}
+
 // The job with p, q and cap at the start of its bytes.
 fn job_with(bytes: &[u8], c: Constraint) -> JobAnswer
     requires { ⌜ 4 ≤ length (now bytes) ⌝ }
@@ -78,6 +106,8 @@ fn job_with(bytes: &[u8], c: Constraint) -> JobAnswer
         q: bytes[1] as usize,
         cap: bytes[2] as usize,
         constraint: c,
+        brings: false,
+        weight: [0usize; 16],
     };
     JobAnswer {
         verdict: Verdict::Good,
@@ -85,29 +115,52 @@ fn job_with(bytes: &[u8], c: Constraint) -> JobAnswer
     }
 }
 
-// The job of a constraint that was read.
+// The job of a constraint that was read, with the weights after it.
 fn job_of(bytes: &[u8], r: ConstraintAnswer) -> JobAnswer
-    requires { ⌜ 4 ≤ length (now bytes) ⌝ }
+    requires { ⌜ (4 ≤ length (now bytes)) × (r .verdict ≡ Good → (r .constraint .states ≤ 16)
+        × Sized (4 + 2 * r .constraint .states) (r .constraint .states) (length (now bytes))) ⌝ }
     ensures answer { λ x. ⌜ jobOutcome x
-        ≡ onward (constraintOutcome r) (λ c. done (jobWith (now (bytes .entry)) c)) ⌝ }
+        ≡ onward (constraintOutcome r) (λ c. done (jobBringing (now (bytes .entry)) c)) ⌝ }
 {
     let v = r.verdict;
     let c = r.constraint;
     match v {
         Verdict::Bad(x) => declined(x),
-        Verdict::Good => job_with(bytes, c),
+        Verdict::Good => {
+            let size = 4 + 2 * c.states;
+            let job = bring(
+                bytes,
+                size,
+                bytes[0] as usize,
+                bytes[1] as usize,
+                bytes[2] as usize,
+                c,
+            );
+            JobAnswer {
+                verdict: Verdict::Good,
+                job: job,
+            }
+        }
     }
 }
 
-// The job that bytes hold, or the refusal: "8 below four bytes, 1, K by 2, 8, next states by 2".
+// The job that bytes hold, its weights not yet checked, or the refusal: "8 below four bytes, 1, K by 2, 8, next states
+// by 2".
+fn hold_job(bytes: &[u8]) -> JobAnswer
+    ensures answer { λ r. ⌜ jobOutcome r ≡ heldJob (now (bytes .entry)) ⌝ }
+{
+    match front_verdict(bytes) {
+        Verdict::Bad(r) => declined(r),
+        Verdict::Good => job_of(bytes, read_constraint(&bytes[3..], true, true)),
+    }
+}
+
+// The job that bytes hold, or the refusal: "8 below four bytes, 1, K by 2, 8, next states by 2", 17.
 pub fn read_job(bytes: &[u8]) -> JobAnswer
     ensures answer { λ r. ⌜ jobOutcome r ≡ readJob (now (bytes .entry)) ⌝ }
     ensures kept { λ r. ⌜ (r .verdict ≡ Good → JobReady (r .job)) ⌝ }
 {
-    match front_verdict(bytes) {
-        Verdict::Bad(r) => declined(r),
-        Verdict::Good => job_of(bytes, read_constraint(&bytes[3..], true)),
-    }
+    fit_read(hold_job(bytes))
 }
 
 // Where the second constraint of a joined job starts: after as many states as the first says, within the bytes.
@@ -165,20 +218,31 @@ pub fn read_joined(bytes: &[u8]) -> JobAnswer
     match front_verdict(bytes) {
         Verdict::Bad(r) => declined(r),
         Verdict::Good => {
-            let first = read_constraint(&bytes[3..], false);
+            let first = read_constraint(&bytes[3..], false, false);
             let start = second_start(bytes);
-            let second = read_constraint(&bytes[start..], true);
+            let second = read_constraint(&bytes[start..], true, false);
             join_read(bytes, first, second)
         }
     }
 }
 
-// The job that the bytes d, k, p, q, cap hold, or the refusal: "8, 1, 2".
-pub fn read_run_length(bytes: &[u8]) -> JobAnswer
-    ensures answer { λ r. ⌜ jobOutcome r ≡ readRunLength (now (bytes .entry)) ⌝ }
-    ensures kept { λ r. ⌜ (r .verdict ≡ Good → JobReady (r .job)) ⌝ }
+// Whether there are `size` bytes, or one more for each state.
+fn is_counted(size: usize, states: usize, count: usize) -> bool
+    requires { ⌜ (size ≤ 5) × (states ≤ 16) ⌝ }
+    ensures answer { λ r. ⌜ r ≡ (eqb count size || eqb count (size + states)) ⌝ }
 {
-    if bytes.len() != 5 {
+    if count == size {
+        return true;
+    }
+    count == size + states
+}
+
+// The job that the bytes d, k, p, q, cap hold, its weights not yet checked, or the refusal: "8 below five bytes, 1, 2,
+// 8 for a length other than 5 or 5 + K".
+fn hold_run_length(bytes: &[u8]) -> JobAnswer
+    ensures answer { λ r. ⌜ jobOutcome r ≡ heldRunLength (now (bytes .entry)) ⌝ }
+{
+    if bytes.len() < 5 {
         return declined(Refusal::Length);
     }
     let p = bytes[2] as usize;
@@ -192,14 +256,32 @@ pub fn read_run_length(bytes: &[u8]) -> JobAnswer
     if !between(k, d, 15) {
         return declined(Refusal::States);
     }
-    let job = JobValue {
-        p: p,
-        q: q,
-        cap: cap,
-        constraint: run_length(d, k),
-    };
+    if !is_counted(5, k + 1, bytes.len()) {
+        return declined(Refusal::Length);
+    }
+    let job = bring(bytes, 5, p, q, cap, run_length(d, k));
     JobAnswer {
         verdict: Verdict::Good,
         job: job,
     }
+}
+
+// The run-length job that bytes hold, or the refusal: "8 below five bytes, 1, 2, 8 for a length other than 5 or 5 + K",
+// 17.
+pub fn read_run_length(bytes: &[u8]) -> JobAnswer
+    ensures answer { λ r. ⌜ jobOutcome r ≡ readRunLength (now (bytes .entry)) ⌝ }
+    ensures kept { λ r. ⌜ (r .verdict ≡ Good → JobReady (r .job)) ⌝ }
+{
+    fit_read(hold_run_length(bytes))
+}
+
+// The run-length job of a listing, which takes no weights: any length but five is refused first.
+pub fn read_listed(bytes: &[u8]) -> JobAnswer
+    ensures answer { λ r. ⌜ jobOutcome r ≡ readListed (now (bytes .entry)) ⌝ }
+    ensures kept { λ r. ⌜ (r .verdict ≡ Good → JobReady (r .job)) ⌝ }
+{
+    if bytes.len() != 5 {
+        return declined(Refusal::Length);
+    }
+    read_run_length(bytes)
 }

@@ -100,20 +100,28 @@ fn no_constraint(r: Refusal) -> ConstraintAnswer
     }
 }
 
-// Whether a constraint that takes `size` bytes fits those that are there: all of them, or as many at least.
-fn is_sized(whole: bool, size: usize, bytes: usize) -> bool
-    ensures answer { λ r. ⌜ r ≡ sized whole size bytes ⌝ }
+// Whether a constraint that takes `size` bytes fits those that are there: all of them, all but a byte for each state,
+// or as many at least.
+fn is_sized(whole: bool, weights: bool, size: usize, bytes: usize) -> bool
+    requires { ⌜ size ≤ 33 ⌝ }
+    ensures answer { λ r. ⌜ r ≡ sized whole weights size bytes ⌝ }
 {
-    if whole {
+    if !whole {
+        return size <= bytes;
+    }
+    if !weights {
         return size == bytes;
     }
-    size <= bytes
+    if size == bytes {
+        return true;
+    }
+    size + size / 2 == bytes
 }
 
-// The constraint at the start of the bytes, or the refusal: "8 for a missing K, K by 2, 8, next states by 2". It is
-// to take all of the bytes, or bytes may be left over.
-pub fn read_constraint(bytes: &[u8], whole: bool) -> ConstraintAnswer
-    ensures answer { λ r. ⌜ constraintOutcome r ≡ constraintFrom (sized whole) (now (bytes .entry)) ⌝ }
+// The constraint at the start of the bytes, or the refusal: "8 for a missing K, K by 2, 8, next states by 2". It is to take
+// all of the bytes, or all but its weights, or bytes may be left over.
+pub fn read_constraint(bytes: &[u8], whole: bool, weights: bool) -> ConstraintAnswer
+    ensures answer { λ r. ⌜ constraintOutcome r ≡ constraintFrom (sized whole weights) (now (bytes .entry)) ⌝ }
     ensures kept { λ r. ⌜ (r .verdict ≡ Good → Lawful (constraintOf (r .constraint))) ⌝ }
 {
     if bytes.len() < 1 {
@@ -123,7 +131,7 @@ pub fn read_constraint(bytes: &[u8], whole: bool) -> ConstraintAnswer
     if !between(count, 1, 16) {
         return no_constraint(Refusal::States);
     }
-    if !is_sized(whole, 1 + 2 * count, bytes.len()) {
+    if !is_sized(whole, weights, 1 + 2 * count, bytes.len()) {
         return no_constraint(Refusal::Length);
     }
     if !good_states(bytes, count) {

@@ -1,10 +1,10 @@
 // "Weights." The words from each state to each are counted once; each round replaces all weights together.
 ghost use mathlib.Core.Path.{_≡_};
-ghost use mathlib.Core.Bool.{true};
 ghost use Prim.Native.Nat.{ℕ, _+_, _*_, _/_, _%_, _≤_, _<_};
 ghost use lib.ListN.{length, getD, take};
 ghost use Rattle.compile_graph.specs.Weights.{weights};
-ghost use Rattle.compile_weights.specs.PowerTable.{tabled, Powers, wordCount, lowerBy};
+ghost use Rattle.laws.specs.Lists.{all, range};
+ghost use Rattle.compile_weights.specs.PowerTable.{tabled, Powers, wordCount, lowerBy, sameAt};
 
 // How many words lead from s to t.
 fn words_between(power: &[u8; 4096], words: usize, s: usize, t: u8) -> usize
@@ -58,7 +58,7 @@ fn lower_weight(count: &[usize; 256], v: [usize; 16], k: usize, s: usize, n: usi
 }
 
 // One round: "replace all weights together".
-fn lower_weights(count: &[usize; 256], v: [usize; 16], k: usize, n: usize) -> [usize; 16]
+pub fn lower_weights(count: &[usize; 256], v: [usize; 16], k: usize, n: usize) -> [usize; 16]
     requires { ⌜ (length (now count) ≡ 256) × (k ≤ 16) × (0 < n)
         × ((x : ℕ) → x < k * 16 → getD (now count) x 0 ≤ 256) × ((t : ℕ) → t < k → getD v t 0 ≤ 16) ⌝ }
     ensures answer { λ r. ⌜ ((s : ℕ) → s < k → getD r s 0 ≡ lowerBy (now (count .entry)) v k s n) ⌝ }
@@ -73,9 +73,9 @@ fn lower_weights(count: &[usize; 256], v: [usize; 16], k: usize, n: usize) -> [u
 }
 
 // The first k weights are the same.
-fn same_weights(a: [usize; 16], b: [usize; 16], k: usize) -> bool
+pub fn same_weights(a: [usize; 16], b: [usize; 16], k: usize) -> bool
     requires { ⌜ k ≤ 16 ⌝ }
-    ensures answer { λ r. ⌜ (r ≡ true → (s : ℕ) → s < k → getD a s 0 ≡ getD b s 0) ⌝ }
+    ensures answer { λ r. ⌜ r ≡ all (sameAt a b) (range k) ⌝ }
 {
     let mut s = 0;
     while s < k {

@@ -11,7 +11,7 @@ use Rattle.answer.specs.Answers.{answerValue}
 use Rattle.answer.specs.Outcomes.{Outcome, done, refused, onward, fitting, answerOf, outputOf}
 use Rattle.answer.proofs.Outcomes.{fitting-true}
 use Rattle.table.specs.Rows.{Code}
-use Rattle.compile_job.specs.Jobs.{readRunLength}
+use Rattle.compile_job.specs.Jobs.{readListed}
 use Rattle.compile.specs.Compile.{compile}
 use Rattle.view_listing.specs.Listing.{listing}
 use Rattle.view_job.specs.Listings.{refusal, printed, listingOf, listInto}
@@ -39,7 +39,7 @@ module _ (xs B : List ℕ) (room : 43028 ≤ length B) where
   pub list-done : (C : List ℕ) (n : ℕ) → Done n ≡ answerOf (listInto xs (length B))
       → C ≡ outputOf (listInto xs (length B)) B → (take n C ≡ listingOf xs) × Counts n C
   unfolding listInto listingOf Short
-  list-done C n a w = go (onward (readRunLength xs) compile) (compiled-short xs) a w
+  list-done C n a w = go (onward (readListed xs) compile) (compiled-short xs) a w
     where
       go : (o : Outcome Code) → Short o → Done n ≡ answerOf (Into o) → C ≡ outputOf (Into o) B
           → (take n C ≡ printed o) × Counts n C
@@ -54,7 +54,7 @@ module _ (xs B : List ℕ) (room : 43028 ≤ length B) where
   -- the refusal of a job that does not
   pub list-refused : (r : Refusal) → Refused r ≡ answerOf (listInto xs (length B)) → refusal r ≡ listingOf xs
   unfolding listInto listingOf Short
-  list-refused r a = go (onward (readRunLength xs) compile) (compiled-short xs) a
+  list-refused r a = go (onward (readListed xs) compile) (compiled-short xs) a
     where
       go : (o : Outcome Code) → Short o → Refused r ≡ answerOf (Into o) → refusal r ≡ printed o
       go (refused s) short a = let e : r ≡ s = cc in ap refusal e

@@ -27,7 +27,7 @@ use Rattle.compile_graph.specs.Component.{componentStates, componentGraph}
 use Rattle.compile_graph.specs.Splitting.{split, splits, splitAll}
 use Rattle.compile_table.specs.TableOf.{tableStates, tableOf}
 use Rattle.compile_labels.specs.Labels.{dataOf, relabelled}
-use Rattle.compile_job.specs.Jobs.{readJob, readRunLength}
+use Rattle.compile_job.specs.Jobs.{heldJob, readJob, heldRunLength, readRunLength, readListed}
 use Rattle.text.specs.Texts.{bytes, decimal}
 use Rattle.view_listing.specs.Listing.{entry, listing}
 use Rattle.view_job.specs.Listings.{listInto}
@@ -188,7 +188,7 @@ pub record Examples : Type 0 where
 
 -- they hold
 pub examples : Examples
-unfolding readJob readRunLength compile compileRunLength packInto pack fieldsChecked parse closedWith encoded decoded
+unfolding heldJob readJob heldRunLength readRunLength readListed compile compileRunLength packInto pack fieldsChecked parse closedWith encoded decoded
     encodeUnder decodeUnder works sizes window obeys power weights componentStates componentGraph split splits
     splitAll tableStates tableOf dataOf relabelled decimal entry listing listInto
 examples = record {

@@ -5,7 +5,7 @@
 -- (c) labels, labels-row, labels-rule, labels-hold, table-rule; (d) decoded-blocks, marks, read-datum, no-mark-ahead,
 -- clear-unmarked; (e) closes, tail-free, tail-place, closes-record; (f) depth-numbers, weave-calls, unweave-calls,
 -- weave-spreads, weave-returns, weave-places, weaving, one-word-each, fewer-places, scratch; (g) state-sets, step-bits,
--- back-bits, pair-step-bits, pair-hit-bits; Verify: verified, verified-place, verified-mark, verified-near,
+-- back-bits, pair-step-bits, pair-hit-bits; (h) brought-used, bad-weights, brought-ends; Verify: verified, verified-place, verified-mark, verified-near,
 -- verified-stream, verify-calls, verify-stream-calls; Calls: job-order, job-read, run-length-order, run-length-read,
 -- joined-order, listing-call; set-layout, set-order, set-count; encode-calls, decode-calls, checked-calls;
 -- info-numbers, phrase-words, phrases, with-tail; refusal-numbers, answer-words, word-numbers, set-words, outputs.
@@ -23,7 +23,7 @@ use Rattle.laws.specs.Sums.{Each, Once, Below}
 use Rattle.answer.specs.declared.Refusal.{Refusal}
 use Rattle.answer.specs.declared.Refusal.the-variants.{Parameters, States, NoCode, TooHeavy, TooManyEdges, NoWindow}
 use Rattle.answer.specs.declared.Refusal.the-variants.{Field, Length, Disobeys, WindowFails, BadByte, TooFewWords}
-use Rattle.answer.specs.declared.Refusal.the-variants.{ShortOutput, TooManyPairs, Stream, Depth}
+use Rattle.answer.specs.declared.Refusal.the-variants.{ShortOutput, TooManyPairs, Stream, Depth, BadWeights}
 use Rattle.answer.specs.declared.Answer.{Answer}
 use Rattle.answer.specs.declared.Answer.the-variants.{Done}
 use Rattle.answer.specs.Refusals.{numberOf, placeOf}
@@ -32,7 +32,7 @@ use Rattle.answer.specs.Outcomes.{done, refused, onward, answerOf, outputOf}
 use Rattle.answer.specs.FirstBad.{firstBad}
 use Rattle.answer.specs.Orders.{check, First}
 use Rattle.bits.specs.Fields.{field, bitsOf}
-use Rattle.constraint.specs.Walking.{Constraint, after, Lawful}
+use Rattle.constraint.specs.Walking.{Constraint, runLength, after, Lawful}
 use Rattle.constraint.specs.Follow.{Finds, channel}
 use Rattle.joining.specs.Joined.{pairOf, pairs, joined, Reachable, FirstMet}
 use Rattle.table.specs.Rows.{Rows, edges, at, Code, withTail}
@@ -54,14 +54,18 @@ use Rattle.codec_steps.specs.Reading.{markAhead, block, decode}
 use Rattle.codec.specs.Answers.{encodeUnder, decodeUnder, encodeChecked, decodeChecked}
 use Rattle.codec.specs.Follows.{Follows}
 use Rattle.codec.specs.Damage.{StandsClear, Recording, SameOutside, differences}
-use Rattle.compile_graph.specs.Arcs.{Arc, arc, out}
+use Rattle.compile_graph.specs.Arcs.{Arc, arc, out, power}
+use Rattle.compile_graph.specs.Weights.{Passing}
 use Rattle.compile_graph.specs.Invariant.{count}
 use Rattle.compile_graph.specs.Reachable.{Reachable as ReachableBy}
 use Rattle.compile_graph.specs.Splitting.{sort}
 use Rattle.compile_table.specs.TableOf.{tableOf}
 use Rattle.compile_labels.specs.Labels.{relabelledRow, relabelled, Rearranged}
-use Rattle.compile_job.specs.Jobs.{Job, Allowed, statesOf, readJob, readRunLength, readJoined, Joins}
-use Rattle.compile.specs.Compile.{ways, componentOf, finishedOf, compile, compileJob, compileRunLength, compileJoined}
+use Rattle.compile_job.specs.Jobs.{computed, brought, Job, Allowed, statesOf, readJob, readRunLength, readListed}
+use Rattle.compile_job.specs.Jobs.{readJoined, Joins}
+use Rattle.compile.specs.Compile.{ways, graphOf, weightsOf, componentOf, finishedOf, compile, compileJob}
+use Rattle.compile.specs.Compile.{compileRunLength, compileJoined}
+use Rattle.compile.specs.Kinds.{Kind, heldAs, readAs, compileAs}
 use Rattle.stream_pack.specs.Streams.{packed, unpacked, goodStream, packInto, unpackInto}
 use Rattle.weaving.specs.Weaving.{woven, unwoven, part, goodDepth, weaveInto, unweaveInto}
 use Rattle.stream.specs.Recorded.{encodeStream, decodeStream}
@@ -497,6 +501,25 @@ pub pair-hit-bits : (t : Arrays) → Fits t → ((e : ℕ) → e < places t → 
     → pairsIn (t .states) R ≡ hits (rowsOf t) (pairsIn (t .states) P)
 pair-hit-bits = Rattle.window_test.proofs.StepPairs.hits-pairs
 
+-- ---- (h) Bring your own weights. A job that is read is allowed, and its weights pass: what Main says of allowed jobs,
+-- of the component, the splits, the window and the record, it says of weights that are brought too.
+
+-- Weights that come with a job are used as they are.
+pub brought-used : (j : Job) (u : List ℕ) → j .choice ≡ brought u → weightsOf j ≡ u
+brought-used = Rattle.compile.proofs.Compile.brought-used
+
+-- 17 comes exactly when all that comes before it passes and the weights that come with the job fail.
+pub bad-weights : (k : Kind) (xs : List ℕ) (room : ℕ) → (compileAs k xs room ≡ refused BadWeights)
+    ↔ ((j : Job) × (u : List ℕ) × (heldAs k xs ≡ done j) × (j .choice ≡ brought u)
+    × (Passing (ways j) (j .cap) (graphOf j) u → ⊥))
+bad-weights = Rattle.compile.proofs.Brought.bad-weights
+
+-- Weights that pass end in a record or in one of 4, 5, 6 and 13.
+pub brought-ends : (k : Kind) (xs : List ℕ) (room : ℕ) (j : Job) (u : List ℕ) → readAs k xs ≡ done j
+    → j .choice ≡ brought u → (r : Refusal) → compileAs k xs room ≡ refused r
+    → ((4 ≤ numberOf r) × (numberOf r ≤ 6)) ⊎ (numberOf r ≡ 13)
+brought-ends = Rattle.compile.proofs.Brought.brought-ends
+
 -- ---- Verify: the words in front that come back when the decoded blocks are encoded, as a call answers them.
 
 -- All words come back exactly when they are a recording, so the value is then their number; otherwise it is smaller.
@@ -559,42 +582,52 @@ verify-stream-calls = Rattle.codec_verify.proofs.Calls.verify-stream-calls
 -- ---- Calls: what the exported calls answer besides. `First checks r` says that r is the refusal of the first check
 -- that fails. `recordOf s i` is what record i of a set comes to, and `offsetOf s i` where its length stands.
 
--- A job: "8 below four bytes, 1, K by 2, 8, next states by 2"; these refusals come in this order and nowhere else.
-pub job-order : (xs : List ℕ) (room : ℕ) (r : Refusal)
-    → (numberOf r < 3) ⊎ ((numberOf r ≡ 8) ⊎ (numberOf r ≡ 14)) → let n = length xs in let p = getD xs 0 0 in
-    let q = getD xs 1 0 in let cap = getD xs 2 0 in let K = getD xs 3 0 in (compileJob xs room ≡ refused r)
+-- A job: "8 below four bytes, 1, K by 2, 8, next states by 2", 17; all refusals but 3 to 6 and 13 come by this order.
+pub job-order : (xs : List ℕ) (room : ℕ) (r : Refusal) → (3 ≤ numberOf r → 6 < numberOf r) × (numberOf r ≡ 13 → ⊥)
+    → let n = length xs in let p = getD xs 0 0 in let q = getD xs 1 0 in let cap = getD xs 2 0 in
+    let K = getD xs 3 0 in (compileJob xs room ≡ refused r)
     ↔ First (check Length (4 ≤ n)
     ∷ check Parameters ((1 ≤ p) × (p ≤ 4) × (1 ≤ q) × (q ≤ 8) × (1 ≤ cap) × (cap ≤ 16))
-    ∷ check States ((1 ≤ K) × (K ≤ 16)) ∷ check Length (n ≡ 4 + 2 * K)
-    ∷ check States ((i : ℕ) → i < 2 * K → let s = getD (drop 4 xs) i 0 in (s < K) ⊎ (s ≡ 255)) ∷ []) r
+    ∷ check States ((1 ≤ K) × (K ≤ 16)) ∷ check Length ((n ≡ 4 + 2 * K) ⊎ (n ≡ 4 + 3 * K))
+    ∷ check States ((i : ℕ) → i < 2 * K → let s = getD (drop 4 xs) i 0 in (s < K) ⊎ (s ≡ 255))
+    ∷ check BadWeights ((n ≡ 4 + 2 * K)
+    ⊎ Passing (2 ^ p) cap (power (statesOf K (drop 4 xs)) q) (drop (4 + 2 * K) xs)) ∷ []) r
 job-order = Rattle.compile.proofs.Orders.job-order
 
--- The job that is read has p, q, cap and K in its first four bytes, then two next states a state, 255 for none.
+-- The job that is read has p, q, cap and K in its first four bytes, two next states a state, 255 for none, and then
+-- no bytes, or one weight a state.
 pub job-read : (xs : List ℕ) (j : Job) → readJob xs ≡ done j → let K = getD xs 3 0 in (j .p ≡ getD xs 0 0)
     × (j .q ≡ getD xs 1 0) × (j .cap ≡ getD xs 2 0) × (length (j .constraint) ≡ K)
     × ((s b : ℕ) → s < K → b < 2 → after (j .constraint) s b ≡ getD xs (4 + 2 * s + b) 0)
+    × (((length xs ≡ 4 + 2 * K) × (j .choice ≡ computed))
+    ⊎ ((length xs ≡ 4 + 3 * K) × (j .choice ≡ brought (drop (4 + 2 * K) xs))))
 job-read = Rattle.compile_job.proofs.ReadBytes.job-read
 
--- "Run-length job: 8, 1, 2": five bytes d, k, p, q, cap, with d at most k and k at most 15.
+-- "Run-length job": "8 below five bytes, 1, 2, 8 for a length other than 5 or 5 + K", K being k + 1, then 17.
 pub run-length-order : (xs : List ℕ) (room : ℕ) (r : Refusal)
-    → (numberOf r < 3) ⊎ ((numberOf r ≡ 8) ⊎ (numberOf r ≡ 14)) → let d = getD xs 0 0 in let k = getD xs 1 0 in
-    let p = getD xs 2 0 in let q = getD xs 3 0 in let cap = getD xs 4 0 in (compileRunLength xs room ≡ refused r)
-    ↔ First (check Length (length xs ≡ 5)
+    → (3 ≤ numberOf r → 6 < numberOf r) × (numberOf r ≡ 13 → ⊥) → let n = length xs in let d = getD xs 0 0 in
+    let k = getD xs 1 0 in let p = getD xs 2 0 in let q = getD xs 3 0 in let cap = getD xs 4 0 in
+    (compileRunLength xs room ≡ refused r)
+    ↔ First (check Length (5 ≤ n)
     ∷ check Parameters ((1 ≤ p) × (p ≤ 4) × (1 ≤ q) × (q ≤ 8) × (1 ≤ cap) × (cap ≤ 16))
-    ∷ check States ((d ≤ k) × (k ≤ 15)) ∷ []) r
+    ∷ check States ((d ≤ k) × (k ≤ 15)) ∷ check Length ((n ≡ 5) ⊎ (n ≡ 5 + (k + 1)))
+    ∷ check BadWeights ((n ≡ 5) ⊎ Passing (2 ^ p) cap (power (runLength d k) q) (drop 5 xs)) ∷ []) r
 run-length-order = Rattle.compile.proofs.Orders.run-length-order
 
--- It is read with k + 1 states: bit 0 leads from i to i + 1 if i < k, bit 1 to 0 if i ≥ d, else nowhere (255).
+-- It is read with k + 1 states: bit 0 leads from i to i + 1 if i < k, bit 1 to 0 if i ≥ d, else nowhere (255); then
+-- come no bytes, or k + 1 weights.
 pub run-length-read : (xs : List ℕ) (j : Job) → readRunLength xs ≡ done j → let d = getD xs 0 0 in
     let k = getD xs 1 0 in let c = j .constraint in (j .p ≡ getD xs 2 0) × (j .q ≡ getD xs 3 0)
     × (j .cap ≡ getD xs 4 0) × (length c ≡ k + 1)
     × ((i : ℕ) → i < k → after c i 0 ≡ i + 1) × (after c k 0 ≡ 255)
     × ((i : ℕ) → i < d → after c i 1 ≡ 255) × ((i : ℕ) → d ≤ i → i ≤ k → after c i 1 ≡ 0)
+    × (((length xs ≡ 5) × (j .choice ≡ computed))
+    ⊎ ((length xs ≡ 5 + (k + 1)) × (j .choice ≡ brought (drop 5 xs))))
 run-length-read = Rattle.compile_job.proofs.ReadBytes.run-length-read
 
 -- Two constraints: "for each constraint 8 for a missing K, K by 2, 8, next states by 2"; the first K is byte 3.
 pub joined-order : (xs : List ℕ) (room : ℕ) (r : Refusal)
-    → (numberOf r < 3) ⊎ ((numberOf r ≡ 8) ⊎ (numberOf r ≡ 14)) → let n = length xs in let p = getD xs 0 0 in
+    → (3 ≤ numberOf r → 6 < numberOf r) × (numberOf r ≡ 13 → ⊥) → let n = length xs in let p = getD xs 0 0 in
     let q = getD xs 1 0 in let cap = getD xs 2 0 in let K = getD xs 3 0 in let L = getD xs (4 + 2 * K) 0 in
     (compileJoined xs room ≡ refused r)
     ↔ First (check Length (4 ≤ n)
@@ -606,14 +639,20 @@ pub joined-order : (xs : List ℕ) (room : ℕ) (r : Refusal)
     ∷ check TooManyPairs (length (pairs (statesOf K (drop 4 xs)) (statesOf L (drop (5 + 2 * K) xs))) ≤ 16) ∷ []) r
 joined-order = Rattle.compile.proofs.Orders.joined-order
 
--- The listing is that of the code to which a run-length job compiles, with room; else as reading, compiling, 13 say.
+-- The listing is that of the code to which a run-length job of five bytes compiles, with room; else as reading (8 for
+-- any other number of bytes), compiling and 13 say.
 pub listing-call : (xs : List ℕ) (room : ℕ) → ((ls : List ℕ) → (listInto xs room ≡ done ls)
-    ↔ ((j : Job) × (c : Code) × (readRunLength xs ≡ done j) × (compile j ≡ done c) × (length (listing c) ≤ room)
+    ↔ ((j : Job) × (c : Code) × (readListed xs ≡ done j) × (compile j ≡ done c) × (length (listing c) ≤ room)
     × (listing c ≡ ls))) × ((r : Refusal) → (listInto xs room ≡ refused r)
-    ↔ ((readRunLength xs ≡ refused r) ⊎ ((j : Job) × (readRunLength xs ≡ done j) × ((compile j ≡ refused r)
+    ↔ ((readListed xs ≡ refused r) ⊎ ((j : Job) × (readListed xs ≡ done j) × ((compile j ≡ refused r)
     ⊎ ((c : Code) × (compile j ≡ done c) × First (check ShortOutput (length (listing c) ≤ room) ∷ []) r)))))
-listing-call xs room =
-    (Rattle.view_job.proofs.Calls.listing-done xs room, Rattle.view_job.proofs.Calls.listing-refused xs room)
+    × (length xs ≡ 5 → readListed xs ≡ readRunLength xs) × ((length xs ≡ 5 → ⊥) → readListed xs ≡ refused Length)
+listing-call xs room = (
+  Rattle.view_job.proofs.Calls.listing-done xs room,
+  Rattle.view_job.proofs.Calls.listing-refused xs room,
+  Rattle.view_job.proofs.Calls.listing-reads xs .0,
+  Rattle.view_job.proofs.Calls.listing-reads xs .1,
+)
 
 -- Two bytes of length, the higher first, stand at offset 1 and after each record; 8 for a record that is cut off.
 pub set-layout : (s : List ℕ) → (offsetOf s 0 ≡ 1) × ((i : ℕ) → let o = offsetOf s i in
@@ -680,11 +719,11 @@ pub info-numbers : (rec : List ℕ) (room : ℕ) → ((ns : List ℕ) → (infoU
     ↔ ((parse rec ≡ refused r) ⊎ ((c : Code) × (parse rec ≡ done c) × First (check ShortOutput (8 ≤ room) ∷ []) r)))
 info-numbers rec room = (Rattle.info.proofs.Calls.info-done rec room, Rattle.info.proofs.Calls.info-refused rec room)
 
--- The words of a number with room for them, else 13; they are at most 60 bytes, and none for 0 and from 17 on.
+-- The words of a number with room for them, else 13; they are at most 60 bytes, and none for 0 and from 18 on.
 pub phrase-words : (n room : ℕ)
     → ((ws : List ℕ) → (phraseInto n room ≡ done ws) ↔ ((length (wordsOf n) ≤ room) × (wordsOf n ≡ ws)))
     × ((r : Refusal) → (phraseInto n room ≡ refused r) ↔ First (check ShortOutput (length (wordsOf n) ≤ room) ∷ []) r)
-    × (length (wordsOf n) ≤ 60) × ((wordsOf n ≡ []) ↔ ((n ≡ 0) ⊎ (16 < n)))
+    × (length (wordsOf n) ≤ 60) × ((wordsOf n ≡ []) ↔ ((n ≡ 0) ⊎ (17 < n)))
 phrase-words n room = (
   Rattle.info.proofs.Calls.phrase-done n room,
   Rattle.info.proofs.Calls.phrase-refused n room,
@@ -692,7 +731,7 @@ phrase-words n room = (
   Rattle.view_refusals.proofs.Rows.words-none n,
 )
 
--- The words of the sixteen refusals, by number.
+-- The words of the seventeen refusals, by number.
 pub phrases : (wordsOf 1 ≡ bytes "p, q or cap out of range")
     × (wordsOf 2 ≡ bytes "K, a next state, or d and k out of range")
     × (wordsOf 3 ≡ bytes "no code: all weights 0")
@@ -709,6 +748,7 @@ pub phrases : (wordsOf 1 ≡ bytes "p, q or cap out of range")
     × (wordsOf 14 ≡ bytes "two constraints give more than 16 pairs of states")
     × (wordsOf 15 ≡ bytes "over 1,000,000 words, wrong number of bytes, or fill not 0")
     × (wordsOf 16 ≡ bytes "depth D is not 2 to 16, or does not divide the length")
+    × (wordsOf 17 ≡ bytes "weights over cap, all 0, or the inequality fails at a state")
 phrases = Rattle.view_refusals.proofs.Rows.words-are
 
 -- Another tail datum is written exactly if the record passes, it is below 2^p and there is room; else refusal, 7, 13.
@@ -722,20 +762,20 @@ with-tail rec b k room = (
   Rattle.record_tail.proofs.Calls.closed-refused rec b k room,
 )
 
--- The refusals are numbered 1 to 16 as the documents have them; 11 names the place of its byte, the others 0.
+-- The refusals are numbered 1 to 17 as the documents have them; 11 names the place of its byte, the others 0.
 pub refusal-numbers : ((numberOf Parameters ≡ 1) × (numberOf States ≡ 2) × (numberOf NoCode ≡ 3)
     × (numberOf TooHeavy ≡ 4) × (numberOf TooManyEdges ≡ 5) × (numberOf NoWindow ≡ 6) × (numberOf Field ≡ 7)
     × (numberOf Length ≡ 8) × (numberOf Disobeys ≡ 9) × (numberOf WindowFails ≡ 10)
     × ((k : ℕ) → numberOf (BadByte k) ≡ 11) × (numberOf TooFewWords ≡ 12) × (numberOf ShortOutput ≡ 13)
-    × (numberOf TooManyPairs ≡ 14) × (numberOf Stream ≡ 15) × (numberOf Depth ≡ 16))
+    × (numberOf TooManyPairs ≡ 14) × (numberOf Stream ≡ 15) × (numberOf Depth ≡ 16) × (numberOf BadWeights ≡ 17))
     × ((k : ℕ) → placeOf (BadByte k) ≡ k) × ((r : Refusal) → (numberOf r ≡ 11 → ⊥) → placeOf r ≡ 0)
 refusal-numbers = Rattle.answer.proofs.Cases.refusal-numbers
 
--- A result's word has number 0 and its length, a refusal's its number, 1 to 16, and place; words tell answers apart.
+-- A result's word has number 0 and its length, a refusal's its number, 1 to 17, and place; words tell answers apart.
 pub answer-words : ((xs : List ℕ) → let w = wordOf (answerOf (done xs)) in
     (w / 2 ^ 56 ≡ 0) × (w % 2 ^ 56 ≡ min (length xs) (2 ^ 56 - 1)))
     × ((r : Refusal) → let w = wordOf (answerOf (refused r)) in (w / 2 ^ 56 ≡ numberOf r)
-    × (w % 2 ^ 56 ≡ min (placeOf r) (2 ^ 56 - 1)) × (1 ≤ numberOf r) × (numberOf r ≤ 16))
+    × (w % 2 ^ 56 ≡ min (placeOf r) (2 ^ 56 - 1)) × (1 ≤ numberOf r) × (numberOf r ≤ 17))
     × ((a b : Answer) → answerValue a < 2 ^ 56 → answerValue b < 2 ^ 56 → wordOf a ≡ wordOf b → a ≡ b)
 answer-words = (
   Rattle.word.proofs.Words.word-done,

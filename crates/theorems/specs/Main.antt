@@ -42,7 +42,7 @@ use Rattle.compile_graph.specs.Invariant.{count}
 use Rattle.compile_graph.specs.Splitting.{sort, chosen, candidates, stretch, divisible, kept, split, goesOn, splits}
 use Rattle.compile_table.specs.TableOf.{tableOf}
 use Rattle.compile_labels.specs.Labels.{relabelled}
-use Rattle.compile_job.specs.Jobs.{Job, readJob, readRunLength, readJoined, Allowed}
+use Rattle.compile_job.specs.Jobs.{computed, Job, readJob, readRunLength, readJoined, Allowed}
 use Rattle.compile.specs.Compile.{ways, graphOf, Vector, weightsOf, componentOf, finishedOf, tableFor, code, compile}
 use Rattle.compile.specs.Compile.{compileJob, compileRunLength, compileJoined}
 use Rattle.compile.specs.Kinds.{Kind, general, run-length, joined as both, readAs, compileAs}
@@ -67,9 +67,10 @@ pub no-code : ((j : Job) → Allowed j → (compile j ≡ refused NoCode) ↔ ((
     ↔ ((j : Job) × (readAs k xs ≡ done j) × ((u : List ℕ) → Vector j u → (s : ℕ) → getD u s 0 ≡ 0)))
 no-code = (Rattle.compile.proofs.Compile.no-code-exact, Rattle.compile.proofs.Written.none)
 
--- Otherwise it uses the greatest one: the weights meet the inequality, and every other vector is at most the weights.
-pub greatest : (j : Job) → Vector j (weightsOf j) × ((u : List ℕ) → Vector j u → AtMost u (weightsOf j))
-greatest j = (Rattle.compile.proofs.Compile.weights-vector j, Rattle.compile.proofs.Compile.greatest-vector j)
+-- A job that brings no weights uses the greatest ones: they meet the inequality, and any other vector is at most them.
+pub greatest : (j : Job) → j .choice ≡ computed
+    → Vector j (weightsOf j) × ((u : List ℕ) → Vector j u → AtMost u (weightsOf j))
+greatest = Rattle.compile.proofs.Compile.computed-greatest
 
 -- The component is what its first state reaches: the lowest, of weight above 0, that all states it reaches reach back.
 pub component : (j : Job) → Allowed j → 0 < sum (componentOf j .weights)

@@ -7,6 +7,7 @@ ghost use Rattle.compile_weights.specs.PowerTable.{tabled, Powers};
 ghost use Rattle.compile.specs.Compile.{ways};
 ghost use Rattle.compile_job.specs.JobValues.{jobIn, JobReady};
 ghost use Rattle.trace.specs.Beginnings.{FoundOf};
+use compile::compiling::weights_of;
 use compile_component::component_graph::ComponentAnswer;
 use compile_component::component_graph::find_component;
 use compile_job::JobValue;
@@ -15,7 +16,6 @@ use compile_reach::reaching::first_returning;
 use compile_reach::reaching::list_members;
 use compile_reach::reaching::live_edges;
 use compile_reach::reaching::reach_all;
-use compile_weights::state_weights::state_weights;
 use compile_weights::state_weights::word_counts;
 use constraint::power::power_codes;
 
@@ -48,7 +48,7 @@ pub fn begin(j: JobValue, n: usize) -> Beginning
     let power = power_codes(j.constraint, j.q);
     let words = bits::power(j.q);
     let k = j.constraint.states;
-    let v = state_weights(&power, words, k, n, j.cap);
+    let v = weights_of(j, &power, words, n);
     let list = component_states(&power, words, k, v);
     let found = find_component(&power, words, k, v);
     let states = list.state;

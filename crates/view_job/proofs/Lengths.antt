@@ -9,13 +9,13 @@ use Rattle.answer.specs.Outcomes.{done, refused, onward, fitting}
 use Rattle.answer.proofs.Outcomes.{onward→}
 use Rattle.table.specs.Rows.{Code}
 use Rattle.table.proofs.Formed.{formed→}
-use Rattle.compile_job.specs.Jobs.{Job, readRunLength}
+use Rattle.compile_job.specs.Jobs.{Job, readRunLength, readListed}
 use Rattle.compile.specs.Compile.{compile}
 use Rattle.compile.specs.Kinds.{Kind, compileAs}
-use Rattle.compile_job.proofs.Jobs.{readRunLength-allowed}
+use Rattle.compile_job.proofs.Jobs.{readRunLength-allowed, readListed-is}
 use Rattle.compile.proofs.Accepted.{compiled-passes}
 use Rattle.answer.proofs.RefusedOutcomes.{onward-refused, fitting-refused}
-use Rattle.compile.proofs.Early.{early-not, run-length-early}
+use Rattle.compile.proofs.Early.{listed-early}
 use Rattle.compile.proofs.Exact.{compile-refused}
 use Rattle.compile.proofs.Written as written
 use Rattle.text.specs.Texts.{bytes, decimal}
@@ -38,26 +38,26 @@ refusal-short r =
       decimal-long (numberOf r),
     )
 
-pub compiled-short : (xs : List ℕ) (c : Code) → onward (readRunLength xs) compile ≡ done c → length (listing c) ≤ 43028
+pub compiled-short : (xs : List ℕ) (c : Code) → onward (readListed xs) compile ≡ done c → length (listing c) ≤ 43028
 compiled-short xs c e =
-    let (j, q, f) = onward→ (readRunLength xs) compile c e in
-    formed-short c (formed→ c (compiled-passes j (readRunLength-allowed xs j q) c f .formed))
+    let (j, q, f) = onward→ (readListed xs) compile c e in
+    formed-short c (formed→ c (compiled-passes j (readRunLength-allowed xs j (readListed-is xs j q)) c f .formed))
 
 -- with room for the longest listing 13 never comes
 pub never-short : (xs : List ℕ) (room : ℕ) → 43028 ≤ room → listInto xs room ≡ refused ShortOutput → ⊥
 unfolding listInto
 never-short xs room h e =
-    first (onward-refused (onward (readRunLength xs) compile) (λ c. fitting room (listing c)) ShortOutput e)
+    first (onward-refused (onward (readListed xs) compile) (λ c. fitting room (listing c)) ShortOutput e)
   where
-    second : (readRunLength xs ≡ refused ShortOutput)
-        ⊎ ((j : Job) × (readRunLength xs ≡ done j) × (compile j ≡ refused ShortOutput)) → ⊥
-    second (inl q) = early-not ShortOutput (run-length-early xs ShortOutput q) .1 refl
+    second : (readListed xs ≡ refused ShortOutput)
+        ⊎ ((j : Job) × (readListed xs ≡ done j) × (compile j ≡ refused ShortOutput)) → ⊥
+    second (inl q) = listed-early xs ShortOutput q .1 refl
     second (inr (j, p, q)) = omega (arith, compile-refused j ShortOutput q)
 
-    first : (onward (readRunLength xs) compile ≡ refused ShortOutput)
-        ⊎ ((c : Code) × (onward (readRunLength xs) compile ≡ done c) × (fitting room (listing c) ≡ refused ShortOutput))
+    first : (onward (readListed xs) compile ≡ refused ShortOutput)
+        ⊎ ((c : Code) × (onward (readListed xs) compile ≡ done c) × (fitting room (listing c) ≡ refused ShortOutput))
         → ⊥
-    first (inl q) = second (onward-refused (readRunLength xs) compile ShortOutput q)
+    first (inl q) = second (onward-refused (readListed xs) compile ShortOutput q)
     first (inr (c, q, k)) =
         omega (arith, compiled-short xs c q, fitting-refused room (listing c) ShortOutput k .1)
 

@@ -8,7 +8,7 @@ use Rattle.answer.specs.declared.Refusal.{Refusal}
 use Rattle.answer.specs.Refusals.{numberOf}
 use Rattle.answer.specs.Outcomes.{Outcome, done, refused, onward, fitting}
 use Rattle.table.specs.Rows.{Code}
-use Rattle.compile_job.specs.Jobs.{Job, readRunLength}
+use Rattle.compile_job.specs.Jobs.{Job, readListed}
 use Rattle.compile.specs.Compile.{compile}
 use Rattle.text.specs.Texts.{bytes}
 use Rattle.text.specs.Words.{told}
@@ -25,11 +25,11 @@ printed (refused r) = refusal r
 
 -- what the listing program prints for the bytes of a run-length job
 unfoldable pub listingOf : List ℕ → List ℕ
-listingOf xs = printed (onward (readRunLength xs) compile)
+listingOf xs = printed (onward (readListed xs) compile)
 
 -- the listing of a run-length job in lent bytes, or the refusal
 unfoldable pub listInto : List ℕ → ℕ → Outcome (List ℕ)
-listInto xs room = onward (onward (readRunLength xs) compile) (λ c. fitting room (listing c))
+listInto xs room = onward (onward (readListed xs) compile) (λ c. fitting room (listing c))
 
 -- the listing of the job's code in lent bytes
 abbrev pub listedInto : ℕ → Job → Outcome (List ℕ)

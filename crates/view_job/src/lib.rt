@@ -11,7 +11,7 @@ use answer::refusal_number;
 use compile::compiling::begin;
 use compile::compiling::compile;
 use compile_job::JobValue;
-use compile_job::reading::read_run_length;
+use compile_job::reading::read_listed;
 use text::put_line;
 use view_listing::filling::fill;
 use view_listing::listing::list;
@@ -38,7 +38,7 @@ pub fn list_run_length(job: &[u8], out: &mut [u8]) -> Answer
     ensures written { λ r. ⌜
         now (out .exit) ≡ outputOf (listInto (now (job .entry)) (length (now (out .entry)))) (now (out .entry)) ⌝ }
 {
-    let r = read_run_length(job);
+    let r = read_listed(job);
     let v = r.verdict;
     let j = r.job;
     match v {

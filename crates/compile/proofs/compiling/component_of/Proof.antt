@@ -2,19 +2,18 @@
 -- component are the job's.
 -- Assumes nothing.
 use Rattle.laws.proofs.All.{arith}
-use Rattle.compile_job.specs.JobValues.{jobIn}
-use Rattle.compile.proofs.Compile.{ways-pos}
-use Rattle.compile.proofs.CompileSteps.{has-states, held-powers, held-component}
+use Rattle.compile.proofs.CompileSteps.{has-states, held-powers, held-tabled, held-component}
 use Rattle.compile.proofs.compiling.component_of.Statement.{statement}
 use Rattle.compile.proofs.compiling.component_of.Tie as tie
 
-state-weights-requires : tie.Need-state-weights-requires
-state-weights-requires c κs =
+weights-of-requires : tie.Need-weights-of-requires
+weights-of-requires c κs =
     let b = c .before .before .before in
     let j = b .args .j in (
+      b .pre .0,
       held-powers j (b .pre .0) _ _ (c .before .before .power-codes .ensures) (c .before .power .ensures),
-      omega (arith, ways-pos (jobIn j), b .pre .1),
-      b .pre .0 .allowed .cap₂,
+      held-tabled j (b .pre .0) _ _ (c .before .before .power-codes .ensures) (c .before .power .ensures),
+      b .pre .1,
     )
 
 find-component-requires : tie.Need-find-component-requires
@@ -24,14 +23,14 @@ find-component-requires c κs =
       held-powers j (b .pre .0) _ _ (c .before .before .before .before .power-codes .ensures)
           (c .before .before .before .power .ensures),
       has-states j (b .pre .0),
-      λ s h. omega (arith, c .before .state-weights .ensures .1 s h, b .pre .0 .allowed .cap₂),
+      λ s h. omega (arith, c .before .weights-of .ensures .1 s h),
     )
 
 returns : tie.Need-returns
 returns c =
     let b = c .before .before .before .before .before .before in
     held-component (b .args .j) (b .pre .0) _ _ (c .before .before .before .before .before .power-codes .ensures)
-    (c .before .before .before .before .power .ensures) _ _ (b .pre .1) (c .before .before .state-weights .ensures .0) _
+    (c .before .before .before .before .power .ensures) _ (c .before .before .weights-of .ensures .0) _
     (c .find-component .ensures)
 
 pub component-of-spec : {M : Type 1} → statement M
@@ -39,4 +38,4 @@ component-of-spec =
     tie.close
     (tie.spec
     (λ c κs. (c .pre .0 .limits, c .pre .0 .allowed .q₂)) (λ c κs. omega (arith, c .before .pre .0 .allowed .q₂))
-    state-weights-requires find-component-requires returns)
+    weights-of-requires find-component-requires returns)

@@ -28,7 +28,7 @@ count c = in-range 1 (getD (in₂ c) 0 0) 16 (counted c) .1
 
 -- the length fits
 abbrev fits : tie.Else2 → ℕ → ℕ → Bool
-fits c = sized (c .before .before .before .before .before .args .whole)
+fits c = let a = c .before .before .before .before .before .args in sized (a .whole) (a .weights)
 
 fitted : (c : tie.Else3) → let ys = in₂ (c .before .before) in
     fits (c .before .before) (1 + 2 * getD ys 0 0) (length ys) ≡ true
@@ -37,15 +37,16 @@ fitted c = sym (c .before .is-sized .ensures) ∙ not-false (c .before .is-sized
 room : (c : tie.Else3) → let ys = in₂ (c .before .before) in 1 + getD ys 0 0 * 2 ≤ length ys
 room c =
     let ys = in₂ (c .before .before) in
-    let w = c .before .before .before .before .before .before .before .args .whole in
-    omega (arith, sized-fits w (1 + 2 * getD ys 0 0) (length ys) (fitted c))
+    let a = c .before .before .before .before .before .before .before .args in
+    omega (arith, sized-fits (a .whole) (a .weights) (1 + 2 * getD ys 0 0) (length ys) (fitted c))
 
 returns : tie.Need-returns
 returns c =
     let a = c .before .before .before .args in
     let ys = now (a .bytes) in
-    lawful-kept (sized (a .whole)) ys (c .no-constraint .result)
-    (c .no-constraint .ensures ∙ sym (missing-count (sized (a .whole)) ys (lt-leb 1 _ (c .before .if1 .taken))))
+    lawful-kept (sized (a .whole) (a .weights)) ys (c .no-constraint .result)
+    (c .no-constraint .ensures
+    ∙ sym (missing-count (sized (a .whole) (a .weights)) ys (lt-leb 1 _ (c .before .if1 .taken))))
 
 cast-count : tie.Need-cast-count
 cast-count c = omega (arith, c .shared-slice-known2 .given 0)
@@ -54,7 +55,7 @@ returns-2 : tie.Need-returns-2
 returns-2 c =
     let g = c .before .before in
     let b = g .before .before in
-    let f = sized (b .before .before .args .whole) in
+    let f = sized (b .before .before .args .whole) (b .before .before .args .weights) in
     lawful-kept f (in₁ b) (c .no-constraint2 .result)
     (c .no-constraint2 .ensures
     ∙ sym (bad-count f (in₁ b) (found b)
@@ -92,6 +93,7 @@ read-constraint-spec =
     tie.close
     (tie.spec
     (λ c κs. search needs) returns (λ c. search needs) cast-count (λ c κs. search needs) (λ c κs. search needs)
-    returns-2 (λ c. omega (arith, count c)) (λ c. omega (arith, count c)) (λ c κs. search needs)
-    (λ c κs. search needs) returns-3 (λ c κs. (count (c .before .before), room c)) (λ c κs. search needs) returns-4
+    returns-2 (λ c. omega (arith, count c)) (λ c. omega (arith, count c))
+    (λ c κs. omega (arith, count c)) (λ c κs. search needs) returns-3 (λ c κs. (count (c .before .before), room c))
+    (λ c κs. search needs) returns-4
     (λ c κs. (count (c .before .before .before .before), room (c .before .before))) returns-5)

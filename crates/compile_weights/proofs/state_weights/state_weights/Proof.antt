@@ -1,6 +1,7 @@
 -- Rounds until nothing changes; further rounds change nothing, and K × cap rounds are always enough.
-use Rattle.laws.proofs.All.{_≡_, refl, sym, subst, _-_, _*_, _≤_, mul-le-mul, arith, now, length, getD, take, needs}
-use Rattle.compile_weights.specs.PowerTable.{tabled}
+use Rattle.laws.proofs.All.{_≡_, refl, sym, subst, _∙_, T, eqb→eq, all-below→, _-_, _*_, _≤_, mul-le-mul, arith}
+use Rattle.laws.proofs.All.{now, length, getD, take, needs}
+use Rattle.compile_weights.specs.PowerTable.{tabled, sameAt}
 use Rattle.compile_weights.proofs.WeightRounds.{Round, round-start, round-more, round-still, round-end}
 use Rattle.compile_weights.proofs.WeightRounds.{lowered-is, lower-le}
 use Rattle.compile_weights.proofs.state_weights.state_weights.Statement.{statement}
@@ -45,7 +46,9 @@ returns c =
     (c .before .before .lower-weights .ensures) in (
       round-still (p .n) (p .cap) (p .k) (tabled (now (p .power)) (p .words) (p .k)) (l .i) (l .v)
           (c .before .before .before .before .before .before .before .pre .0 .states)
-          (l .inv .3) (c .before .before .lower-weights .result) a e (c .before .same-weights .ensures (c .if1 .taken)),
+          (l .inv .3) (c .before .before .lower-weights .result) a e
+          (λ s h. eqb→eq _ _ (all-below→ (sameAt (c .before .before .lower-weights .result) (l .v)) (p .k)
+          (subst T (sym (sym (c .before .same-weights .ensures) ∙ c .if1 .taken)) tt) s h)),
       l .inv .3 .low,
     )
 

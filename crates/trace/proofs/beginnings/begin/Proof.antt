@@ -4,9 +4,7 @@
 use Rattle.laws.proofs.All.{sym, ap, ap₂, _∙_, arith, getD, needs}
 use Rattle.compile_graph.specs.Component.{componentStates}
 use Rattle.compile_weights.specs.PowerTable.{Powers}
-use Rattle.compile_job.specs.JobValues.{jobIn}
-use Rattle.compile.proofs.Compile.{ways-pos}
-use Rattle.compile.proofs.CompileSteps.{has-states, held-powers, held-tabled, held-weights, held-component}
+use Rattle.compile.proofs.CompileSteps.{has-states, held-powers, held-tabled, held-component}
 use Rattle.trace.proofs.beginnings.begin.Statement.{statement}
 use Rattle.trace.proofs.beginnings.begin.Tie as tie
 
@@ -16,10 +14,15 @@ powers c =
     let b = c .before .before in
     held-powers (b .args .j) (b .pre .0) _ _ (c .before .power-codes .ensures) (c .power .ensures)
 
-state-weights-requires : tie.Need-state-weights-requires
-state-weights-requires c κs =
-    let b = c .before .before .before in
-    (powers (c .before), omega (arith, ways-pos (jobIn (b .args .j)), b .pre .1), b .pre .0 .allowed .cap₂)
+weights-of-requires : tie.Need-weights-of-requires
+weights-of-requires c κs =
+    let p = c .before in
+    let b = p .before .before in (
+      b .pre .0,
+      powers p,
+      held-tabled (b .args .j) (b .pre .0) _ _ (p .before .power-codes .ensures) (p .power .ensures),
+      b .pre .1,
+    )
 
 component-states-requires : tie.Need-component-states-requires
 component-states-requires c κs =
@@ -34,7 +37,7 @@ find-component-requires c κs =
     let b = p .before .before in (
       powers p,
       has-states (b .args .j) (b .pre .0),
-      λ s h. omega (arith, w .state-weights .ensures .1 s h, b .pre .0 .allowed .cap₂),
+      λ s h. omega (arith, w .weights-of .ensures .1 s h),
     )
 
 returns : tie.Need-returns
@@ -47,9 +50,8 @@ returns c =
     let r = b .pre .0 in
     let e = p .before .power-codes .ensures in
     let f = p .power .ensures in
-    let v = w .state-weights .ensures .0 in
-    let u = held-weights j r _ _ e f _ _ (b .pre .1) v in
-    let g = held-component j r _ _ e f _ _ (b .pre .1) v _ (c .before .find-component .ensures) in
+    let u = w .weights-of .ensures .0 in
+    let g = held-component j r _ _ e f _ u _ (c .before .find-component .ensures) in
     let m = s .component-states .ensures .1 ∙ ap₂ componentStates u (held-tabled j r _ _ e f) in
     record {
       weights = u;
@@ -63,5 +65,5 @@ pub begin-spec : {M : Type 1} → statement M
 begin-spec =
     tie.close
     (tie.spec
-    (λ c κs. search needs) (λ c κs. search needs) state-weights-requires component-states-requires
+    (λ c κs. search needs) (λ c κs. search needs) weights-of-requires component-states-requires
     find-component-requires returns)

@@ -1,0 +1,36 @@
+-- `are_low` meets its contract. The loop's invariant: the weights of every state passed are at most cap. The measure is
+-- what is left.
+-- Assumes nothing.
+use Rattle.laws.proofs.All.{_≡_, sym, ap, _∙_, true, ℕ, _-_, _≤_, _<_, arith, range, all, below-more, le-leb, lt-leb}
+use Rattle.laws.proofs.All.{all-range-true, all-range-false, needs}
+use Rattle.compile_graph.specs.Weights.{low}
+use Rattle.compile_weights.proofs.brought.are_low.Statement.{statement}
+use Rattle.compile_weights.proofs.brought.are_low.Tie as tie
+
+abbrev Inv-loop : tie.InvT-loop
+Inv-loop k cap v s₀ s = (s ≤ k) × ((j : ℕ) → j < s → low cap v j ≡ true)
+
+abbrev μ-loop : tie.MeasureT-loop
+μ-loop k cap v s₀ s = k - s
+
+returns : tie.Need-returns Inv-loop μ-loop
+returns c =
+    let l = c .before .before in
+    let a = l .before .args in
+    sym (all-range-false (low (a .cap) (a .t1)) (a .k) (l .loop .s) (omega arith) (lt-leb _ _ (c .if1 .taken)))
+
+loop-again : tie.Need-loop-again Inv-loop μ-loop
+loop-again c = (omega arith, below-more _ _ (c .before .before .loop .inv .1) (le-leb _ _ (c .if1 .left)))
+
+returns-2 : tie.Need-returns-2 Inv-loop μ-loop
+returns-2 c =
+    let l = c .before .loop in
+    let a = c .before .before .args in
+    sym (all-range-true (low (a .cap) (a .t1)) (a .k) (λ j h. l .inv .1 j (omega arith)))
+
+pub are-low-spec : {M : Type 1} → statement M
+are-low-spec =
+    tie.close
+    (tie.spec
+    Inv-loop μ-loop (λ c. (omega arith, λ j h. absurd (omega arith))) (λ c. search needs) (λ c. search needs) returns
+    (λ c. search needs) (λ c. search needs) loop-again returns-2)
