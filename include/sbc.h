@@ -41,7 +41,8 @@ enum {
     SBC_SHORT_OUTPUT = 13,   /* the output is too short */
     SBC_TOO_MANY_PAIRS = 14, /* two constraints give more than 16 pairs of states */
     SBC_STREAM = 15,         /* over 1,000,000 words, wrong number of bytes, or fill not 0 */
-    SBC_DEPTH = 16           /* depth D is not 2 to 16, or does not divide the length */
+    SBC_DEPTH = 16,          /* depth D is not 2 to 16, or does not divide the length */
+    SBC_BAD_WEIGHTS = 17     /* weights over cap, all 0, or the inequality fails at a state */
 };
 
 /* The most words of a bit stream, closing words included. */
@@ -66,10 +67,12 @@ enum {
     SBC_INFO = 8,
     /* Room for the words of every refusal. */
     SBC_PHRASE_MAX = 60,
-    /* The longest job: p, q, cap, K, and two bytes for each of 16 states. */
-    SBC_JOB_MAX = 4 + 2 * 16,
-    /* A run-length job: d, k, p, q, cap. */
+    /* The longest job: p, q, cap, K, two bytes for each of 16 states, and a weight for each. */
+    SBC_JOB_MAX = 4 + 3 * 16,
+    /* A run-length job that brings no weights: d, k, p, q, cap. */
     SBC_RUN_LENGTH_JOB = 5,
+    /* The longest run-length job: those five, and a weight for each of 16 states. */
+    SBC_RUN_LENGTH_JOB_MAX = 5 + 16,
     /* The longest job with two constraints, 69: p, q, cap, and for each K and two bytes for each of 16 states. */
     SBC_JOINED_JOB_MAX = 3 + 2 * (1 + 2 * 16),
     /* The longest record, 3,865: a header of 3 + 4 + 7 + 4 + 4 + 4 + 4 + 4 bits, two next states of 1 + 4 bits for each
@@ -100,18 +103,23 @@ static inline uint64_t sbc_value(uint64_t answer)
  * before, and since version 2.0.0 a record states its tail datum: the compiler writes 0, and sbc_with_tail another. A
  * record of an older version is no longer read: it lacks the 4 bits after the constraint start.
  * job: p (1 to 4), q (1 to 8), cap (1 to 16), K (1 to 16), then for each of K states the next states for channel bits
- * 0 and 1, with 255 for none.
+ * 0 and 1, with 255 for none. Since version 2.3.0 a weight for each of K states may come after them. Such weights are
+ * used as they are, in place of the greatest ones that the compiler finds. They must be at most cap, not all 0, and at
+ * each state n times its weight must be at most the sum of the weights to which its words lead, n being 2^p.
  * out: the packed record; SBC_RECORD_MAX bytes are always enough. It lies apart from job.
  * Answers how many bytes were written.
- * Refusals in order: 8 below four bytes; 1; 2 for K; 8 for any length but 4 + 2 K; 2 for a next state; 3; 4; 5; 6;
- * 13. */
+ * Refusals in order: 8 below four bytes; 1; 2 for K; 8 for any length but 4 + 2 K and 4 + 3 K; 2 for a next state; with
+ * weights 17 if they fail, without them 3; 4; 5; 6; 13. With weights 3 never comes: they say nothing of whether there
+ * is a code. */
 uint64_t sbc_compile(const uint8_t *job, uint64_t job_length, uint8_t *out, uint64_t out_length);
 
 /* Compiles a run-length job to a record.
- * job: the five bytes d, k, p, q, cap, with d <= k <= 15.
+ * job: the five bytes d, k, p, q, cap, with d <= k <= 15; since version 2.3.0 a weight for each of the k + 1 states may
+ * come after them, as at sbc_compile.
  * out: the packed record; SBC_RECORD_MAX bytes are always enough. It lies apart from job.
  * Answers how many bytes were written.
- * Refusals in order: 8 for any length but five; 1; 2; 3; 4; 5; 6; 13. */
+ * Refusals in order: 8 below five bytes; 1; 2; 8 for any length but 5 and 5 + k + 1; with weights 17 if they fail,
+ * without them 3; 4; 5; 6; 13. (Before version 2.3.0 any length but five was 8, before all else.) */
 uint64_t sbc_compile_run_length(const uint8_t *job, uint64_t job_length, uint8_t *out, uint64_t out_length);
 
 /* Compiles a job with two constraints to a record for both: a channel bit is allowed when both constraints allow it.
@@ -287,7 +295,7 @@ uint64_t sbc_with_tail(const uint8_t *record, uint64_t record_length, uint64_t d
 uint64_t sbc_set(const uint8_t *set, uint64_t set_length);
 
 /* Lists the table of a run-length job as text.
- * job: the five bytes d, k, p, q, cap.
+ * job: the five bytes d, k, p, q, cap; it takes no weights.
  * out: a line with p, q, states, m and a, then a line for each state and datum with state, datum, word in binary and
  * next state; SBC_LISTING_MAX bytes are always enough. No zero byte ends it. It lies apart from job.
  * Answers how many bytes were written.
@@ -304,7 +312,7 @@ uint64_t sbc_listing(const uint8_t *job, uint64_t job_length, uint8_t *out, uint
 uint64_t sbc_phrase(uint64_t refusal, uint8_t *out, uint64_t out_length);
 
 /* The version of the library, and no answer: 10,000 times the major number, plus 100 times the minor number, plus the
- * patch. 20200 is 2.2.0, the first with sbc_verify and sbc_verify_stream. */
+ * patch. 20300 is 2.3.0, the first whose jobs may bring weights. */
 uint64_t sbc_version(void);
 
 #ifdef __cplusplus

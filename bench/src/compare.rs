@@ -1,8 +1,9 @@
 //! Random calls, good and bad, of the proved library and of the outside implementation.
+use crate::brought::Brought;
 use crate::speed::{E2, LISTED_FIRST};
 use crate::verify::{self, Verified};
 use crate::weaving::{self, Scratches};
-use crate::{library, streams};
+use crate::{jobs, library, streams};
 use reference::answer::Answer;
 use std::time::{Duration, Instant};
 
@@ -143,61 +144,6 @@ fn decode(numbers: &mut Numbers, record: &[u8], (p, q): (usize, usize), marks: &
     ours.0
 }
 
-/// A job's bytes, sometimes damaged, compiled; and listed, if it is a run-length job.
-fn compile(numbers: &mut Numbers) -> u64 {
-    let mut below = |bound| numbers.below(bound) as u8;
-    let states = below(5) + 1;
-    let mut general = vec![below(3) + 1, below(4) + 1, below(6) + 1, states];
-    (0..2 * states).for_each(|_| general.push(if below(5) == 0 { 255 } else { below(usize::from(states)) }));
-    let run_length = [below(4), below(9), below(4) + 1, below(6) + 1, below(9) + 1];
-    let general = if numbers.below(4) == 0 { damaged(numbers, &general) } else { general };
-    let run_length = if numbers.below(4) == 0 { damaged(numbers, &run_length) } else { run_length.to_vec() };
-    let mut out = vec![0xa5; numbers.below(300)];
-    let ours = library::compile(&general, &mut out);
-    agree("compile", &general, ours, &out, &reference::calls::compile_job(&general, out.len()));
-    let mut out = vec![0xa5; numbers.below(300)];
-    let answer = library::compile_run_length(&run_length, &mut out);
-    agree("run-length", &run_length, answer, &out, &reference::calls::compile_run_length(&run_length, out.len()));
-    let mut out = vec![0xa5; 30000];
-    let listed = library::listing(&run_length, &mut out);
-    let theirs = reference::calls::listing(&run_length, out.len());
-    if listed.0 == 0 {
-        agree("listing", &run_length, listed, &out, &theirs);
-    } else {
-        // The outside implementation answers what the program prints; the call answers the refusal.
-        assert_eq!(theirs.output, format!("refused {}\n", listed.0).into_bytes(), "listing of {run_length:02x?}");
-        assert!(out.iter().all(|&b| b == 0xa5), "listing of {run_length:02x?}: bytes lent");
-    }
-    ours.0
-}
-
-/// A constraint in a joined job: K and its next states, random, or a run-length constraint written out.
-fn rule(numbers: &mut Numbers) -> Vec<u8> {
-    let mut below = |bound| numbers.below(bound) as u8;
-    if below(2) == 0 {
-        let k = below(9);
-        let d = below(usize::from(k.min(3)) + 1);
-        let next = |i: u8| [if i < k { i + 1 } else { 255 }, if i >= d { 0 } else { 255 }];
-        return [k + 1].into_iter().chain((0..=k).flat_map(next)).collect();
-    }
-    let states = below(6) + 1;
-    let mut rule = vec![states];
-    (0..2 * states).for_each(|_| rule.push(if below(5) == 0 { 255 } else { below(usize::from(states)) }));
-    rule
-}
-
-/// The bytes of a job with two constraints, sometimes damaged, compiled.
-fn compile_joined(numbers: &mut Numbers) -> u64 {
-    let mut job: Vec<u8> = [3, 4, 6].map(|bound| numbers.below(bound) as u8 + 1).to_vec();
-    job.extend(rule(numbers));
-    job.extend(rule(numbers));
-    let job = if numbers.below(4) == 0 { damaged(numbers, &job) } else { job };
-    let mut out = vec![0xa5; numbers.below(300)];
-    let ours = library::compile_joined(&job, &mut out);
-    agree("joined", &job, ours, &out, &reference::calls::compile_joined(&job, out.len()));
-    ours.0
-}
-
 /// Compares for as long as it is told, and says how many calls agreed.
 pub fn for_seconds(seconds: u64) {
     let records = records();
@@ -206,22 +152,23 @@ pub fn for_seconds(seconds: u64) {
     streams::limits(&records[1].0, 1);
     weaving::limits();
     [0, 5].iter().for_each(|&i: &usize| verify::limits(&records[i].0));
-    let (mut scratches, mut verified) = (Scratches::default(), Verified::default());
+    let (mut scratches, mut verified, mut brought) = (Scratches::default(), Verified::default(), Brought::default());
     let end = Instant::now() + Duration::from_secs(seconds);
-    let (mut answers, mut marks) = ([0u64; 17], [0u64; 2]);
+    let (mut answers, mut marks) = ([0u64; 18], [0u64; 2]);
     while Instant::now() < end {
         let (record, p, q) = &records[numbers.below(records.len())];
         let bytes = if numbers.below(8) == 0 { damaged(&mut numbers, record) } else { record.clone() };
-        let refusal = match numbers.below(12) {
+        let refusal = match numbers.below(13) {
+            12 => brought.one(&mut numbers),
             11 => verified.one(&mut numbers, &bytes, (*p, *q), &records),
             10 => scratches.one(&mut numbers, record),
             9 => weaving::calls(&mut numbers),
             8 => with_tail(&mut numbers, &bytes),
             7 => streams::pack(&mut numbers),
             6 => streams::code(&mut numbers, &bytes, *p),
-            5 => compile_joined(&mut numbers),
+            5 => jobs::compile_joined(&mut numbers),
             4 => set(&mut numbers, &records),
-            3 => compile(&mut numbers),
+            3 => jobs::compile(&mut numbers),
             0 => check(&damaged(&mut numbers, record)),
             1 => encode(&mut numbers, &bytes, *p),
             _ => decode(&mut numbers, &bytes, (*p, *q), &mut marks),
@@ -232,4 +179,5 @@ pub fn for_seconds(seconds: u64) {
     println!("{} decoded blocks marked 254, {} marked 255", marks[0], marks[1]);
     verified.print();
     scratches.print();
+    brought.print();
 }

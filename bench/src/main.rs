@@ -1,8 +1,10 @@
 //! Compares the proved library with the outside implementation, and measures both.
+mod brought;
 mod chains;
 mod compare;
 mod families;
 mod hostile;
+mod jobs;
 mod library;
 mod marks;
 mod plain;

@@ -1,6 +1,6 @@
 -- Jobs that are read are allowed: their numbers are in range and their next states are states or none.
 -- In order: heldJob-from, a job is a front and one constraint; bringing-counted, sized→, held-sized; heldJob-held,
--- readJob-allowed; heldRunLength-held, readRunLength-allowed, readListed-is, readRunLength-is; readJoined-allowed.
+-- readJob-allowed; heldRunLength→, heldRunLength-held, readRunLength-allowed, readListed-is; readJoined-allowed.
 -- Assumes nothing.
 use Rattle.laws.proofs.All.{_≡_, refl, sym, ap, ap₂, subst, _∙_, inl, inr, Bool, true, false, _&&_, _||_, List, ℕ, _+_}
 use Rattle.laws.proofs.All.{_*_, _-_, _/_, _≤_, arith, ℕ-discrete, T, leb, eqb, leb→le, le→leb, leb-true, eqb→eq}
@@ -156,9 +156,9 @@ runLength-lawful d k h =
     record { some = omega arith; few = omega arith; well = runLength-well d k }
 
 -- a run-length job has the constraint (d, k) of its first two bytes, and its weights after the first five
-heldRunLength→ : (xs : List ℕ) (j : Job) → heldRunLength xs ≡ done j → let k = getD xs 1 0 in
-    T (goodParameters (getD xs 2 0) (getD xs 3 0) (getD xs 4 0)) × (k ≤ 15) × Sized 5 (k + 1) (length xs)
-    × (j ≡ heldWith (getD xs 2 0) (getD xs 3 0) (getD xs 4 0) (runLength (getD xs 0 0) k) (bringing 5 xs))
+pub heldRunLength→ : (xs : List ℕ) (j : Job) → heldRunLength xs ≡ done j → let k = getD xs 1 0 in
+    T (goodParameters (getD xs 2 0) (getD xs 3 0) (getD xs 4 0)) × (getD xs 0 0 ≤ k) × (k ≤ 15)
+    × Sized 5 (k + 1) (length xs) × (j ≡ heldWith (getD xs 2 0) (getD xs 3 0) (getD xs 4 0) (runLength (getD xs 0 0) k) (bringing 5 xs))
 unfolding heldRunLength
 heldRunLength→ xs j e =
     let d = getD xs 0 0 in
@@ -169,6 +169,7 @@ heldRunLength→ xs j e =
     let (tk, e₃) = unless→ States (leb d k && leb k 15) _ j e₂ in
     let (tl, e₄) = unless→ Length (eqb (length xs) 5 || eqb (length xs) (5 + (k + 1))) _ j e₃ in (
       tp,
+      leb→le d k (and→ (leb d k) (leb k 15) tk .0),
       leb→le k 15 (and→ (leb d k) (leb k 15) tk .1),
       elim (or→ (eqb (length xs) 5) (eqb (length xs) (5 + (k + 1))) tl) [
         | inl u ↦ inl (eqb→eq (length xs) 5 u)
@@ -180,7 +181,7 @@ heldRunLength→ xs j e =
 pub heldRunLength-held : (xs : List ℕ) (j : Job) → heldRunLength xs ≡ done j → Held j
 heldRunLength-held xs j e =
     let k = getD xs 1 0 in
-    let (t, h, s, q) = heldRunLength→ xs j e in
+    let (t, _, h, s, q) = heldRunLength→ xs j e in
     let l = runLength-lawful (getD xs 0 0) k h in
     subst Held (sym q)
     (record {
@@ -196,15 +197,6 @@ readRunLength-allowed xs j e = fitted-allowed (heldRunLength xs) j e (heldRunLen
 pub readListed-is : (xs : List ℕ) (j : Job) → readListed xs ≡ done j → readRunLength xs ≡ done j
 unfolding readListed
 readListed-is xs j e = unless→ Length (eqb (length xs) 5) (readRunLength xs) j e .1
-
-pub readRunLength-is : (xs : List ℕ) (j : Job) → readRunLength xs ≡ done j
-    → (j .constraint ≡ runLength (getD xs 0 0) (getD xs 1 0)) × (getD xs 1 0 ≤ 15)
-unfolding readRunLength
-readRunLength-is xs j e =
-    let (i, p, q) = onward→ (heldRunLength xs) fitted j e in
-    let (_, s) = unless→ BadWeights (fit i (i .choice)) (done i) j q in
-    let (_, h, _, r) = heldRunLength→ xs i p in
-    (ap (λ j. j .constraint) (sym (done-inj i j s) ∙ r), h)
 
 pub readJoined-allowed : (xs : List ℕ) (j : Job) → readJoined xs ≡ done j → Allowed j
 readJoined-allowed xs j e =

@@ -1,6 +1,6 @@
 -- What a job that is read has from its bytes: its numbers, every next state of its constraint, and its weights.
 -- In order: states-after, states-at, run-at, run-on, run-end, run-short, run-back, where a bit leads; fitted-is,
--- bytes-bring; job-is, job-read; run-length-is, run-length-read; from-states, read-after, one constraint at an offset;
+-- bytes-bring; job-is, job-read; run-length-read; from-states, read-after, one constraint at an offset;
 -- joined-read.
 -- Assumes nothing.
 use Rattle.laws.proofs.All.{_≡_, refl, sym, ap, subst, _∙_, _⊎_, inl, inr, Bool, _&&_, _||_, List, ℕ, zero, suc, _+_}
@@ -17,6 +17,7 @@ use Rattle.compile_job.specs.Jobs.{heldJob, readJob, heldRunLength, read
 use Rattle.compile_job.specs.Jobs.{Joins}
 use Rattle.compile_job.proofs.Constraints.{length-statesOf, constraintFrom-length}
 use Rattle.compile_job.proofs.Weights.{bringing-none, bringing-some}
+use Rattle.compile_job.proofs.Jobs.{heldRunLength→}
 
 -- ---- where a bit leads
 -- in states that are read from the front of bytes
@@ -59,19 +60,16 @@ fitted-is : (o : Outcome Job) (j : Job) → onward o fitted ≡ done j → o ≡
 fitted-is o j e =
     let (i, p, q) = onward→ o fitted j e in p ∙ unless→ BadWeights (fit i (i .choice)) (done i) j q .1
 
--- none at one length, the bytes after the job at the other
-bytes-bring : (size long : ℕ) (xs : List ℕ) → size < long
-    → T (eqb (length xs) size || eqb (length xs) long)
+-- none where there are `size` bytes, otherwise those after them
+bytes-bring : (size long : ℕ) (xs : List ℕ) → size < long → (length xs ≡ size) ⊎ (length xs ≡ long)
     → ((length xs ≡ size) × (bringing size xs ≡ computed))
     ⊎ ((length xs ≡ long) × (bringing size xs ≡ brought (drop size xs)))
-bytes-bring size long xs h t = elim (or→ (eqb (length xs) size) (eqb (length xs) long) t) [
-  | inl u ↦ let e = eqb→eq (length xs) size u in inl (e, bringing-none size xs e)
-  | inr u ↦ let e = eqb→eq (length xs) long u in inr (e, bringing-some size xs (λ k. omega arith))
-]
+bytes-bring size long xs h (inl e) = inl (e, bringing-none size xs e)
+bytes-bring size long xs h (inr e) = inr (e, bringing-some size xs (λ k. omega arith))
 
 -- ---- a job
 job-is : (xs : List ℕ) (j : Job) → readJob xs ≡ done j → let K = getD xs 3 0 in (1 ≤ K)
-    × T (eqb (length xs) (4 + 2 * K) || eqb (length xs) (4 + 3 * K))
+    × ((length xs ≡ 4 + 2 * K) ⊎ (length xs ≡ 4 + 3 * K))
     × (j ≡ heldWith (getD xs 0 0) (getD xs 1 0) (getD xs 2 0) (statesOf K (drop 4 xs)) (bringing (4 + 2 * K) xs))
 unfolding readJob heldJob
 job-is xs j e =
@@ -82,7 +80,14 @@ job-is xs j e =
     let (tk, e₃) = unless→ States (leb 1 K && leb K 16) _ j e₂ in
     let (tl, e₄) = unless→ Length (eqb (length xs) (4 + 2 * K) || eqb (length xs) (4 + 3 * K)) _ j e₃ in
     let (_, e₅) = unless→ States (all (goodNext K) c) _ j e₄ in
-    (leb→le 1 K (and→ (leb 1 K) (leb K 16) tk .0), tl, sym (done-inj _ j e₅))
+    (
+      leb→le 1 K (and→ (leb 1 K) (leb K 16) tk .0),
+      elim (or→ (eqb (length xs) (4 + 2 * K)) (eqb (length xs) (4 + 3 * K)) tl) [
+        | inl u ↦ inl (eqb→eq (length xs) (4 + 2 * K) u)
+        | inr u ↦ inr (eqb→eq (length xs) (4 + 3 * K) u)
+      ],
+      sym (done-inj _ j e₅),
+    )
 
 -- THEOREM: p, q, cap and K are its first four bytes, its next states the bytes after them, and then come its weights
 pub job-read : (xs : List ℕ) (j : Job) → readJob xs ≡ done j → let K = getD xs 3 0 in (j .p ≡ getD xs 0 0)
@@ -92,7 +97,7 @@ pub job-read : (xs : List ℕ) (j : Job) → readJob xs ≡ done j → let K = g
     ⊎ ((length xs ≡ 4 + 3 * K) × (j .choice ≡ brought (drop (4 + 2 * K) xs))))
 job-read xs j e =
     let K = getD xs 3 0 in
-    let (h, t, q) = job-is xs j e in (
+    let (h, s, q) = job-is xs j e in (
       ap (λ j. j .p) q,
       ap (λ j. j .q) q,
       ap (λ j. j .cap) q,
@@ -100,23 +105,10 @@ job-read xs j e =
       λ s b h l. ap (λ j. after (j .constraint) s b) q ∙ states-at K 4 xs s b h l,
       subst (λ ch. ((length xs ≡ 4 + 2 * K) × (ch ≡ computed))
           ⊎ ((length xs ≡ 4 + 3 * K) × (ch ≡ brought (drop (4 + 2 * K) xs)))) (sym (ap (λ j. j .choice) q))
-          (bytes-bring (4 + 2 * K) (4 + 3 * K) xs (omega arith) t),
+          (bytes-bring (4 + 2 * K) (4 + 3 * K) xs (omega arith) s),
     )
 
 -- ---- a run-length job
-run-length-is : (xs : List ℕ) (j : Job) → readRunLength xs ≡ done j → let d = getD xs 0 0 in let k = getD xs 1 0 in
-    (d ≤ k) × T (eqb (length xs) 5 || eqb (length xs) (5 + (k + 1)))
-    × (j ≡ heldWith (getD xs 2 0) (getD xs 3 0) (getD xs 4 0) (runLength d k) (bringing 5 xs))
-unfolding readRunLength heldRunLength
-run-length-is xs j e =
-    let d = getD xs 0 0 in
-    let k = getD xs 1 0 in
-    let (_, e₁) = unless→ Length (leb 5 (length xs)) _ j (fitted-is (heldRunLength xs) j e) in
-    let (_, e₂) = unless→ Parameters (goodParameters (getD xs 2 0) (getD xs 3 0) (getD xs 4 0)) _ j e₁ in
-    let (tk, e₃) = unless→ States (leb d k && leb k 15) _ j e₂ in
-    let (tl, e₄) = unless→ Length (eqb (length xs) 5 || eqb (length xs) (5 + (k + 1))) _ j e₃ in
-    (leb→le d k (and→ (leb d k) (leb k 15) tk .0), tl, sym (done-inj _ j e₄))
-
 -- THEOREM: p, q and cap are its bytes 2 to 4, from state i bit 0 leads to i + 1 below k and bit 1 to 0 from d on, and
 -- then come its weights
 pub run-length-read : (xs : List ℕ) (j : Job) → readRunLength xs ≡ done j → let d = getD xs 0 0 in
@@ -126,10 +118,11 @@ pub run-length-read : (xs : List ℕ) (j : Job) → readRunLength xs ≡ done j 
     × ((i : ℕ) → i < d → after c i 1 ≡ 255) × ((i : ℕ) → d ≤ i → i ≤ k → after c i 1 ≡ 0)
     × (((length xs ≡ 5) × (j .choice ≡ computed))
     ⊎ ((length xs ≡ 5 + (k + 1)) × (j .choice ≡ brought (drop 5 xs))))
+unfolding readRunLength
 run-length-read xs j e =
     let d = getD xs 0 0 in
     let k = getD xs 1 0 in
-    let (h, t, q) = run-length-is xs j e in (
+    let (_, h, _, s, q) = heldRunLength→ xs j (fitted-is (heldRunLength xs) j e) in (
       ap (λ j. j .p) q,
       ap (λ j. j .q) q,
       ap (λ j. j .cap) q,
@@ -140,7 +133,7 @@ run-length-read xs j e =
       λ i l m. ap (λ j. after (j .constraint) i 1) q ∙ run-back d k i l m,
       subst (λ ch. ((length xs ≡ 5) × (ch ≡ computed))
           ⊎ ((length xs ≡ 5 + (k + 1)) × (ch ≡ brought (drop 5 xs)))) (sym (ap (λ j. j .choice) q))
-          (bytes-bring 5 (5 + (k + 1)) xs (omega arith) t),
+          (bytes-bring 5 (5 + (k + 1)) xs (omega arith) s),
     )
 
 -- ---- two constraints
