@@ -1,7 +1,7 @@
 -- "Weights" (in the field: an approximate eigenvector of the graph of words).
--- In order: wordsBetween, A(s, t); product, A v; Enough, the inequality; AtMost, the order of vectors; lower, lowered,
--- weights; low, weighty, meets, passing, Passing, weights that are brought; weight and total, the weights to which
--- edges lead.
+-- In order: wordsBetween, A(s, t); term, product, A v; Enough, the inequality; AtMost, the order of vectors; lower,
+-- lowered, weights; low, weighty, meets, passing, Passing, weights that are brought; weight and total, the weights to
+-- which edges lead.
 -- Assumes nothing.
 use mathlib.Core.Bool.{Bool, _&&_}
 use mathlib.Core.List.{List, map}

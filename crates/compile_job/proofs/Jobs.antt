@@ -1,6 +1,7 @@
 -- Jobs that are read are allowed: their numbers are in range and their next states are states or none.
--- In order: heldJob-from, a job is a front and one constraint; bringing-counted, sized→, held-sized; heldJob-held,
--- readJob-allowed; heldRunLength→, heldRunLength-held, readRunLength-allowed, readListed-is; readJoined-allowed.
+-- In order: checked-onward; heldJob-from, a job is a front and one constraint; bringing-counted, sized→, held-sized;
+-- heldJob-held, readJob-allowed; heldRunLength→, heldRunLength-held, readRunLength-allowed, readListed-is;
+-- readJoined-allowed.
 -- Assumes nothing.
 use Rattle.laws.proofs.All.{_≡_, refl, sym, ap, ap₂, subst, _∙_, inl, inr, Bool, true, false, _&&_, _||_, List, ℕ, _+_}
 use Rattle.laws.proofs.All.{_*_, _-_, _/_, _≤_, arith, ℕ-discrete, T, leb, eqb, leb→le, le→leb, leb-true, eqb→eq}
@@ -158,7 +159,8 @@ runLength-lawful d k h =
 -- a run-length job has the constraint (d, k) of its first two bytes, and its weights after the first five
 pub heldRunLength→ : (xs : List ℕ) (j : Job) → heldRunLength xs ≡ done j → let k = getD xs 1 0 in
     T (goodParameters (getD xs 2 0) (getD xs 3 0) (getD xs 4 0)) × (getD xs 0 0 ≤ k) × (k ≤ 15)
-    × Sized 5 (k + 1) (length xs) × (j ≡ heldWith (getD xs 2 0) (getD xs 3 0) (getD xs 4 0) (runLength (getD xs 0 0) k) (bringing 5 xs))
+    × Sized 5 (k + 1) (length xs)
+    × (j ≡ heldWith (getD xs 2 0) (getD xs 3 0) (getD xs 4 0) (runLength (getD xs 0 0) k) (bringing 5 xs))
 unfolding heldRunLength
 heldRunLength→ xs j e =
     let d = getD xs 0 0 in

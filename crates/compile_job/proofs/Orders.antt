@@ -102,14 +102,14 @@ told-fit j size xs =
     let (f, g) = passing-exact (2 ^ j .p) (j .cap) (power (j .constraint) (j .q)) u in
     elim (ℕ-discrete (length xs) size) [
       | yes e ↦ told-by (fit j (bringing size xs)) (λ t. inl e)
-            (λ p. subst (λ ch. T (fit j ch)) (sym (bringing-none size xs e)) tt)
+          (λ p. subst (λ ch. T (fit j ch)) (sym (bringing-none size xs e)) tt)
       | no n ↦
-            let b = bringing-some size xs n in
-            told-by (fit j (bringing size xs)) (λ t. inr (f (subst (λ ch. T (fit j ch)) b t)))
-            (λ p. elim p [
-              | inl e ↦ absurd (n e)
-              | inr q ↦ subst (λ ch. T (fit j ch)) (sym b) (g q)
-            ])
+          let b = bringing-some size xs n in
+          told-by (fit j (bringing size xs)) (λ t. inr (f (subst (λ ch. T (fit j ch)) b t)))
+          (λ p. elim p [
+            | inl e ↦ absurd (n e)
+            | inr q ↦ subst (λ ch. T (fit j ch)) (sym b) (g q)
+          ])
     ]
 
 -- ---- a job

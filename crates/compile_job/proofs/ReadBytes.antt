@@ -79,8 +79,7 @@ job-is xs j e =
     let (_, e₂) = unless→ Parameters (goodParameters (getD xs 0 0) (getD xs 1 0) (getD xs 2 0)) _ j e₁ in
     let (tk, e₃) = unless→ States (leb 1 K && leb K 16) _ j e₂ in
     let (tl, e₄) = unless→ Length (eqb (length xs) (4 + 2 * K) || eqb (length xs) (4 + 3 * K)) _ j e₃ in
-    let (_, e₅) = unless→ States (all (goodNext K) c) _ j e₄ in
-    (
+    let (_, e₅) = unless→ States (all (goodNext K) c) _ j e₄ in (
       leb→le 1 K (and→ (leb 1 K) (leb K 16) tk .0),
       elim (or→ (eqb (length xs) (4 + 2 * K)) (eqb (length xs) (4 + 3 * K)) tl) [
         | inl u ↦ inl (eqb→eq (length xs) (4 + 2 * K) u)

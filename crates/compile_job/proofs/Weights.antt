@@ -1,5 +1,5 @@
 -- Weights after a job's bytes, and when a job whose weights are still to be checked has its fields in range.
--- In order: bringing-none, bringing-some, sized-more; held-bounds, held-few; fitted-none, fitted-bad, fitted-good.
+-- In order: bringing-none, bringing-some, sized-more; held-bounds, held-few; fitted-bad, fitted-good.
 -- Assumes nothing.
 use Rattle.laws.proofs.All.{_≡_, ap, _∙_, inl, inr, true, false, _&&_, List, ℕ, _+_, _≤_, arith, T, leb, eqb, leb→le}
 use Rattle.laws.proofs.All.{eq-eqb, ne-eqb, length, drop, if_then_else_, and→}

@@ -1,8 +1,10 @@
--- The three kinds of job, from bytes: "Job: 8 below four bytes, 1, K by 2, 8, next states by 2 [..] Run-length job: 8,
--- 1, 2"; two constraints in one job, joined; and weights that come with a job.
+-- The three kinds of job, from bytes: "Job: 8 below four bytes, 1, K by 2, 8, next states by 2"; run-length jobs, "8
+-- below five bytes, 1, 2, 8 for a length other than 5 or 5 + K"; two constraints in one job, joined; and the weights
+-- that come with a job, 17 where they fail.
 -- In order: Choice, Job; goodParameters; bringing, fit, fitted; statesOf, heldJob, readJob; heldRunLength,
 -- readRunLength, readListed; constraintFrom, one constraint in a row of bytes; fronted, heldWith, jobBringing,
--- jobWith, readJoined; Joins, the two constraints of a joined job; Fitting, Allowed, the jobs that pass these checks.
+-- jobWith, joinedJob, readJoined; Joins, the two constraints of a joined job; Fitting, Allowed, the jobs that pass
+-- these checks.
 -- Assumes nothing.
 use mathlib.Core.Path.{_≡_}
 use mathlib.Core.Bool.{Bool, true, _&&_, _||_}

@@ -118,8 +118,8 @@ fn is_sized(whole: bool, weights: bool, size: usize, bytes: usize) -> bool
     size + size / 2 == bytes
 }
 
-// The constraint at the start of the bytes, or the refusal: "8 for a missing K, K by 2, 8, next states by 2". It is to take
-// all of the bytes, or all but its weights, or bytes may be left over.
+// The constraint at the start of the bytes, or the refusal: "8 for a missing K, K by 2, 8, next states by 2". It is to
+// take all of the bytes, or all but its weights, or bytes may be left over.
 pub fn read_constraint(bytes: &[u8], whole: bool, weights: bool) -> ConstraintAnswer
     ensures answer { λ r. ⌜ constraintOutcome r ≡ constraintFrom (sized whole weights) (now (bytes .entry)) ⌝ }
     ensures kept { λ r. ⌜ (r .verdict ≡ Good → Lawful (constraintOf (r .constraint))) ⌝ }

@@ -188,9 +188,9 @@ pub record Examples : Type 0 where
 
 -- they hold
 pub examples : Examples
-unfolding heldJob readJob heldRunLength readRunLength readListed compile compileRunLength packInto pack fieldsChecked parse closedWith encoded decoded
-    encodeUnder decodeUnder works sizes window obeys power weights componentStates componentGraph split splits
-    splitAll tableStates tableOf dataOf relabelled decimal entry listing listInto
+unfolding heldJob readJob heldRunLength readRunLength readListed compile compileRunLength packInto pack fieldsChecked
+    parse closedWith encoded decoded encodeUnder decodeUnder works sizes window obeys power weights componentStates
+    componentGraph split splits splitAll tableStates tableOf dataOf relabelled decimal entry listing listInto
 examples = record {
   e1-weights = refl;
   e1-table = refl;

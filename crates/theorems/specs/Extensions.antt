@@ -5,10 +5,11 @@
 -- (c) labels, labels-row, labels-rule, labels-hold, table-rule; (d) decoded-blocks, marks, read-datum, no-mark-ahead,
 -- clear-unmarked; (e) closes, tail-free, tail-place, closes-record; (f) depth-numbers, weave-calls, unweave-calls,
 -- weave-spreads, weave-returns, weave-places, weaving, one-word-each, fewer-places, scratch; (g) state-sets, step-bits,
--- back-bits, pair-step-bits, pair-hit-bits; (h) brought-used, bad-weights, brought-ends; Verify: verified, verified-place, verified-mark, verified-near,
--- verified-stream, verify-calls, verify-stream-calls; Calls: job-order, job-read, run-length-order, run-length-read,
--- joined-order, listing-call; set-layout, set-order, set-count; encode-calls, decode-calls, checked-calls;
--- info-numbers, phrase-words, phrases, with-tail; refusal-numbers, answer-words, word-numbers, set-words, outputs.
+-- back-bits, pair-step-bits, pair-hit-bits; (h) brought-used, bad-weights, brought-ends; Verify: verified,
+-- verified-place, verified-mark, verified-near, verified-stream, verify-calls, verify-stream-calls; Calls: job-order,
+-- job-read, run-length-order, run-length-read, joined-order, listing-call; set-layout, set-order, set-count;
+-- encode-calls, decode-calls, checked-calls; info-numbers, phrase-words, phrases, with-tail; refusal-numbers,
+-- answer-words, word-numbers, set-words, outputs.
 -- Assumes nothing.
 use mathlib.Core.Path.{_≡_}
 use mathlib.Core.Logic.{_⊎_, _↔_}
@@ -594,8 +595,7 @@ pub job-order : (xs : List ℕ) (room : ℕ) (r : Refusal) → (3 ≤ numberOf r
     ⊎ Passing (2 ^ p) cap (power (statesOf K (drop 4 xs)) q) (drop (4 + 2 * K) xs)) ∷ []) r
 job-order = Rattle.compile.proofs.Orders.job-order
 
--- The job that is read has p, q, cap and K in its first four bytes, two next states a state, 255 for none, and then
--- no bytes, or one weight a state.
+-- It is read with p, q, cap and K from its first four bytes, then two next states a state, 255 for none, then weights.
 pub job-read : (xs : List ℕ) (j : Job) → readJob xs ≡ done j → let K = getD xs 3 0 in (j .p ≡ getD xs 0 0)
     × (j .q ≡ getD xs 1 0) × (j .cap ≡ getD xs 2 0) × (length (j .constraint) ≡ K)
     × ((s b : ℕ) → s < K → b < 2 → after (j .constraint) s b ≡ getD xs (4 + 2 * s + b) 0)
@@ -614,8 +614,7 @@ pub run-length-order : (xs : List ℕ) (room : ℕ) (r : Refusal)
     ∷ check BadWeights ((n ≡ 5) ⊎ Passing (2 ^ p) cap (power (runLength d k) q) (drop 5 xs)) ∷ []) r
 run-length-order = Rattle.compile.proofs.Orders.run-length-order
 
--- It is read with k + 1 states: bit 0 leads from i to i + 1 if i < k, bit 1 to 0 if i ≥ d, else nowhere (255); then
--- come no bytes, or k + 1 weights.
+-- It is read with k + 1 states: bit 0 leads from i to i + 1 if i < k, bit 1 to 0 if i ≥ d, else to 255; then weights.
 pub run-length-read : (xs : List ℕ) (j : Job) → readRunLength xs ≡ done j → let d = getD xs 0 0 in
     let k = getD xs 1 0 in let c = j .constraint in (j .p ≡ getD xs 2 0) × (j .q ≡ getD xs 3 0)
     × (j .cap ≡ getD xs 4 0) × (length c ≡ k + 1)
@@ -639,8 +638,7 @@ pub joined-order : (xs : List ℕ) (room : ℕ) (r : Refusal)
     ∷ check TooManyPairs (length (pairs (statesOf K (drop 4 xs)) (statesOf L (drop (5 + 2 * K) xs))) ≤ 16) ∷ []) r
 joined-order = Rattle.compile.proofs.Orders.joined-order
 
--- The listing is that of the code to which a run-length job of five bytes compiles, with room; else as reading (8 for
--- any other number of bytes), compiling and 13 say.
+-- The listing is that of the code to which a run-length job of five bytes compiles; else as reading, compiling, 13 say.
 pub listing-call : (xs : List ℕ) (room : ℕ) → ((ls : List ℕ) → (listInto xs room ≡ done ls)
     ↔ ((j : Job) × (c : Code) × (readListed xs ≡ done j) × (compile j ≡ done c) × (length (listing c) ≤ room)
     × (listing c ≡ ls))) × ((r : Refusal) → (listInto xs room ≡ refused r)
