@@ -1,4 +1,4 @@
-//! The refusals of "When the workshop declines" and of requests (a), (b), (e) and (f), by their numbers, and the
+//! The refusals of "When the workshop declines" and of requests (a), (b), (e), (f) and (h), by their numbers, and the
 //! answer of a call.
 
 /// A refusal's number in the document's table, or in the request that adds it.
@@ -8,7 +8,7 @@ pub type Refusal = u8;
 pub const PARAMETER: Refusal = 1;
 /// K, a next state, or d and k out of range.
 pub const CONSTRAINT: Refusal = 2;
-/// All weights 0.
+/// All weights 0; never said where weights are brought.
 pub const NO_WEIGHTS: Refusal = 3;
 /// The component's weights sum over 128.
 pub const WEIGHT_SUM: Refusal = 4;
@@ -38,6 +38,8 @@ pub const PAIRS: Refusal = 14;
 pub const STREAM: Refusal = 15;
 /// D out of range or a length that D does not divide (request (f)).
 pub const DEPTH: Refusal = 16;
+/// Weights brought with a job that fail (request (h)).
+pub const WEIGHTS_FAIL: Refusal = 17;
 
 /// What a call answers.
 ///

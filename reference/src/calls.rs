@@ -9,12 +9,14 @@ use crate::streams::{BitNumber, BlockNumber};
 use crate::weaving::Recordings;
 use crate::{decode, encode, listing, sets, streams, verify};
 
-/// Compiles a job to a record. Order: 8, 1, K by 2, 8, next states by 2, 3, 4, 5, 6, 13.
+/// Compiles a job, with or without weights behind it (request (h)), to a record. Order: 8, 1, K by 2, 8, next states by
+/// 2, 3 or with weights 17, 4, 5, 6, 13.
 pub fn compile_job(job: &[u8], room: usize) -> Answer {
     compiled(Job::general(job), room)
 }
 
-/// Compiles a run-length job to a record. Order: 8, 1, 2, 3, 4, 5, 6, 13.
+/// Compiles a run-length job, with or without weights behind it (request (h)), to a record. Order: 8, 1, 2, 8, 3 or
+/// with weights 17, 4, 5, 6, 13.
 pub fn compile_run_length(job: &[u8], room: usize) -> Answer {
     compiled(Job::run_length(job), room)
 }
@@ -235,8 +237,8 @@ pub fn set(bytes: &[u8]) -> Answer {
     }
 }
 
-/// The listing program's text for five bytes. A refused job has a text too, `refused` and the number, so that the
-/// only refusal of this call is 13, when the text does not fit.
+/// The listing program's text for five bytes; a job with weights behind it is refused with 8. A refused job has a text
+/// too, `refused` and the number, so that the only refusal of this call is 13, when the text does not fit.
 pub fn listing(job: &[u8], room: usize) -> Answer {
     Answer::fitted(listing::text(job).into_bytes(), room)
 }

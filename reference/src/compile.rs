@@ -1,4 +1,4 @@
-//! "Compiling": the five steps in order, with refusals 3, 4, 5, 6.
+//! "Compiling": the five steps in order, with refusals 3 or 17 (request (h)), 4, 5, 6.
 
 use crate::answer::{Refusal, NO_WINDOW};
 use crate::component::component;

@@ -1,6 +1,6 @@
 //! "Compiling", step 2: the component, and the graph in work.
 
-use crate::answer::{Refusal, NO_WEIGHTS, WEIGHT_SUM};
+use crate::answer::{Refusal, WEIGHT_SUM};
 use crate::job::Job;
 use crate::weights;
 
@@ -22,12 +22,14 @@ impl Graph {
 }
 
 /// The component of a job and the number that its lowest state has in the job's constraint.
-/// Refusal 3 if all weights are 0, then 4 if the component's weights sum over 128.
+/// Refusal 3 if all weights are 0, or 17 if weights were brought that fail (request (h)); then 4 if the component's
+/// weights sum over 128.
 pub fn component(job: &Job) -> Result<(Graph, usize), Refusal> {
-    let weight = weights::greatest(job);
+    let weight = weights::used(job)?;
     let powers = job.constraint.powers(job.q);
     let reach = reachable(&powers, &weight);
-    let start = (0..weight.len()).find(|s| weight[*s] > 0 && all_reach_back(&reach, *s)).ok_or(NO_WEIGHTS)?;
+    let start = (0..weight.len()).find(|s| weight[*s] > 0 && all_reach_back(&reach, *s));
+    let start = start.expect("where some weight is above 0, some state is reached back from all that it reaches");
     let members: Vec<usize> = (0..weight.len()).filter(|t| reach[start][*t]).collect();
     let graph = renumbered(&powers, &weight, &members);
     if graph.weight.iter().sum::<u32>() > MOST_WEIGHT {

@@ -59,7 +59,8 @@ fn unreachable_states_count_for_the_window_alone() {
 
 #[test]
 fn a_run_length_job_of_another_length() {
-    assert_eq!(compile_run_length(&hex("00 01 05 02 01 00"), 4096).refusal, 8);
+    assert_eq!(compile_run_length(&hex("00 01 05 02 01 00"), 4096).refusal, 1, "8 before request (h)");
+    assert_eq!(compile_run_length(&hex("00 01 01 02 01 00"), 4096).refusal, 8);
     assert_eq!(compile_run_length(&hex("00 01 01 02"), 4096).refusal, 8);
 }
 

@@ -75,7 +75,8 @@ fn order_of_a_job() {
     assert_eq!(general("01 01 01 00"), 2);
     assert_eq!(general("01 01 01 11 00"), 2);
     assert_eq!(general("01 01 01 01 07"), 8);
-    assert_eq!(general("01 01 01 01 07 00 00"), 8);
+    assert_eq!(general("01 01 01 01 07 00 00"), 2, "8 before request (h): the last byte is a weight");
+    assert_eq!(general("01 01 01 01 07 00 00 00"), 8);
     assert_eq!(general("01 01 01 01 07 00"), 2);
     assert_eq!(general("01 01 01 01 ff 00"), 3);
     assert_eq!(compile_job(&hex("02 03 02 02 01 00 00 ff"), 0).refusal, 6);

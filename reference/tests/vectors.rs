@@ -15,13 +15,21 @@ use reference::vectors::marks::{self, Told};
 use reference::vectors::stream_borders::{count_and_stream, telling};
 use reference::vectors::{data, generate, hex, tails, verifying, weaving, with_tail};
 use std::collections::HashSet;
+use std::ops::Range;
+
+/// The cases of verifying, counted from 0.
+const VERIFIED: Range<usize> = 11_769..12_118;
+
+/// The cases before request (h), counted from 0, whose answer it changed, and their refusals now.
+const CHANGED: [(usize, u8); 9] =
+    [(58, 1), (59, 1), (164, 17), (165, 17), (2921, 17), (2951, 17), (2982, 17), (3003, 17), (3027, 17)];
 
 #[test]
 fn the_file_walks_and_every_case_answers_again() {
     let bytes = generate(1);
-    assert!(bytes.len() < 850_000);
+    assert!(bytes.len() < 900_000);
     assert_eq!(bytes.last(), Some(&0));
-    let mut seen = [[false; 17]; KINDS.len()];
+    let mut seen = [[false; 18]; KINDS.len()];
     let mut inputs = HashSet::new();
     let mut walk = Walk(&bytes);
     for (place, case) in walk.by_ref().enumerate() {
@@ -32,9 +40,9 @@ fn the_file_walks_and_every_case_answers_again() {
         }
     }
     assert!(walk.0.is_empty());
-    let refusals = |kind: usize| (0..17).filter(|refusal| seen[kind][*refusal]).collect::<Vec<_>>();
-    assert_eq!(refusals(1), [0, 1, 2, 3, 4, 5, 6, 8, 13]);
-    assert_eq!(refusals(2), [0, 1, 2, 3, 4, 5, 6, 8, 13]);
+    let refusals = |kind: usize| (0..18).filter(|refusal| seen[kind][*refusal]).collect::<Vec<_>>();
+    assert_eq!(refusals(1), [0, 1, 2, 3, 4, 5, 6, 8, 13, 17]);
+    assert_eq!(refusals(2), [0, 1, 2, 3, 4, 5, 6, 8, 13, 17]);
     assert_eq!(refusals(3), [0, 7, 8, 9, 10]);
     assert_eq!(refusals(4), [0, 7, 8, 9, 10, 11, 13]);
     assert_eq!(refusals(5), [0, 7, 8, 9, 10, 11, 12, 13]);
@@ -141,13 +149,14 @@ fn the_file_has_the_weavings_that_tell() {
     }
 }
 
-/// So does every input that tells for verifying; its cases lend no output, write nothing, and are the last.
+/// So does every input that tells for verifying; its cases lend no output, write nothing, and stand together.
 #[test]
 fn the_file_has_the_verifications_that_tell() {
     let bytes = generate(1);
-    let cases: Vec<Case> = Walk(&bytes).skip(11_769).collect();
+    let (cases, others): (Vec<_>, Vec<_>) = Walk(&bytes).enumerate().partition(|(place, _)| VERIFIED.contains(place));
+    assert!(others.iter().all(|(_, case)| case.kind < VERIFY));
+    let cases: Vec<Case> = cases.into_iter().map(|(_, case)| case).collect();
     assert!(cases.iter().all(|case| case.kind >= VERIFY && case.room == 0 && case.answer.output.is_empty()));
-    assert!(Walk(&bytes).take(11_769).all(|case| case.kind < VERIFY));
     let inputs: HashSet<_> = cases.into_iter().map(|case| (case.kind, case.room, case.first, case.second)).collect();
     assert!(verifying::telling().iter().all(|call| inputs.contains(call)));
 }
@@ -205,17 +214,35 @@ fn checksum(bytes: &[u8]) -> u64 {
     checksum.value()
 }
 
-/// The numbers that the README states. The cases before verifying, and those before request (f), are what they were,
-/// byte for byte.
+/// The file as it was before request (h), which changed the refusals of these cases, all of them 8.
+fn before_weights(bytes: &[u8]) -> Vec<u8> {
+    let mut old = bytes.to_vec();
+    let mut walk = Walk(bytes);
+    for place in 0..VERIFIED.end {
+        let begun = bytes.len() - walk.0.len();
+        let case = walk.next().unwrap();
+        if let Some((_, refusal)) = CHANGED.iter().find(|changed| changed.0 == place) {
+            assert_eq!(case.answer.refusal, *refusal, "case {place}");
+            old[begun + 7 + case.first.len() + case.second.len()] = 8;
+        }
+    }
+    old
+}
+
+/// The numbers that the README states. The cases before request (h) are what they were, byte for byte, but for the
+/// answers that it changed; so are those before verifying, and those before request (f).
 #[test]
 fn the_file_is_the_one_described() {
     let bytes = generate(1);
-    let described = |length: usize| {
+    let described = |bytes: &[u8], length: usize| {
         let ended = [&bytes[..length - 1], &[0]].concat();
         (Walk(&ended).count(), checksum(&ended))
     };
-    assert_eq!(bytes.len(), 833_966);
-    assert_eq!(described(833_966), (12_118, 0xa190_fefd_634d_0983));
-    assert_eq!(described(816_756), (11_769, 0x8e58_996f_2305_f905));
-    assert_eq!(described(799_028), (11_518, 0x77f4_3ce1_7414_6caa));
+    assert_eq!(bytes.len(), 862_996);
+    assert_eq!(described(&bytes, 862_996), (12_818, 0x727f_bc5c_5957_efcb));
+    assert_eq!(described(&bytes, 833_966), (12_118, 0x6f01_9735_4bad_c208));
+    let old = before_weights(&bytes);
+    assert_eq!(described(&old, 833_966), (12_118, 0xa190_fefd_634d_0983));
+    assert_eq!(described(&old, 816_756), (11_769, 0x8e58_996f_2305_f905));
+    assert_eq!(described(&old, 799_028), (11_518, 0x77f4_3ce1_7414_6caa));
 }

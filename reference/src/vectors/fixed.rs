@@ -61,7 +61,7 @@ const RUN_LENGTH: [&str; 32] = [
     "00 01 02 03 04",    // the run that ends first
     "00 02 03 04 04",    // the run that ends first
     "00 02 01 03 01",    // unreachable states removed
-    "00 01 05 02 01 00", // length before range
+    "00 01 05 02 01 00", // refusal 1, and 8 before request (h)
     "00 01 01 02 01 00", // refusal 8
     "00 01 01 02",
     "00",
@@ -89,7 +89,7 @@ const GENERAL: [&str; 24] = [
     "01 01 01 01 00 01",    // refusal 2
     "01 01 01 01 01 00",    // refusal 2
     "01 01 01 01 00 fe",    // refusal 2
-    "01 01 01 01 00 00 00", // 8
+    "01 01 01 01 00 00 00", // refusal 17, and 8 before request (h)
     "01 01 01 01 00 00",    // the smallest record
     "01 01 10 01 00 00",
     "04 04 01 01 00 00",

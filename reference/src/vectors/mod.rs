@@ -1,5 +1,7 @@
 //! The file of test vectors: a deterministic choice of inputs with the answers of this implementation.
 
+pub mod bringing;
+pub mod brought;
 pub mod coding;
 pub mod damage;
 pub mod data;
@@ -20,6 +22,7 @@ pub mod tails;
 pub mod verified;
 pub mod verifying;
 pub mod weaving;
+pub mod weight_borders;
 pub mod with_tail;
 
 use file::File;
@@ -46,6 +49,9 @@ pub fn generate(scale: usize) -> Vec<u8> {
     weaving::add(&mut file, &mut Random::seeded(10), &pool, scale);
     verifying::add(&mut file);
     verified::add(&mut file, &mut Random::seeded(11), &pool, scale);
+    bringing::add(&mut file);
+    weight_borders::add(&mut file);
+    brought::add(&mut file, &mut Random::seeded(12), scale);
     file.ended()
 }
 
