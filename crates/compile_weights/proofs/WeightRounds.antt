@@ -1,6 +1,6 @@
 -- Rounds of weights by the counts of words.
--- In order: count-none, count-yes, count-no, words counted; term-small; lower-is, lowered-is, one round; lower-le;
--- Round, round-start, round-more, round-still, round-end; count-le.
+-- In order: count-none, count-yes, count-no, words counted; term-small; sum-is, lower-is, lowered-is, one round;
+-- lower-le; Round, round-start, round-more, round-still, round-end; count-le.
 -- Assumes nothing.
 use Rattle.laws.proofs.All.{_≡_, refl, sym, ap, ap₂, _∙_, Bool, true, false, List, [], _∷_, _++_, append-nil, ℕ}
 use Rattle.laws.proofs.All.{suc, _+_, _-_, _*_, _/_, _%_, _≤_, _<_, min, le-trans, mul-le-mul, arith, eq-eqb}
@@ -9,8 +9,8 @@ use Rattle.laws.proofs.All.{length-take-le, getD-take, if_then_else_, range, fi
 use Rattle.laws.proofs.All.{map-range-at, length-from, each-range, iterate-fixed, take-replicate, filter-append}
 use Rattle.laws.proofs.All.{quotient-of, remainder-of, range-more, length-map-range, take-same}
 use Rattle.compile_graph.specs.Arcs.{Arc}
-use Rattle.compile_graph.specs.Weights.{wordsBetween, term, lower, lowered, weights}
-use Rattle.compile_weights.specs.PowerTable.{entryAt, tabled, wordLeads, wordCount, termBy, lowerBy}
+use Rattle.compile_graph.specs.Weights.{wordsBetween, term, product, lower, lowered, weights}
+use Rattle.compile_weights.specs.PowerTable.{entryAt, tabled, wordLeads, wordCount, termBy, sumBy, lowerBy}
 use Rattle.compile_weights.proofs.TabledWords.{between-count}
 
 -- ---- counting words
@@ -53,27 +53,32 @@ module _ (P A : List ℕ) (words K : ℕ) (few : K ≤ 16)
       ∙ ap₂ (wordCount P words) (quotient-of 16 s t (omega arith)) (remainder-of 16 s t (omega arith))
       ∙ sym (between-count P words K s t h (λ e. omega arith))
 
+  module _ (v : List ℕ) (long : length v ≡ 16) where
+    front-long : length (take K v) ≡ K
+    front-long = length-take-le K v (omega arith)
+
+    pub sum-is : (s : ℕ) → s < K → sumBy A v K s ≡ product g (take K v) s
+    unfolding sumBy
+    sum-is s h =
+        tot-eq (termBy A v s) (term g (take K v) s) (range K)
+        (each-map (λ t. t < K) _
+        (λ t l. ap₂ (λ x y. x * y) (count-at s t h l) (sym (getD-take K v t 0 l))) (range K) (each-range K))
+        ∙ ap (λ k. tot (term g (take K v) s) (range k)) (sym front-long)
+
   module _ (n : ℕ) (v : List ℕ) (long : length v ≡ 16) where
     abbrev front : List ℕ
     front = take K v
 
-    front-long : length front ≡ K
-    front-long = length-take-le K v (omega arith)
-
     pub lower-is : (s : ℕ) → s < K → lowerBy A v K s n ≡ lower n g front s
     unfolding lowerBy
-    lower-is s h =
-        ap₂ (λ x y. min x (y / n)) (sym (getD-take K v s 0 h))
-        (tot-eq (termBy A v s) (term g front s) (range K)
-        (each-map (λ t. t < K) _
-        (λ t l. ap₂ (λ x y. x * y) (count-at s t h l) (sym (getD-take K v t 0 l))) (range K) (each-range K))
-        ∙ ap (λ k. tot (term g front s) (range k)) (sym front-long))
+    lower-is s h = ap₂ (λ x y. min x (y / n)) (sym (getD-take K v s 0 h)) (sum-is v long s h)
 
     pub lowered-is : (w : List ℕ) → length w ≡ 16 → ((s : ℕ) → s < K → getD w s 0 ≡ lowerBy A v K s n)
         → take K w ≡ lowered n g front
     lowered-is w l f =
-        take-same w (lowered n g front) K (length-map-range (lower n g front) (length front) ∙ front-long) (omega arith)
-        (λ s h. f s h ∙ lower-is s h ∙ sym (map-range-at (lower n g front) (length front) s 0 (rw front-long h)))
+        let e = front-long v long in
+        take-same w (lowered n g front) K (length-map-range (lower n g front) (length front) ∙ e) (omega arith)
+        (λ s h. f s h ∙ lower-is s h ∙ sym (map-range-at (lower n g front) (length front) s 0 (rw e h)))
 
 pub lower-le : (A v : List ℕ) (k s n : ℕ) → lowerBy A v k s n ≤ getD v s 0
 unfolding lowerBy

@@ -1,1 +1,2 @@
 pub mod PowerTable
+pub mod Failures

@@ -1,6 +1,6 @@
 -- The power table that the crate `constraint` gives: "one place for each state and word", 255 for none.
--- In order: entryAt, wordAt, wordsAt, tabled; Powers, what it keeps to; wordLeads, wordCount; termBy, lowerBy, one
--- weight of a round by the counts of words; sameAt.
+-- In order: entryAt, wordAt, wordsAt, tabled; Powers, what it keeps to; wordLeads, wordCount; termBy, sumBy, lowerBy,
+-- one weight of a round by the counts of words; sameAt.
 -- Assumes nothing.
 use mathlib.Core.Path.{_≡_}
 use mathlib.Core.Bool.{Bool}
@@ -49,9 +49,13 @@ wordCount P words s t = length (filter (wordLeads P s t) (range words))
 abbrev pub termBy : List ℕ → List ℕ → ℕ → ℕ → ℕ
 termBy A v s t = getD A (s * 16 + t) 0 * getD v t 0
 
--- the smaller of the old weight and the sum over the first k states, divided by n and rounded down
+-- "the sum over t of A(s, t) × weight(t)", over the first k states
+unfoldable pub sumBy : List ℕ → List ℕ → ℕ → ℕ → ℕ
+sumBy A v k s = tot (termBy A v s) (range k)
+
+-- the smaller of the old weight and that sum, divided by n and rounded down
 unfoldable pub lowerBy : List ℕ → List ℕ → ℕ → ℕ → ℕ → ℕ
-lowerBy A v k s n = min (getD v s 0) (tot (termBy A v s) (range k) / n)
+lowerBy A v k s n = min (getD v s 0) (sumBy A v k s / n)
 
 -- two lists have the same number at place s
 abbrev pub sameAt : List ℕ → List ℕ → ℕ → Bool

@@ -4,7 +4,7 @@ ghost use Prim.Native.Nat.{ℕ, _+_, _*_, _/_, _%_, _≤_, _<_};
 ghost use lib.ListN.{length, getD, take};
 ghost use Rattle.compile_graph.specs.Weights.{weights};
 ghost use Rattle.laws.specs.Lists.{all, range};
-ghost use Rattle.compile_weights.specs.PowerTable.{tabled, Powers, wordCount, lowerBy, sameAt};
+ghost use Rattle.compile_weights.specs.PowerTable.{tabled, Powers, wordCount, sumBy, lowerBy, sameAt};
 
 // How many words lead from s to t.
 fn words_between(power: &[u8; 4096], words: usize, s: usize, t: u8) -> usize
@@ -38,11 +38,11 @@ pub fn word_counts(power: &[u8; 4096], words: usize, k: usize) -> [usize; 256]
     r
 }
 
-// "the smaller of the old weight and the sum over t of A(s, t) × weight(t), divided by n and rounded down".
-fn lower_weight(count: &[usize; 256], v: [usize; 16], k: usize, s: usize, n: usize) -> usize
-    requires { ⌜ (length (now count) ≡ 256) × (k ≤ 16) × (s < k) × (0 < n)
+// "the sum over t of A(s, t) × weight(t)": the weight to which the words of s lead.
+pub fn led_weight(count: &[usize; 256], v: [usize; 16], k: usize, s: usize) -> usize
+    requires { ⌜ (length (now count) ≡ 256) × (k ≤ 16) × (s < k)
         × ((x : ℕ) → x < k * 16 → getD (now count) x 0 ≤ 256) × ((t : ℕ) → t < k → getD v t 0 ≤ 16) ⌝ }
-    ensures answer { λ r. ⌜ r ≡ lowerBy (now (count .entry)) v k s n ⌝ }
+    ensures answer { λ r. ⌜ r ≡ sumBy (now (count .entry)) v k s ⌝ }
 {
     let mut sum = 0;
     let mut t = 0;
@@ -50,7 +50,16 @@ fn lower_weight(count: &[usize; 256], v: [usize; 16], k: usize, s: usize, n: usi
         sum += count[s * 16 + t] * v[t];
         t += 1;
     }
-    let least = sum / n;
+    sum
+}
+
+// "the smaller of the old weight and the sum over t of A(s, t) × weight(t), divided by n and rounded down".
+pub fn lower_weight(count: &[usize; 256], v: [usize; 16], k: usize, s: usize, n: usize) -> usize
+    requires { ⌜ (length (now count) ≡ 256) × (k ≤ 16) × (s < k) × (0 < n)
+        × ((x : ℕ) → x < k * 16 → getD (now count) x 0 ≤ 256) × ((t : ℕ) → t < k → getD v t 0 ≤ 16) ⌝ }
+    ensures answer { λ r. ⌜ r ≡ lowerBy (now (count .entry)) v k s n ⌝ }
+{
+    let least = led_weight(count, v, k, s) / n;
     if least < v[s] {
         return least;
     }

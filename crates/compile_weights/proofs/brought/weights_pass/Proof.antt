@@ -1,11 +1,11 @@
 -- `weights_pass` meets its contract: each return follows the first of the three tests that fails, or the last of them.
 -- Assumes nothing.
-use Rattle.laws.proofs.All.{_≡_, sym, ap, ap₂, _∙_, true, _&&_, List, _≤_, arith, leb→le, subst, T, now, length, range}
-use Rattle.laws.proofs.All.{all, any, take, all-below→, not-true, not-false, needs}
+use Rattle.laws.proofs.All.{_≡_, sym, ap, ap₂, _∙_, true, _&&_, List, eq-eqb, ne-eqb, not-true, not-false, now}
+use Rattle.laws.proofs.All.{length, range, all, any, take, needs}
 use Rattle.compile_graph.specs.Arcs.{Arc}
 use Rattle.compile_graph.specs.Weights.{low, weighty, meets}
 use Rattle.compile_weights.specs.PowerTable.{tabled}
-use Rattle.compile_weights.proofs.Passing.{passing-parts, still-all}
+use Rattle.compile_weights.proofs.Passing.{passing-parts, low-found, low-small, met-found}
 use Rattle.compile_weights.proofs.brought.weights_pass.Statement.{statement}
 use Rattle.compile_weights.proofs.brought.weights_pass.Tie as tie
 
@@ -17,7 +17,9 @@ wide c = search needs
 
 -- the weights are at most cap
 lows : (c : tie.Else1) → let a = c .before .before .args in all (low (a .cap) (a .v)) (range (a .k)) ≡ true
-lows c = sym (c .before .are-low .ensures) ∙ not-false (c .before .are-low .result) (c .if1 .left)
+lows c =
+    let a = c .before .before .args in
+    low-found (a .cap) (a .k) (a .v) _ (c .before .first-over .ensures) ∙ eq-eqb _ _ (c .if1 .left)
 
 returns : tie.Need-returns
 returns c =
@@ -25,7 +27,8 @@ returns c =
     let a = s .args in
     sym (passing-parts (a .n) (a .cap) (a .k) (words s) (a .v) (s .pre .0 .states) (wide s)
     ∙ ap (λ b. b && (any (weighty (a .v)) (range (a .k)) && all (meets (a .n) (words s) (take (a .k) (a .v)))
-    (range (a .k)))) (sym (c .before .are-low .ensures) ∙ not-true (c .before .are-low .result) (c .if1 .taken)))
+    (range (a .k))))
+    (low-found (a .cap) (a .k) (a .v) _ (c .before .first-over .ensures) ∙ ne-eqb _ _ (c .if1 .taken)))
 
 returns-2 : tie.Need-returns-2
 returns-2 c =
@@ -36,8 +39,8 @@ returns-2 c =
     ∙ ap₂ (λ b d. b && (d && all (meets (a .n) (words s) (take (a .k) (a .v))) (range (a .k)))) (lows e)
     (sym (c .before .is-some .ensures) ∙ not-true (c .before .is-some .result) (c .if2 .taken)))
 
-lower-weights-requires : tie.Need-lower-weights-requires
-lower-weights-requires c κs =
+first-unmet-requires : tie.Need-first-unmet-requires
+first-unmet-requires c κs =
     let e = c .before .before .before .before in
     let s = e .before .before in
     let a = s .args in (
@@ -45,28 +48,25 @@ lower-weights-requires c κs =
       s .pre .0 .states,
       s .pre .1,
       λ x h. c .before .word-counts .ensures x h .1,
-      λ t h. let b = leb→le _ (a .cap) (all-below→ (low (a .cap) (a .v)) (a .k) (subst T (sym (lows e)) tt) t h) in
-          omega (arith, s .pre .2),
+      low-small (a .cap) (a .k) (a .v) (lows e) (s .pre .2),
     )
 
 returns-3 : tie.Need-returns-3
 returns-3 c =
-    let w = c .before .before .before in
+    let w = c .before .before in
     let o = w .before .before in
     let e = o .before in
     let s = e .before .before in
     let a = s .args in
-    c .same-weights .ensures
-    ∙ still-all (now (a .power)) (w .word-counts .result) (a .words) (a .k) (a .n) (s .pre .0 .states) (s .pre .1)
-    (λ x h. w .word-counts .ensures x h .0) (a .v) (c .before .lower-weights .result) (wide s)
-    (c .before .lower-weights .ensures)
-    ∙ sym (passing-parts (a .n) (a .cap) (a .k) (words s) (a .v) (s .pre .0 .states) (wide s)
+    sym (passing-parts (a .n) (a .cap) (a .k) (words s) (a .v) (s .pre .0 .states) (wide s)
     ∙ ap₂ (λ b d. b && (d && all (meets (a .n) (words s) (take (a .k) (a .v))) (range (a .k)))) (lows e)
-    (sym (o .is-some .ensures) ∙ not-false (o .is-some .result) (w .before .if2 .left)))
+    (sym (o .is-some .ensures) ∙ not-false (o .is-some .result) (w .before .if2 .left))
+    ∙ met-found (now (a .power)) (w .word-counts .result) (a .words) (a .k) (a .n) (s .pre .0 .states) (s .pre .1)
+    (λ x h. w .word-counts .ensures x h .0) (a .v) (wide s) _ (c .first-unmet .ensures))
 
 pub weights-pass-spec : {M : Type 1} → statement M
 weights-pass-spec =
     tie.close
     (tie.spec
-    (λ c κs. search needs) returns (λ c κs. search needs) returns-2 (λ c κs. search needs) lower-weights-requires
-    (λ c κs. search needs) returns-3)
+    (λ c κs. search needs) returns (λ c κs. search needs) returns-2 (λ c κs. search needs) first-unmet-requires
+    returns-3)
