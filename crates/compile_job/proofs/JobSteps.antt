@@ -1,7 +1,7 @@
 -- A job read check by check: what reading comes to at each return of the code, and what holds of what is read.
 -- In order: in-range, sized-fits; unless-yes; onward-bad, onward-good; missing-count, bad-count, bad-size,
 -- bad-states, good-constraint; lawful-kept; run-length-size, run-length-parameters, run-length-range,
--- run-length-count, run-length-good; ready-kept.
+-- run-length-count, run-length-good; held-kept, ready-kept.
 -- Assumes nothing.
 use Rattle.laws.proofs.All.{_≡_, refl, sym, ap, ap₂, subst, _∙_, Bool, true, false, _&&_, List, _∷_, map, ℕ, zero}
 use Rattle.laws.proofs.All.{suc, _+_, _*_, _≤_, arith, T, leb, eqb, leb→le, leb-true, eqb-true, length, getD, drop}
@@ -24,7 +24,7 @@ use Rattle.compile_job.specs.declared.ConstraintAnswer.{ConstraintAnswer
 use Rattle.compile_job.specs.Jobs.{Job, goodParameters, bringing, heldWith, statesOf, constraintFrom}
 use Rattle.compile_job.specs.Jobs.{heldRunLength}
 use Rattle.compile_job.specs.Jobs.{Allowed}
-use Rattle.compile_job.specs.JobValues.{jobIn, JobReady, jobOutcome, stateAt, goodStateAt, sized}
+use Rattle.compile_job.specs.JobValues.{jobIn, JobReady, Held, jobOutcome, stateAt, goodStateAt, sized}
 use Rattle.compile_job.specs.JobValues.{constraintOutcome}
 use Rattle.compile_job.proofs.Constraints.{checked, from-checked, constraintFrom-lawful}
 
@@ -159,6 +159,11 @@ module _ (xs : List ℕ) where
             ∙ ap done (sym q)
 
 -- ---- a job that is read
+-- a job beside the verdict `Good` is held, where those that the bytes hold are
+pub held-kept : (r : JobAnswer) (o : Outcome Job) → jobOutcome r ≡ o → ((j : Job) → o ≡ done j → Held j)
+    → (jobOutcome r ≡ o) × (r .verdict ≡ Good → Held (jobIn (r .job)))
+held-kept r o e f = (e, λ g. f (jobIn (r .job)) (said-good (r .verdict) (jobIn (r .job)) o e g))
+
 -- a job beside the verdict `Good` is ready to be compiled, where those that are read are allowed
 pub ready-kept : (r : JobAnswer) (o : Outcome Job) → jobOutcome r ≡ o → ((j : Job) → o ≡ done j → Allowed j)
     → (jobOutcome r ≡ o) × (r .verdict ≡ Good → JobReady (r .job))

@@ -146,8 +146,9 @@ fn job_of(bytes: &[u8], r: ConstraintAnswer) -> JobAnswer
 
 // The job that bytes hold, its weights not yet checked, or the refusal: "8 below four bytes, 1, K by 2, 8, next states
 // by 2".
-fn hold_job(bytes: &[u8]) -> JobAnswer
+pub fn hold_job(bytes: &[u8]) -> JobAnswer
     ensures answer { λ r. ⌜ jobOutcome r ≡ heldJob (now (bytes .entry)) ⌝ }
+    ensures kept { λ r. ⌜ (r .verdict ≡ Good → Held (jobIn (r .job))) ⌝ }
 {
     match front_verdict(bytes) {
         Verdict::Bad(r) => declined(r),
@@ -239,8 +240,9 @@ fn is_counted(size: usize, states: usize, count: usize) -> bool
 
 // The job that the bytes d, k, p, q, cap hold, its weights not yet checked, or the refusal: "8 below five bytes, 1, 2,
 // 8 for a length other than 5 or 5 + K".
-fn hold_run_length(bytes: &[u8]) -> JobAnswer
+pub fn hold_run_length(bytes: &[u8]) -> JobAnswer
     ensures answer { λ r. ⌜ jobOutcome r ≡ heldRunLength (now (bytes .entry)) ⌝ }
+    ensures kept { λ r. ⌜ (r .verdict ≡ Good → Held (jobIn (r .job))) ⌝ }
 {
     if bytes.len() < 5 {
         return declined(Refusal::Length);

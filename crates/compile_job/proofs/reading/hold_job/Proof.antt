@@ -3,10 +3,11 @@
 use Rattle.laws.proofs.All.{_≡_, sym, ap, _∙_, _≤_, arith, now, length, drop, needs}
 use borrow.Rule.Slice.PartAt.{part-to-end}
 use Rattle.answer.specs.Outcomes.{done, onward}
-use Rattle.compile_job.specs.Jobs.{constraintFrom, jobBringing}
+use Rattle.compile_job.specs.Jobs.{constraintFrom, jobBringing, heldJob}
 use Rattle.compile_job.specs.JobValues.{constraintOutcome, spare}
-use Rattle.compile_job.proofs.Jobs.{heldJob-from, held-sized}
+use Rattle.compile_job.proofs.Jobs.{heldJob-from, held-sized, heldJob-held}
 use Rattle.compile_job.proofs.Fronts.{front-bad, front-good, front-long}
+use Rattle.compile_job.proofs.JobSteps.{held-kept}
 use Rattle.compile_job.proofs.reading.hold_job.Statement.{statement}
 use Rattle.compile_job.proofs.reading.hold_job.Tie as tie
 
@@ -38,16 +39,19 @@ returns : tie.Need-returns
 returns c =
     let xs = now (c .before .before .before .before .before .before .args .bytes) in
     let f = c .before .before .before .before .front-verdict in
-    c .declined .ensures
-    ∙ sym (heldJob-from xs ∙ front-bad xs (f .result) (f .ensures) _ _ (c .before .before .r .given .1))
+    held-kept (c .declined .result) (heldJob xs)
+    (c .declined .ensures
+    ∙ sym (heldJob-from xs ∙ front-bad xs (f .result) (f .ensures) _ _ (c .before .before .r .given .1)))
+    (heldJob-held xs)
 
 returns-2 : tie.Need-returns-2
 returns-2 c =
     let e = c .before .before .before in
     let xs = now (e .before .before .before .before .args .bytes) in
     let f = e .before .before .front-verdict in
-    c .job-of .ensures ∙ ap (λ o. onward o (λ k. done (jobBringing xs k))) (read (c .before))
-    ∙ sym (heldJob-from xs ∙ front-good xs (f .result) (f .ensures) _ (e .enum-told .given .1))
+    held-kept (c .job-of .result) (heldJob xs)
+    (c .job-of .ensures ∙ ap (λ o. onward o (λ k. done (jobBringing xs k))) (read (c .before))
+    ∙ sym (heldJob-from xs ∙ front-good xs (f .result) (f .ensures) _ (e .enum-told .given .1))) (heldJob-held xs)
 
 pub hold-job-spec : {M : Type 1} → statement M
 hold-job-spec =

@@ -5,10 +5,11 @@ use Rattle.laws.proofs.All.{or→, inl, inr, eqb→eq, not-true, not-false, now
 use Rattle.constraint.specs.Value.{constraintOf}
 use Rattle.constraint.proofs.Values.{length-constraintOf}
 use Rattle.constraint.proofs.Walking.{length-runLength}
-use Rattle.compile_job.specs.Jobs.{goodParameters}
-use Rattle.compile_job.specs.JobValues.{Sized}
+use Rattle.compile_job.specs.Jobs.{goodParameters, heldRunLength}
+use Rattle.compile_job.specs.JobValues.{jobIn, Sized}
+use Rattle.compile_job.proofs.Jobs.{heldRunLength-held}
 use Rattle.compile_job.proofs.JobSteps.{in-range, run-length-size, run-length-parameters, run-length-range}
-use Rattle.compile_job.proofs.JobSteps.{run-length-count, run-length-good}
+use Rattle.compile_job.proofs.JobSteps.{run-length-count, run-length-good, held-kept}
 use Rattle.compile_job.proofs.reading.hold_run_length.Statement.{statement}
 use Rattle.compile_job.proofs.reading.hold_run_length.Tie as tie
 
@@ -44,32 +45,39 @@ counted c = sym (c .before .is-counted .ensures) ∙ not-false (c .before .is-co
 returns : tie.Need-returns
 returns c =
     let xs = now (c .before .before .before .args .bytes) in
-    c .declined .ensures ∙ sym (run-length-size xs (lt-leb 5 _ (c .before .if1 .taken)))
+    held-kept (c .declined .result) (heldRunLength xs)
+    (c .declined .ensures ∙ sym (run-length-size xs (lt-leb 5 _ (c .before .if1 .taken)))) (heldRunLength-held xs)
 
 returns-2 : tie.Need-returns-2
 returns-2 c =
     let g = c .before .before in
     let b = g .before .before .before .before in
-    c .declined2 .ensures
+    held-kept (c .declined2 .result) (heldRunLength (in₁ b))
+    (c .declined2 .ensures
     ∙ sym (run-length-parameters (in₁ b) (five b)
-    (sym (g .good-parameters .ensures) ∙ not-true (g .good-parameters .result) (c .before .if2 .taken)))
+    (sym (g .good-parameters .ensures) ∙ not-true (g .good-parameters .result) (c .before .if2 .taken))))
+    (heldRunLength-held (in₁ b))
 
 returns-3 : tie.Need-returns-3
 returns-3 c =
     let g = c .before .before in
     let p = g .before .before .before in
-    c .declined3 .ensures
+    held-kept (c .declined3 .result) (heldRunLength (in₂ p))
+    (c .declined3 .ensures
     ∙ sym (run-length-range (in₂ p) (five (p .before .before .before .before .before)) (good p)
-    (sym (g .between .ensures) ∙ not-true (g .between .result) (c .before .if3 .taken)))
+    (sym (g .between .ensures) ∙ not-true (g .between .result) (c .before .if3 .taken))))
+    (heldRunLength-held (in₂ p))
 
 returns-4 : tie.Need-returns-4
 returns-4 c =
     let g = c .before .before in
     let r = g .before in
     let p = r .before .before .before .before in
-    c .declined4 .ensures
+    held-kept (c .declined4 .result) (heldRunLength (in₃ r))
+    (c .declined4 .ensures
     ∙ sym (run-length-count (in₃ r) (five (p .before .before .before .before .before)) (good p) (ranged r)
-    (sym (g .is-counted .ensures) ∙ not-true (g .is-counted .result) (c .before .if4 .taken)))
+    (sym (g .is-counted .ensures) ∙ not-true (g .is-counted .result) (c .before .if4 .taken))))
+    (heldRunLength-held (in₃ r))
 
 bring-requires : tie.Need-bring-requires
 bring-requires c κs =
@@ -95,8 +103,9 @@ returns-5 c =
     let f = u .before in
     let r = f .before .before in
     let p = r .before .before .before .before in
-    sym (run-length-good (in₃ r) (five (p .before .before .before .before .before)) (good p) (ranged r) (counted f)
-    (c .bring .result) (u .run-length .result) (u .run-length .ensures) (c .bring .ensures))
+    let e = run-length-good (in₃ r) (five (p .before .before .before .before .before)) (good p) (ranged r) (counted f)
+    (c .bring .result) (u .run-length .result) (u .run-length .ensures) (c .bring .ensures) in
+    (sym e, λ g. heldRunLength-held (in₃ r) (jobIn (c .bring .result)) e)
 
 pub hold-run-length-spec : {M : Type 1} → statement M
 hold-run-length-spec =
