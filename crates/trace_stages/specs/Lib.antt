@@ -1,1 +1,2 @@
 pub mod StageText
+pub mod FailText

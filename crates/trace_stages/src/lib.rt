@@ -1,4 +1,4 @@
-// The lines of the weights and of the component.
+// The lines of the weights and of the component, and why weights fail.
 ghost use mathlib.Core.Path.{_≡_};
 ghost use mathlib.Core.List.{_++_};
 ghost use Prim.Native.Nat.{_≤_};
@@ -7,6 +7,8 @@ ghost use Rattle.text.specs.Texts.{Added};
 ghost use Rattle.trace_stages.specs.StageText.{listed, weightsLine, componentLine};
 use sentences::put_sentence;
 use text::put;
+
+pub mod failures;
 
 // A name and the first k numbers, a blank in front of each.
 fn put_list(out: &mut [u8], at: usize, name: &[u8], list: [usize; 16], k: usize) -> usize
