@@ -1,2 +1,4 @@
 pub mod Begun
 pub mod StageTexts
+pub mod FailedJobs
+pub mod ReadTraces

@@ -1,22 +1,24 @@
 -- The trace of a job: "Compiling" 1 to 5, one line a step, and the answer last.
--- In order: stages, all steps; windowLine, ending, the last line; traced; tracing, tracedJob, tracedRunLength, from
--- bytes.
+-- In order: stages, all steps; windowLine, ending, the last line; traced; failing, where weights that come with a job
+-- fail; tracing, tracedJob, tracedRunLength, from bytes.
 -- Assumes nothing.
 use mathlib.Core.Bool.{_||_}
 use mathlib.Core.List.{List, [], _∷_, _++_}
 use Prim.Native.Nat.{ℕ}
 use lib.Dec.{ltb, eqb}
 use Rattle.laws.specs.Lists.{if_then_else_, sum}
+use Rattle.answer.specs.declared.Refusal.the-variants.{BadWeights}
 use Rattle.answer.specs.Outcomes.{Outcome, done, refused}
 use Rattle.table.specs.Rows.{Code}
 use Rattle.compile_graph.specs.Component.{componentStates}
 use Rattle.compile_graph.specs.Splitting.{crowded}
-use Rattle.compile_job.specs.Jobs.{Job, readJob, readRunLength}
+use Rattle.compile_job.specs.Jobs.{Job, fit, heldJob, heldRunLength}
 use Rattle.compile.specs.Compile.{ways, graphOf, weightsOf, componentOf, compile}
 use Rattle.sentences.specs.Sentences.{said}
 use Rattle.view_refusals.specs.Phrases.{refusalLine}
 use Rattle.trace_splits.specs.SplitText.{splitText}
 use Rattle.trace_stages.specs.StageText.{weightsLine, componentLine}
+use Rattle.trace_stages.specs.FailText.{failLine}
 
 -- weights, component, and, if it weighs from 1 to 128 and has at most 2,048 edges, all that comes of it
 unfoldable pub stages : Job → List ℕ
@@ -40,15 +42,19 @@ ending (refused r) = refusalLine r
 unfoldable pub traced : Job → List ℕ
 traced j = stages j ++ ending (compile j)
 
--- the trace of a job that is read, or its refusal
+-- the weights that come with the job, why they fail, and "17 for weights that fail"
+unfoldable pub failing : Job → List ℕ
+failing j = weightsLine (weightsOf j) ++ failLine (ways j) (j .cap) (graphOf j) (weightsOf j) ++ refusalLine BadWeights
+
+-- the trace of a job, its weights not yet checked, or the refusal of its bytes
 abbrev pub tracing : Outcome Job → List ℕ
-tracing (done j) = traced j
+tracing (done j) = if fit j (j .choice) then traced j else failing j
 tracing (refused r) = refusalLine r
 
 -- the trace of a job's bytes
 unfoldable pub tracedJob : List ℕ → List ℕ
-tracedJob xs = tracing (readJob xs)
+tracedJob xs = tracing (heldJob xs)
 
 -- the trace of a run-length job's bytes
 unfoldable pub tracedRunLength : List ℕ → List ℕ
-tracedRunLength xs = tracing (readRunLength xs)
+tracedRunLength xs = tracing (heldRunLength xs)
