@@ -1,15 +1,12 @@
-// Weights that come with a job: read after its bytes, and checked.
+// Weights that come with a job, read after its bytes.
 ghost use mathlib.Core.Path.{_≡_};
 ghost use Prim.Native.Nat.{_+_, _≤_};
 ghost use lib.ListN.{length, take, drop};
 ghost use Rattle.constraint.specs.Value.{constraintOf};
-ghost use Rattle.compile_job.specs.Jobs.{bringing, fit, heldWith};
-ghost use Rattle.compile_job.specs.JobValues.{jobIn, Sized, Held};
+ghost use Rattle.compile_job.specs.Jobs.{bringing, heldWith};
+ghost use Rattle.compile_job.specs.JobValues.{jobIn, Sized};
 use crate::JobValue;
-use compile_weights::brought::weights_pass;
 use constraint::Constraint;
-use constraint::power::power_codes;
-use table::chains::ways;
 
 // `count` weights after the first `start` bytes.
 fn weights_at(bytes: &[u8], start: usize, count: usize) -> [usize; 16]
@@ -50,18 +47,4 @@ pub fn bring(bytes: &[u8], size: usize, p: usize, q: usize, cap: usize, c: Const
         brings: true,
         weight: weight,
     }
-}
-
-// Whether the weights that come with a job pass, where there are any.
-pub fn passes(j: JobValue) -> bool
-    requires { ⌜ Held (jobIn j) ⌝ }
-    ensures answer { λ r. ⌜ r ≡ fit (jobIn j) (jobIn j .choice) ⌝ }
-{
-    if !j.brings {
-        return true;
-    }
-    let power = power_codes(j.constraint, j.q);
-    let words = bits::power(j.q);
-    let weight = j.weight;
-    weights_pass(&power, words, j.constraint.states, ways(j.p), j.cap, weight)
 }

@@ -67,7 +67,7 @@ pub fn lower_weight(count: &[usize; 256], v: [usize; 16], k: usize, s: usize, n:
 }
 
 // One round: "replace all weights together".
-pub fn lower_weights(count: &[usize; 256], v: [usize; 16], k: usize, n: usize) -> [usize; 16]
+fn lower_weights(count: &[usize; 256], v: [usize; 16], k: usize, n: usize) -> [usize; 16]
     requires { ⌜ (length (now count) ≡ 256) × (k ≤ 16) × (0 < n)
         × ((x : ℕ) → x < k * 16 → getD (now count) x 0 ≤ 256) × ((t : ℕ) → t < k → getD v t 0 ≤ 16) ⌝ }
     ensures answer { λ r. ⌜ ((s : ℕ) → s < k → getD r s 0 ≡ lowerBy (now (count .entry)) v k s n) ⌝ }
@@ -82,7 +82,7 @@ pub fn lower_weights(count: &[usize; 256], v: [usize; 16], k: usize, n: usize) -
 }
 
 // The first k weights are the same.
-pub fn same_weights(a: [usize; 16], b: [usize; 16], k: usize) -> bool
+fn same_weights(a: [usize; 16], b: [usize; 16], k: usize) -> bool
     requires { ⌜ k ≤ 16 ⌝ }
     ensures answer { λ r. ⌜ r ≡ all (sameAt a b) (range k) ⌝ }
 {

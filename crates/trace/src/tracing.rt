@@ -13,9 +13,9 @@ use compile::compiling::begin;
 use compile::compiling::compile;
 use compile_job::JobAnswer;
 use compile_job::JobValue;
-use compile_job::bringing::passes;
-use compile_job::reading::hold_job;
-use compile_job::reading::hold_run_length;
+use compile_job::fitting::passes;
+use compile_job::holding::hold_job;
+use compile_job::holding::hold_run_length;
 use table::chains::ways;
 use view_refusals::put_refusal_line;
 

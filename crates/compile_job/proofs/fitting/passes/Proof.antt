@@ -6,8 +6,8 @@ use Rattle.compile_weights.proofs.Powers.{held-powers, held-tabled}
 use Rattle.compile_job.specs.Jobs.{computed, brought, fit}
 use Rattle.compile_job.specs.JobValues.{jobIn}
 use Rattle.compile_job.proofs.Weights.{held-bounds, held-few}
-use Rattle.compile_job.proofs.bringing.passes.Statement.{statement}
-use Rattle.compile_job.proofs.bringing.passes.Tie as tie
+use Rattle.compile_job.proofs.fitting.passes.Statement.{statement}
+use Rattle.compile_job.proofs.fitting.passes.Tie as tie
 
 returns : tie.Need-returns
 returns c = rw (not-true (c .before .before .args .j .brings) (c .if1 .taken))

@@ -8,8 +8,8 @@ use Rattle.compile_job.specs.JobValues.{constraintOutcome, spare}
 use Rattle.compile_job.proofs.Jobs.{heldJob-from, held-sized, heldJob-held}
 use Rattle.compile_job.proofs.Fronts.{front-bad, front-good, front-long}
 use Rattle.compile_job.proofs.JobSteps.{held-kept}
-use Rattle.compile_job.proofs.reading.hold_job.Statement.{statement}
-use Rattle.compile_job.proofs.reading.hold_job.Tie as tie
+use Rattle.compile_job.proofs.holding.hold_job.Statement.{statement}
+use Rattle.compile_job.proofs.holding.hold_job.Tie as tie
 
 long : (c : tie.After-enum-told) → 4 ≤ length (now (c .before .before .before .before .args .bytes))
 long c =

@@ -7,8 +7,8 @@ use Rattle.constraint.proofs.Values.{length-constraintOf}
 use Rattle.compile_job.specs.Jobs.{bringing, heldWith, jobBringing}
 use Rattle.compile_job.specs.JobValues.{Sized}
 use Rattle.compile_job.proofs.JobSteps.{onward-bad, onward-good}
-use Rattle.compile_job.proofs.reading.job_of.Statement.{statement}
-use Rattle.compile_job.proofs.reading.job_of.Tie as tie
+use Rattle.compile_job.proofs.holding.job_of.Statement.{statement}
+use Rattle.compile_job.proofs.holding.job_of.Tie as tie
 
 -- the bytes fit the constraint
 fits : (c : tie.After-enum-told) → let a = c .before .before .before .before .args in

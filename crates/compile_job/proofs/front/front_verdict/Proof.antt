@@ -3,8 +3,8 @@
 use Rattle.laws.proofs.All.{sym, subst, _∙_, List, ℕ, _≤_, arith, T, not-true, not-false, now, length, needs}
 use Rattle.answer.specs.Outcomes.{done}
 use Rattle.compile_job.proofs.Fronts.{front-short, front-parameters, front-passed}
-use Rattle.compile_job.proofs.reading.front_verdict.Statement.{statement}
-use Rattle.compile_job.proofs.reading.front_verdict.Tie as tie
+use Rattle.compile_job.proofs.front.front_verdict.Statement.{statement}
+use Rattle.compile_job.proofs.front.front_verdict.Tie as tie
 
 -- there are four bytes
 abbrev in₁ : tie.Else1 → List ℕ

@@ -1,8 +1,8 @@
 -- `is_counted` meets its contract: there are so many bytes, or one more for each state.
 -- Assumes nothing.
 use Rattle.laws.proofs.All.{eq-eqb, ne-eqb, needs}
-use Rattle.compile_job.proofs.reading.is_counted.Statement.{statement}
-use Rattle.compile_job.proofs.reading.is_counted.Tie as tie
+use Rattle.compile_job.proofs.holding.is_counted.Statement.{statement}
+use Rattle.compile_job.proofs.holding.is_counted.Tie as tie
 
 returns : tie.Need-returns
 returns c = rw (eq-eqb (c .before .args .count) (c .before .args .size) (c .if1 .taken))

@@ -10,8 +10,8 @@ use Rattle.compile_job.specs.JobValues.{jobIn, Sized}
 use Rattle.compile_job.proofs.Jobs.{heldRunLength-held}
 use Rattle.compile_job.proofs.JobSteps.{in-range, run-length-size, run-length-parameters, run-length-range}
 use Rattle.compile_job.proofs.JobSteps.{run-length-count, run-length-good, held-kept}
-use Rattle.compile_job.proofs.reading.hold_run_length.Statement.{statement}
-use Rattle.compile_job.proofs.reading.hold_run_length.Tie as tie
+use Rattle.compile_job.proofs.holding.hold_run_length.Statement.{statement}
+use Rattle.compile_job.proofs.holding.hold_run_length.Tie as tie
 
 -- there are five bytes
 abbrev in₁ : tie.Else1 → List ℕ

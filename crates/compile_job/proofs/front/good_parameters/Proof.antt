@@ -1,8 +1,8 @@
 -- `good_parameters` meets its contract: each return follows the first test that fails, or the last test.
 -- Assumes nothing.
 use Rattle.laws.proofs.All.{not-true, not-false, needs}
-use Rattle.compile_job.proofs.reading.good_parameters.Statement.{statement}
-use Rattle.compile_job.proofs.reading.good_parameters.Tie as tie
+use Rattle.compile_job.proofs.front.good_parameters.Statement.{statement}
+use Rattle.compile_job.proofs.front.good_parameters.Tie as tie
 
 returns : tie.Need-returns
 returns c = rw (← c .before .between .ensures, not-true (c .before .between .result) (c .if1 .taken))
