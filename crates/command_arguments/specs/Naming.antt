@@ -60,7 +60,7 @@ recordAction w =
 -- the action that a word names
 unfoldable pub actionOf : List ℕ → Action
 actionOf w =
-    if same w (bytes "compile") then Compile else
+    if same w (bytes "compile") then Compile 0 else
     if same w (bytes "compile-job") then CompileJob else
     if same w (bytes "trace") then Trace else
     if same w (bytes "set") then Collection else

@@ -1,10 +1,11 @@
 -- What each action takes: how many arguments, and which of them are numbers, are read and are written; and the number
 -- of a status.
--- In order: shaped, streamShape, verifyShape, shapeOf, fits; statusOf.
+-- In order: shaped, writtenAfter, streamShape, verifyShape, shapeOf, fits; statusOf.
 -- Assumes nothing.
 use mathlib.Core.Bool.{Bool, _&&_}
-use Prim.Native.Nat.{ℕ}
-use lib.Dec.{leb}
+use Prim.Native.Nat.{ℕ, _+_, min}
+use lib.Dec.{leb, eqb}
+use Rattle.laws.specs.Lists.{if_then_else_}
 use Rattle.command_arguments.specs.declared.Shape.{Shape}
 use Rattle.command_arguments.specs.declared.Action.{Action}
 use Rattle.command_arguments.specs.declared.Action.the-variants.{Compile, CompileJob, CompileJoined, Trace}
@@ -24,6 +25,11 @@ abbrev pub shaped : ℕ → ℕ → ℕ → ℕ → ℕ → ℕ → Shape
 shaped fewest most number under read written =
     record { fewest = fewest; most = most; number = number; under = under; read = read; written = written }
 
+-- where the name of the file written stands: after the five numbers, and after the word `weights` and so many weights,
+-- of which there are at most 16
+abbrev pub writtenAfter : ℕ → ℕ
+writtenAfter w = if eqb w 0 then 7 else 8 + min w 16
+
 -- what an action on bit streams takes
 abbrev pub streamShape : OnStream → Shape
 streamShape Pack = shaped 5 5 2 0 3 4
@@ -39,10 +45,10 @@ verifyShape AsStream = shaped 5 5 3 2 4 0
 
 -- what an action takes; argument 0 is the program's name, argument 1 the action's
 abbrev pub shapeOf : Action → Shape
-shapeOf Compile = shaped 7 8 2 0 0 7
+shapeOf (Compile w) = shaped 7 25 2 0 0 (writtenAfter w)
 shapeOf CompileJob = shaped 3 4 0 0 2 3
 shapeOf CompileJoined = shaped 3 4 0 0 2 3
-shapeOf Trace = shaped 7 7 2 0 0 0
+shapeOf Trace = shaped 7 24 2 0 0 0
 shapeOf Collection = shaped 3 3 0 0 2 0
 shapeOf Help = shaped 2 3 0 0 0 0
 shapeOf Version = shaped 2 2 0 0 0 0

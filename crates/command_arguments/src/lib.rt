@@ -1,7 +1,8 @@
 // What the arguments of the command say: an action, which arguments it reads and writes, numbers; and how a run ends.
 ghost use mathlib.Core.Path.{_≡_};
 ghost use Prim.Native.Nat.{_≤_};
-ghost use Rattle.command_arguments.specs.Shapes.{shaped, streamShape, verifyShape, shapeOf, fits, statusOf};
+ghost use Rattle.command_arguments.specs.Shapes.{shaped, writtenAfter, streamShape, verifyShape, shapeOf, fits};
+ghost use Rattle.command_arguments.specs.Shapes.{statusOf};
 
 pub mod naming;
 pub mod numbers;
@@ -42,7 +43,8 @@ pub enum Form {
 
 // What the command does.
 pub enum Action {
-    Compile,
+    // A run-length job, with so many weights after it.
+    Compile(usize),
     CompileJob,
     CompileJoined,
     Trace,
@@ -115,6 +117,20 @@ fn with_places(
     }
 }
 
+// The argument that names the file that a compiled run-length job is written to: after the five numbers, the word
+// `weights` and so many weights, of which there are at most 16.
+fn written_after(weights: usize) -> usize
+    ensures answer { λ r. ⌜ r ≡ writtenAfter weights ⌝ }
+{
+    if weights == 0 {
+        return 7;
+    }
+    if weights < 16 {
+        return 8 + weights;
+    }
+    24
+}
+
 // What an action on bit streams takes.
 fn stream_shape(s: OnStream) -> Shape
     ensures answer { λ r. ⌜ r ≡ streamShape s ⌝ }
@@ -143,10 +159,10 @@ pub fn shape_of(a: Action) -> Shape
     ensures answer { λ r. ⌜ r ≡ shapeOf a ⌝ }
 {
     match a {
-        Action::Compile => with_places(7, 8, 2, 0, 0, 7),
+        Action::Compile(w) => with_places(7, 25, 2, 0, 0, written_after(w)),
         Action::CompileJob => with_places(3, 4, 0, 0, 2, 3),
         Action::CompileJoined => with_places(3, 4, 0, 0, 2, 3),
-        Action::Trace => with_places(7, 7, 2, 0, 0, 0),
+        Action::Trace => with_places(7, 24, 2, 0, 0, 0),
         Action::Collection => with_places(3, 3, 0, 0, 2, 0),
         Action::Help => with_places(2, 3, 0, 0, 0, 0),
         Action::Version => with_places(2, 2, 0, 0, 0, 0),

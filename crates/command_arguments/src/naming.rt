@@ -107,7 +107,7 @@ pub fn action_of(word: &[u8]) -> Action
     ensures answer { λ r. ⌜ r ≡ actionOf (now (word .entry)) ⌝ }
 {
     if is_same(word, b"compile") {
-        return Action::Compile;
+        return Action::Compile(0);
     }
     if is_same(word, b"compile-job") {
         return Action::CompileJob;
