@@ -25,10 +25,11 @@ fn tell_all(file: i32) -> Status
     tell_text(
         file,
         b"usage: sbc ACTION [ARGUMENT]...
-  compile d k p q cap [OUT]              compile a run-length job to a record
+  compile d k p q cap [weights W0 .. Wk] [OUT]
+                                         compile a run-length job to a record
   compile-job FILE [OUT]                 compile a job to a record
   compile-joined FILE [OUT]              compile a job with two constraints to a record for both
-  trace d k p q cap                      print how a run-length job is compiled
+  trace d k p q cap [weights W0 .. Wk]   print how a run-length job is compiled
   check FILE                             say whether a record is accepted
   show FILE                              print the code of a record
   draw FILE                              print the code of a record as a Graphviz digraph or an SVG matrix
@@ -63,7 +64,8 @@ fn tell_compiling(file: i32, a: Action) -> Status
             file,
             b"usage: sbc compile-job FILE [OUT]
 Compiles the job in FILE to a code, and writes its record to OUT, or to standard output. A job is the bytes p, q, cap,
-K, then for each of K states the next states for channel bits 0 and 1, with 255 for none.
+K, then for each of K states the next states for channel bits 0 and 1, with 255 for none. K weight bytes may follow:
+one from 0 to cap for each state, as for compile.
 ",
         ),
         Action::CompileJoined => tell_text(
@@ -76,15 +78,20 @@ channel bits 0 and 1, with 255 for none. A bit is allowed when both constraints 
         ),
         Action::Trace => tell_text(
             file,
-            b"usage: sbc trace d k p q cap
+            b"usage: sbc trace d k p q cap [weights W0 .. Wk]
 Prints how the run-length job is compiled, step by step. The last line of a job that is refused is its refusal.
+Weights are as for compile; where they fail, the trace says why.
 ",
         ),
         _ => tell_text(
             file,
-            b"usage: sbc compile d k p q cap [OUT]
+            b"usage: sbc compile d k p q cap [weights W0 .. Wk] [OUT]
 Compiles the run-length constraint (d, k) to a code of p data bits to q channel bits, with weights up to cap, and
 writes its record to OUT, or to standard output. d and k: 0 to 15, d at most k; p: 1 to 4; q: 1 to 8; cap: 1 to 16.
+After the word weights stands one number from 0 to cap for each of the k + 1 states, not all of them 0. These weights
+are used as they are, instead of the greatest ones. Refusal 17 says that they fail. For example:
+  sbc compile 2 7 1 2 4 weights 2 3 4 4 3 3 1 1
+A file called weights is given as ./weights, and after weights one called 5 as ./5.
 ",
         ),
     }
@@ -122,7 +129,7 @@ fn tell(file: i32, a: Action) -> Status
     ensures past { λ s. ⌜ statusOf s ≤ 1 ⌝ }
 {
     match a {
-        Action::Compile => tell_compiling(file, a),
+        Action::Compile(_) => tell_compiling(file, a),
         Action::CompileJob => tell_compiling(file, a),
         Action::CompileJoined => tell_compiling(file, a),
         Action::Trace => tell_compiling(file, a),
@@ -174,6 +181,21 @@ pub fn misused_above(a: Action, word: &[u8], most: usize) -> Status
     let mut what = [0u8; 64];
     let n = put_sentence(&mut what, 0, b": above #", &[most]);
     misused_word(a, word, &what[..n])
+}
+
+// Says how many weights there are and how many states, which differ, and how an action is used.
+pub fn misused_weights(a: Action, given: usize, states: usize) -> Status
+    ensures answer { λ s. ⌜ s ≡ Misused ⌝ }
+{
+    let mut what = [0u8; 96];
+    let n = put_sentence(
+        &mut what,
+        0,
+        b"# weight~, the constraint has # state~",
+        &[given, given, states, states],
+    );
+    say(&what[..n], b"");
+    misused(a)
 }
 
 // Prints how an action is used.
