@@ -69,7 +69,7 @@ pub record Listed : Type 0 where
 
 -- what lets an action end well: a result by its definition; to ask about the command asks for nothing
 abbrev pub EndsWell : Action → Type 0
-EndsWell Compile = CompiledNumbers
+EndsWell (Compile w) = CompiledNumbers
 EndsWell CompileJob = CompiledJob
 EndsWell CompileJoined = CompiledJoined
 EndsWell Trace = CompiledNumbers
@@ -91,7 +91,7 @@ EndsWell Unknown = ⊥
 
 -- what lets an action end with status 3: words that were decoded and are no recording
 abbrev pub EndsShort : Action → Type 0
-EndsShort Compile = ⊥
+EndsShort (Compile w) = ⊥
 EndsShort CompileJob = ⊥
 EndsShort CompileJoined = ⊥
 EndsShort Trace = ⊥

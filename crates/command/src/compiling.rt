@@ -1,6 +1,6 @@
 // The actions that compile.
 ghost use mathlib.Core.Path.{_≡_};
-ghost use lib.ListN.{length};
+ghost use lib.ListN.{length, take};
 ghost use Rattle.answer.specs.Outcomes.{answerOf, outputOf};
 ghost use Rattle.compile.specs.Compile.{compileRunLength, compileJob, compileJoined};
 ghost use Rattle.command_arguments.specs.declared.Action.the-variants.{Compile, CompileJob, CompileJoined, Trace};
@@ -26,19 +26,23 @@ use compile::bytes::compile_joined;
 use compile::bytes::compile_run_length;
 use trace::tracing::trace_run_length;
 
-// The record of a run-length job.
+// The record of a run-length job, which goes to the file that is named after its weights.
 fn compile_numbers(said: Numbers, out: &mut [u8]) -> Status
-    requires { ⌜ SaidAll (shapeOf Compile .number) said ⌝ }
-    ensures answer { λ s. ⌜ Fails (answerOf (compileRunLength (said .job) (length (now (out .entry))))) s ⌝ }
+    requires { ⌜ SaidAll (shapeOf (Compile (said .weights)) .number) said ⌝ }
+    ensures answer { λ s. ⌜
+        Fails (answerOf (compileRunLength (take (said .size) (said .job)) (length (now (out .entry))))) s ⌝ }
     ensures written { λ s. ⌜
         now (out .exit)
-        ≡ outputOf (compileRunLength (said .job) (length (now (out .entry)))) (now (out .entry)) ⌝ }
+        ≡ outputOf (compileRunLength (take (said .size) (said .job)) (length (now (out .entry))))
+        (now (out .entry)) ⌝ }
     ensures past { λ s. ⌜ WellOnly CompiledNumbers s ⌝ }
 {
-    let i = written_place(Action::Compile);
+    let weights = said.weights;
+    let i = written_place(Action::Compile(weights));
     let job = said.job;
-    let r = compile_run_length(&job, out);
-    finish(Action::Compile, i, r, out)
+    let size = said.size;
+    let r = compile_run_length(&job[..size], out);
+    finish(Action::Compile(weights), i, r, out)
 }
 
 // The record of a job. `l` is what was read of the job.
@@ -69,11 +73,11 @@ fn compile_both(l: Input, job: &[u8], out: &mut [u8]) -> Status
     finish(Action::CompileJoined, i, r, out)
 }
 
-// compile d k p q cap [OUT]
+// compile d k p q cap [weights W0 .. Wk] [OUT]
 pub fn compile() -> Status
     ensures answer { λ s. ⌜ WellOnly CompiledNumbers s ⌝ }
 {
-    let said = numbers_said(Action::Compile);
+    let said = numbers_said(Action::Compile(0));
     if !said.good {
         return Status::Misused;
     }
@@ -81,11 +85,11 @@ pub fn compile() -> Status
     compile_numbers(said, &mut out)
 }
 
-// compile-job FILE [OUT]
+// compile-job FILE [OUT]. The longest job has 52 bytes; a longer one is refused by its length.
 pub fn compile_file() -> Status
     ensures answer { λ s. ⌜ WellOnly CompiledJob s ⌝ }
 {
-    let mut job = [0u8; 37];
+    let mut job = [0u8; 53];
     let l = load(read_place(Action::CompileJob), &mut job);
     if !l.good {
         return Status::Failed;
@@ -112,17 +116,19 @@ pub fn compile_joined_file() -> Status
 // How a trace ends: as compiling the job does.
 fn traced(said: Numbers, out: &mut [u8]) -> Status
     requires { ⌜ SaidAll (shapeOf Trace .number) said ⌝ }
-    ensures answer { λ s. ⌜ s ≡ endOf (compileRunLength (said .job) (length (now (out .entry)))) ⌝ }
+    ensures answer { λ s. ⌜
+        s ≡ endOf (compileRunLength (take (said .size) (said .job)) (length (now (out .entry)))) ⌝ }
     ensures past { λ s. ⌜ WellOnly CompiledNumbers s ⌝ }
 {
     let job = said.job;
-    match compile_run_length(&job, out) {
+    let size = said.size;
+    match compile_run_length(&job[..size], out) {
         Answer::Refused(_) => Status::Failed,
         Answer::Done(_) => Status::Done,
     }
 }
 
-// trace d k p q cap
+// trace d k p q cap [weights W0 .. Wk]
 pub fn trace_numbers() -> Status
     ensures answer { λ s. ⌜ WellOnly CompiledNumbers s ⌝ }
 {
@@ -131,8 +137,9 @@ pub fn trace_numbers() -> Status
         return Status::Misused;
     }
     let job = said.job;
+    let size = said.size;
     let mut out = page();
-    let n = trace_run_length(&job, &mut out, 0);
+    let n = trace_run_length(&job[..size], &mut out, 0);
     match print(&out[..n]) {
         Status::Done => {
             let mut record = [0u8; 3865];

@@ -164,7 +164,7 @@ fn act(a: Action) -> u32
     ensures past { λ r. ⌜ r ≤ 3 ⌝ }
 {
     match a {
-        Action::Compile => status_number(compiling::compile()),
+        Action::Compile(_) => status_number(compiling::compile()),
         Action::CompileJob => status_number(compiling::compile_file()),
         Action::CompileJoined => status_number(compiling::compile_joined_file()),
         Action::Trace => status_number(compiling::trace_numbers()),

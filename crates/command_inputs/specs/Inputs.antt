@@ -1,19 +1,20 @@
 -- What reading an argument says: the number in its word, or how many bytes its file gave; and which argument it was.
--- In order: noNumber, numberOf; nothingFrom, inputOf; Said, SaidAll; From, FromWhole.
+-- In order: noNumber, numberOf; nothingFrom, inputOf; Said; JobFrom, Counted, SaidAll; From, FromWhole.
 -- Assumes nothing.
 use mathlib.Core.Path.{_≡_}
 use mathlib.Core.Bool.{true, false}
 use mathlib.Core.List.{List}
-use Prim.Native.Nat.{ℕ}
+use mathlib.Core.Logic.{_⊎_}
+use Prim.Native.Nat.{ℕ, _+_, _≤_}
 use lib.Dec.{leb}
-use lib.ListN.{length}
+use lib.ListN.{length, getD}
 use Rattle.laws.specs.Lists.{if_then_else_}
 use Rattle.files.specs.declared.Loaded.{Loaded}
 use Rattle.files.specs.declared.Loaded.the-variants.{Whole, Unreadable, TooLong}
 use Rattle.command_arguments.specs.declared.Parsed.{Parsed}
 use Rattle.command_arguments.specs.declared.Parsed.the-variants.{Number as Digits, Above, Wrong}
 use Rattle.command_inputs.specs.declared.numbers.Number.{Number}
-use Rattle.command_inputs.specs.declared.numbers.Numbers.{Numbers}
+use Rattle.command_inputs.specs.declared.jobs.Numbers.{Numbers}
 use Rattle.command_inputs.specs.declared.Input.{Input}
 
 -- argument i says no number that is taken
@@ -40,9 +41,17 @@ inputOf i room Unreadable = nothingFrom i
 abbrev pub Said : ℕ → Number → Type 0
 Said i n = (n .good ≡ true) × (n .at ≡ i)
 
--- five arguments from i on say numbers that are taken
+-- the job of the arguments from i on: its bytes are five numbers and as many weights as there are, up to 16
+abbrev pub JobFrom : ℕ → Numbers → Type 0
+JobFrom i n = (n .at ≡ i) × (21 ≡ length (n .job)) × (n .size ≡ 5 + n .weights) × (n .weights ≤ 16)
+
+-- a job has no weights, or one for each of the k + 1 states
+abbrev pub Counted : Numbers → Type 0
+Counted n = (n .weights ≡ 0) ⊎ (n .weights ≡ getD (n .job) 1 0 + 1)
+
+-- the arguments from i on say a job, in numbers that are taken
 abbrev pub SaidAll : ℕ → Numbers → Type 0
-SaidAll i n = (n .good ≡ true) × (n .at ≡ i)
+SaidAll i n = (n .good ≡ true) × JobFrom i n
 
 -- the file that argument i names was read, and the bytes are as many as were read of it
 abbrev pub From : ℕ → Input → List ℕ → Type 0

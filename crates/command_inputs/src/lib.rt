@@ -9,6 +9,7 @@ ghost use Rattle.files.specs.Files.{Fits};
 ghost use Rattle.command_arguments.specs.Shapes.{shapeOf};
 ghost use Rattle.command_inputs.specs.Inputs.{inputOf};
 
+mod jobs;
 mod numbers;
 
 use command_arguments::Action;
@@ -17,11 +18,11 @@ use command_arguments::under_place;
 use command_messages::say_too_long;
 use command_messages::system::complain;
 use files::Loaded;
+pub use jobs::Numbers;
+pub use jobs::numbers_said;
 use libc::STDIN_FILENO;
 pub use numbers::Number;
-pub use numbers::Numbers;
 pub use numbers::number_at;
-pub use numbers::numbers_said;
 use text::is_same;
 
 // What reading a file comes to: whether it went well, whether the file has more bytes than were lent, how many of the

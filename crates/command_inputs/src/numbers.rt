@@ -1,7 +1,6 @@
 // Numbers among the arguments. Each answer says which argument it was read from.
 ghost use mathlib.Core.Path.{_≡_};
 ghost use Prim.Native.Nat.{_≤_};
-ghost use lib.ListN.{length};
 ghost use Rattle.command_arguments.specs.Parsing.{parsed};
 ghost use Rattle.command_inputs.specs.Inputs.{numberOf};
 use command_arguments::Action;
@@ -14,13 +13,6 @@ use command_messages::usage::misused_word;
 pub struct Number {
     pub good: bool,
     pub value: usize,
-    pub at: usize,
-}
-
-// Five numbers, if all five arguments are numbers that a byte holds, and the first of these arguments.
-pub struct Numbers {
-    pub good: bool,
-    pub job: [u8; 5],
     pub at: usize,
 }
 
@@ -72,29 +64,4 @@ pub fn number_at(a: Action, i: usize, most: usize) -> Number
     let mut word = io::buffer();
     let n = os::arg(i, &mut word);
     number_in(a, i, &word[..n], most)
-}
-
-// The numbers that arguments 2 to 6 say, up to 255. It says what is no number, and what is above.
-pub fn numbers_said(a: Action) -> Numbers
-    ensures answer { λ r. ⌜ (r .at ≡ 2) × (5 ≡ length (r .job)) ⌝ }
-{
-    let mut job = [0u8; 5];
-    let mut i = 0;
-    while i < 5 {
-        let n = number_at(a, 2 + i, 255);
-        if !n.good {
-            return Numbers {
-                good: false,
-                job,
-                at: 2,
-            };
-        }
-        job[i] = n.value as u8;
-        i += 1;
-    }
-    Numbers {
-        good: true,
-        job,
-        at: 2,
-    }
 }
