@@ -80,7 +80,7 @@ channel bits 0 and 1, with 255 for none. A bit is allowed when both constraints 
             file,
             b"usage: sbc trace d k p q cap [weights W0 .. Wk]
 Prints how the run-length job is compiled, step by step. The last line of a job that is refused is its refusal.
-Weights are as for compile; where they fail, the trace says why.
+Weights are as for compile. Where they fail, the line in front of the refusal says why.
 ",
         ),
         _ => tell_text(
