@@ -3,9 +3,15 @@
 -- Assumes nothing.
 use Rattle.laws.proofs.All.{needs}
 use Rattle.compile.specs.Compile.{compileRunLength}
+use Rattle.command_inputs.proofs.Inputs.{job-within}
 use Rattle.command_outputs.proofs.Results.{result-within, fails-outcome, fails-well}
 use Rattle.command.proofs.compiling.compile_numbers.Statement.{statement}
 use Rattle.command.proofs.compiling.compile_numbers.Tie as tie
+
+slice-aggregate-compile-run-length : tie.Need-slice-aggregate-compile-run-length
+slice-aggregate-compile-run-length c =
+    let start = c .before .before .before .before in
+    job-within 2 (start .args .said) (start .pre .1)
 
 finish-requires : tie.Need-finish-requires
 finish-requires c κs =
@@ -31,5 +37,5 @@ pub compile-numbers-spec : {M : Type 1} → statement M
 compile-numbers-spec =
     tie.close
     (tie.spec
-    (λ c κs. search needs) (λ c. search needs) (λ c κs. search needs) finish-requires (λ c. search needs)
-    returns)
+    (λ c κs. search needs) (λ c. search needs) slice-aggregate-compile-run-length (λ c κs. search needs)
+    finish-requires (λ c. search needs) returns)
