@@ -1,7 +1,7 @@
 // The numbers of a run-length job among the arguments, with the weights that may follow them.
 ghost use mathlib.Core.Path.{_≡_};
 ghost use mathlib.Core.Bool.{true, false};
-ghost use Prim.Native.Nat.{_≤_, _<_};
+ghost use Prim.Native.Nat.{_≤_};
 ghost use lib.ListN.{take};
 ghost use Rattle.command_inputs.specs.Inputs.{JobFrom, Counted};
 use crate::numbers::number_at;
