@@ -215,5 +215,5 @@ pub fn print_use(a: Action) -> Status
 pub fn print_version() -> Status
     ensures past { λ s. ⌜ statusOf s ≤ 1 ⌝ }
 {
-    print(b"sbc 2.2\n")
+    print(b"sbc 2.3\n")
 }
