@@ -159,19 +159,32 @@ fn checked(name: &str, job: [u8; 5]) {
     println!("  encode {:.1}, encode_checked {:.1}; decode {:.1}, decode_checked {:.1}", us(0), us(1), us(2), us(3));
 }
 
+/// A run-length job that brings the weights which the compiler would find.
+pub fn with_own_weights(job: [u8; 5]) -> Vec<u8> {
+    let read = reference::job::Job::run_length(&job).expect("a job");
+    let weights = reference::weights::greatest(&read);
+    job.into_iter().chain(weights.into_iter().map(|w| w as u8)).collect()
+}
+
 fn compile() {
     println!("compile, ms a job");
-    for job in [[2, 7, 4, 8, 16], [1, 13, 4, 6, 9]] {
+    for job in [[2, 7, 4, 8, 16], [1, 13, 4, 6, 9], [2, 7, 1, 2, 4]] {
+        let brought = with_own_weights(job);
         let expected = reference::calls::compile_run_length(&job, 65535);
         let mut out = vec![0; 4096];
         let answer = library::compile_run_length(&job, &mut out);
         assert_eq!(answer, (u64::from(expected.refusal), u64::from(expected.value)));
         assert_eq!(out[..expected.output.len()], expected.output);
+        let mut again = vec![0; 4096];
+        assert_eq!((library::compile_run_length(&brought, &mut again), &again), (answer, &out));
         let t = medians(&mut [
             &mut || assert_eq!(library::compile_run_length(&job, &mut out), answer),
+            &mut || assert_eq!(library::compile_run_length(&brought, &mut again), answer),
             &mut || assert_eq!(reference::calls::compile_run_length(&job, 65535).refusal, expected.refusal),
         ]);
-        println!("  {job:?} proved {:.2}, sets as bits in Rust {:.2}, ratio {:.2}", t[0] * 1e3, t[1] * 1e3, t[1] / t[0]);
+        let ms = t.iter().map(|t| t * 1e3).collect::<Vec<f64>>();
+        println!("  {job:?} proved {:.3}, its weights brought {:.3}, sets as bits in Rust {:.3}", ms[0], ms[1], ms[2]);
+        println!("    ratios to the first: {:.2}, {:.2}", ms[1] / ms[0], ms[2] / ms[0]);
     }
 }
 

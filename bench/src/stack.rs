@@ -1,8 +1,9 @@
 //! The stack that each call needs: the smallest thread in which it returns, tried in processes of their own.
 use crate::library;
+use crate::speed::with_own_weights;
 use std::process::{Command, Stdio};
 
-const CALLS: [&str; 21] = [
+const CALLS: [&str; 22] = [
     "check",
     "encode",
     "decode",
@@ -21,6 +22,7 @@ const CALLS: [&str; 21] = [
     "phrase",
     "compile",
     "compile_run_length",
+    "compile_brought",
     "compile_joined",
     "listing",
     "set",
@@ -54,6 +56,7 @@ fn call(name: &str) -> (u64, u64) {
         "phrase" => library::phrase(7, &mut out),
         "compile" => library::compile(&general(JOB), &mut out),
         "compile_run_length" => library::compile_run_length(&JOB, &mut out),
+        "compile_brought" => library::compile_run_length(&with_own_weights(JOB), &mut out),
         "compile_joined" => library::compile_joined(&joined(JOB), &mut out),
         "listing" => library::listing(&JOB, &mut out),
         _ => library::set(&reference::sets::pack(&[record])),
