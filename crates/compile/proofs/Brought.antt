@@ -1,7 +1,7 @@
 -- What is promised of a job that brings its weights: 17 exactly where they fail, and otherwise a record or 4, 5, 6, 13.
--- In order: as-fitted, as-before; bad-weights; brought-ends.
+-- In order: as-fitted, as-before; bad-weights; brought-ends; brought-alike.
 -- Assumes nothing.
-use Rattle.laws.proofs.All.{_≡_, refl, sym, ap, subst, _∙_, _⊎_, inl, inr, _↔_, false, List, ℕ, _≤_, _<_}
+use Rattle.laws.proofs.All.{_≡_, refl, sym, ap, ap₂, subst, _∙_, _⊎_, inl, inr, _↔_, false, List, ℕ, _≤_, _<_}
 use Rattle.laws.proofs.All.{arith, sum, bool-eq}
 use Rattle.answer.specs.declared.Refusal.{Refusal}
 use Rattle.answer.specs.declared.Refusal.the-variants.{ShortOutput, BadWeights}
@@ -14,9 +14,10 @@ use Rattle.record.specs.Layout.{pack}
 use Rattle.record.specs.Parse.{packInto}
 use Rattle.compile_graph.specs.Weights.{passing, Passing}
 use Rattle.compile_graph.proofs.Weights.{passing-exact}
-use Rattle.compile_job.specs.Jobs.{Choice, computed, brought, Job, fit, fitted, readJob, readRunLength, readJoined}
+use Rattle.compile_job.specs.Jobs.{Choice, computed, brought, Job, fit, fitted, readJob, readRunLength, heldWith}
+use Rattle.compile_job.specs.Jobs.{readJoined}
 use Rattle.compile_job.proofs.Joining.{joins-exact}
-use Rattle.compile.specs.Compile.{ways, graphOf, componentOf, compile, compileInto}
+use Rattle.compile.specs.Compile.{ways, graphOf, weightsOf, componentOf, compile, compileInto}
 use Rattle.compile.specs.Kinds.{Kind, general, run-length, joined, heldAs, readAs, compileAs}
 use Rattle.compile.proofs.Compile.{Reason, reason, nothing, heavy, crowding, windowless, coded, brought-weigh}
 use Rattle.compile.proofs.Early.{Before, Early, held-before, run-length-before, joined-before}
@@ -109,3 +110,20 @@ brought-ends k xs room j u e b r q =
     go w _ (crowding _ _) = (omega arith, omega arith)
     go w _ (windowless _ _ _) = (omega arith, omega arith)
     go w _ (coded _ _ _ _) = (omega arith, omega arith)
+
+-- ---- weights that are brought beside weights that are found
+-- of its weights and its cap a job's code depends on the weights in use alone
+by-weights : (j : Job) → compile j ≡ compile (heldWith (j .p) (j .q) 0 (j .constraint) (brought (weightsOf j)))
+unfolding compile
+by-weights j = refl
+
+-- THEOREM: jobs with one p, q and constraint and the same weights in use compile alike
+pub brought-alike : (k l : Kind) (xs ys : List ℕ) (room : ℕ) (i j : Job) → readAs k xs ≡ done i → readAs l ys ≡ done j
+    → i .p ≡ j .p → i .q ≡ j .q → i .constraint ≡ j .constraint → weightsOf i ≡ weightsOf j
+    → compileAs k xs room ≡ compileAs l ys room
+brought-alike k l xs ys room i j e f p q c w =
+    sym (as-onward k xs room) ∙ ap (λ o. onward o (compileInto room)) e
+    ∙ ap (λ o. onward o (λ code. packInto code room)) (by-weights i
+    ∙ ap₂ (λ a b. compile (heldWith a b 0 (i .constraint) (brought (weightsOf i)))) p q
+    ∙ ap₂ (λ a b. compile (heldWith (j .p) (j .q) 0 a (brought b))) c w ∙ sym (by-weights j))
+    ∙ sym (ap (λ o. onward o (compileInto room)) f) ∙ as-onward l ys room

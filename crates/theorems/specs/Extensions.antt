@@ -5,7 +5,7 @@
 -- (c) labels, labels-row, labels-rule, labels-hold, table-rule; (d) decoded-blocks, marks, read-datum, no-mark-ahead,
 -- clear-unmarked; (e) closes, tail-free, tail-place, closes-record; (f) depth-numbers, weave-calls, unweave-calls,
 -- weave-spreads, weave-returns, weave-places, weaving, one-word-each, fewer-places, scratch; (g) state-sets, step-bits,
--- back-bits, pair-step-bits, pair-hit-bits; (h) brought-used, bad-weights, brought-ends; Verify: verified,
+-- back-bits, pair-step-bits, pair-hit-bits; (h) brought-used, bad-weights, brought-ends, brought-alike; Verify: verified,
 -- verified-place, verified-mark, verified-near, verified-stream, verify-calls, verify-stream-calls; Calls: job-order,
 -- job-read, run-length-order, run-length-read, joined-order, listing-call; set-layout, set-order, set-count;
 -- encode-calls, decode-calls, checked-calls; info-numbers, phrase-words, phrases, with-tail; refusal-numbers,
@@ -520,6 +520,12 @@ pub brought-ends : (k : Kind) (xs : List ℕ) (room : ℕ) (j : Job) (u : List �
     → j .choice ≡ brought u → (r : Refusal) → compileAs k xs room ≡ refused r
     → ((4 ≤ numberOf r) × (numberOf r ≤ 6)) ⊎ (numberOf r ≡ 13)
 brought-ends = Rattle.compile.proofs.Brought.brought-ends
+
+-- Jobs with one p, q and constraint and the same weights in use compile alike, whether these were found or brought.
+pub brought-alike : (k l : Kind) (xs ys : List ℕ) (room : ℕ) (i j : Job) → readAs k xs ≡ done i → readAs l ys ≡ done j
+    → i .p ≡ j .p → i .q ≡ j .q → i .constraint ≡ j .constraint → weightsOf i ≡ weightsOf j
+    → compileAs k xs room ≡ compileAs l ys room
+brought-alike = Rattle.compile.proofs.Brought.brought-alike
 
 -- ---- Verify: the words in front that come back when the decoded blocks are encoded, as a call answers them.
 
