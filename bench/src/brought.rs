@@ -14,6 +14,23 @@ pub struct Brought {
     greatest: u64,
 }
 
+/// A job without weights and its greatest ones: mostly one that has a code, at times one of any size.
+fn drawn(numbers: &mut Numbers, run_length: bool) -> (Vec<u8>, Vec<u8>) {
+    let mut tries = 0..4;
+    loop {
+        let bare = match (run_length, numbers.below(8)) {
+            (true, 0) => jobs::any_run_length(numbers),
+            (true, _) => jobs::run_length(numbers),
+            (false, _) => jobs::general(numbers),
+        };
+        let read = if run_length { Job::run_length(&bare) } else { Job::general(&bare) };
+        let ours: Vec<u8> = read.map_or_else(|_| vec![1; 4], |job| greatest(&job).iter().map(|&w| w as u8).collect());
+        if tries.next().is_none() || ours.iter().any(|&w| w > 0) {
+            return (bare, ours);
+        }
+    }
+}
+
 /// One weight at random, raised or lowered by up to 3 and not below 0.
 fn changed(numbers: &mut Numbers, weights: &mut [u8], raised: bool) {
     let place = numbers.below(weights.len());
@@ -25,10 +42,8 @@ impl Brought {
     /// A job that brings weights, sometimes damaged, compiled; with the greatest weights it comes out as without any.
     pub fn one(&mut self, numbers: &mut Numbers) -> u64 {
         let run_length = numbers.below(2) == 0;
-        let bare = if run_length { jobs::run_length(numbers) } else { jobs::general(numbers) };
-        let read = if run_length { Job::run_length(&bare) } else { Job::general(&bare) };
+        let (bare, ours) = drawn(numbers, run_length);
         let call: Call = if run_length { library::compile_run_length } else { library::compile };
-        let ours: Vec<u8> = read.map_or_else(|_| vec![1; 4], |job| greatest(&job).iter().map(|&w| w as u8).collect());
         let mut weights = ours.clone();
         match numbers.below(8) {
             0..=3 => changed(numbers, &mut weights, false),

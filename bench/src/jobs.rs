@@ -13,7 +13,17 @@ pub fn general(numbers: &mut Numbers) -> Vec<u8> {
 
 /// A run-length job.
 pub fn run_length(numbers: &mut Numbers) -> Vec<u8> {
-    [4, 9, 4, 6, 9].iter().zip([0, 0, 1, 1, 1]).map(|(&bound, least)| numbers.below(bound) as u8 + least).collect()
+    numbers_below(numbers, [4, 9, 4, 6, 9])
+}
+
+/// A run-length job of any size.
+pub fn any_run_length(numbers: &mut Numbers) -> Vec<u8> {
+    numbers_below(numbers, [16, 16, 4, 8, 16])
+}
+
+/// Five numbers below bounds, the last three from 1 on.
+fn numbers_below(numbers: &mut Numbers, bounds: [usize; 5]) -> Vec<u8> {
+    bounds.iter().zip([0, 0, 1, 1, 1]).map(|(&bound, least)| numbers.below(bound) as u8 + least).collect()
 }
 
 /// A job's bytes, sometimes damaged, compiled; and listed, if it is a run-length job.
