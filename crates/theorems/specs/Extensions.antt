@@ -5,9 +5,9 @@
 -- (c) labels, labels-row, labels-rule, labels-hold, table-rule; (d) decoded-blocks, marks, read-datum, no-mark-ahead,
 -- clear-unmarked; (e) closes, tail-free, tail-place, closes-record; (f) depth-numbers, weave-calls, unweave-calls,
 -- weave-spreads, weave-returns, weave-places, weaving, one-word-each, fewer-places, scratch; (g) state-sets, step-bits,
--- back-bits, pair-step-bits, pair-hit-bits; (h) brought-used, bad-weights, brought-ends, brought-alike; Verify: verified,
--- verified-place, verified-mark, verified-near, verified-stream, verify-calls, verify-stream-calls; Calls: job-order,
--- job-read, run-length-order, run-length-read, joined-order, listing-call; set-layout, set-order, set-count;
+-- back-bits, pair-step-bits, pair-hit-bits; (h) brought-used, bad-weights, brought-ends, brought-alike; Verify:
+-- verified, verified-place, verified-mark, verified-near, verified-stream, verify-calls, verify-stream-calls; Calls:
+-- job-order, job-read, run-length-order, run-length-read, joined-order, listing-call; set-layout, set-order, set-count;
 -- encode-calls, decode-calls, checked-calls; info-numbers, phrase-words, phrases, with-tail; refusal-numbers,
 -- answer-words, word-numbers, set-words, outputs.
 -- Assumes nothing.
