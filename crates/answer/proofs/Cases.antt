@@ -1,5 +1,5 @@
 -- The cases of `Refusal`, by where they stand in the code's list of them.
--- In order: tag; number-tag, number-some, number-most, place_none; refusal-numbers; named, same-refusal; others.
+-- In order: tag; number-tag, number-some, number-most, place_none; refusal-numbers; named, same-refusal; place-unless.
 -- Assumes nothing.
 use Rattle.laws.proofs.All.{◌≡◌, refl, sym, ap₂, subst, ◌∙◌, List, [], ◌∷◌, ◌++◌, ℕ, suc, ◌-◌, ◌≤◌, arith, get_or, from}
 use denote.Enum.Declared.{tag_of}
@@ -112,6 +112,6 @@ named-is BadWeights = refl
 pub same-refusal : (r s : Refusal) → number_of r ≡ number_of s → place_of r ≡ place_of s → r ≡ s
 same-refusal r s n p = sym (named-is r) ∙ ap₂ named n p ∙ named-is s
 
--- where the cases with no place stand
-abbrev pub others : List ℕ
-others = from 0 10 ++ from 11 (most - 11)
+-- THEOREM: a refusal that is no case with a place has the place 0
+pub place-unless : (r : Refusal) → ((k : ℕ) → r ≡ BadByte k → ⊥) → place_of r ≡ 0
+place-unless r h = place_none r (λ e. h (place_of r) (same-refusal r (BadByte (place_of r)) e refl))

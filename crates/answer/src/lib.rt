@@ -1,4 +1,6 @@
 // What a call answers: a finished result, or one of the numbered refusals of documents 01 and 02.
+#![tactic(auto)]
+
 ghost use Rattle.std.specs.Prelude.{◌≡◌};
 ghost use Rattle.answer.specs.Refusals.{number_of, place_of};
 ghost use Rattle.answer.specs.Answers.{answer_number, answer_value};
@@ -6,7 +8,7 @@ ghost use Rattle.answer.specs.Answers.{answer_number, answer_value};
 pub mod bytes;
 
 // Why a call declines, with a case for each number of document 01's table, and after them those of document 02.
-#[derive(Drop)]
+#[derive(Clone, Copy)]
 pub enum Refusal {
     // 1: p, q or cap out of range.
     Parameters,
@@ -46,14 +48,14 @@ pub enum Refusal {
 }
 
 // What a check says of a value that stands beside it: the value is good, or why it is declined.
-#[derive(Drop)]
+#[derive(Clone, Copy)]
 pub enum Verdict {
     Good,
     Bad(Refusal),
 }
 
 // The answer of a call that writes bytes: how many it wrote, or why it declines.
-#[derive(Drop)]
+#[derive(Clone, Copy)]
 pub enum Answer {
     Done(usize),
     Refused(Refusal),

@@ -1,11 +1,13 @@
 // Sets of states in two machine words, one bit for each of 128 states.
+#![tactic(auto)]
+
 ghost use Rattle.std.specs.Prelude.{◌≡◌, true, false, ◌||◌, ◌&&◌, ℕ, ◌-◌, ◌^◌, ◌≤◌, ◌<◌, eqb, ltb, length, get_or, drop};
 ghost use Rattle.bitsets.specs.BitSets.{holds, members_of, meeting};
 
 pub mod rows;
 
 // A set: the state i is the bit i of `low`, and from 64 on the bit i - 64 of `high`.
-#[derive(Drop)]
+#[derive(Clone, Copy)]
 pub struct BitSet {
     pub low: u64,
     pub high: u64,

@@ -1,10 +1,12 @@
 // The cases of a file of test vectors: where the parts of each stand.
+#![tactic(auto)]
+
 ghost use Rattle.std.specs.Prelude.{◌≡◌, true, ◌≤◌, ◌<◌};
 ghost use Rattle.cases.specs.Placing.{Placed, Whole};
 
 // A case: its kind, the room of its output, where its first input begins and ends (`behind`), where its second input
 // begins and ends (`told`), the refusal and the value that it is to answer, and where its output begins and ends.
-#[derive(Drop)]
+#[derive(Clone, Copy)]
 pub struct Case {
     pub kind: usize,
     pub room: usize,

@@ -1,4 +1,6 @@
 // FNV-1a over 64 bits, for telling two runs apart.
+#![tactic(auto)]
+
 ghost use Rattle.std.specs.Prelude.{◌≡◌, ◌*◌, ◌%◌, ◌^◌};
 ghost use Rattle.checksum.specs.Fnv.{step, sum};
 

@@ -1,4 +1,6 @@
 // The blocks of words, read one by one into lent bytes.
+#![tactic(auto)]
+
 ghost use Rattle.std.specs.Prelude.{◌≡◌, ◌++◌, map, ◌+◌, ◌≤◌, ◌<◌, length, drop};
 ghost use Rattle.laws.specs.Lists.{from};
 ghost use Rattle.table.specs.Edges.{borrowed, rows_of};

@@ -1,4 +1,6 @@
 // Decoding under a table: "From W words come W − a blocks", each by the reading rule.
+#![tactic(auto)]
+
 ghost use Rattle.std.specs.Prelude.{◌≡◌, ◌≤◌, length};
 ghost use Rattle.answer.specs.Outcomes.{verdict_on, answer_of, output_of};
 ghost use Rattle.table.specs.Rows.{Code};

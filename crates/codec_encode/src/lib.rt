@@ -1,4 +1,6 @@
 // Encoding under a table: "N blocks give N + a words: the blocks from state 0, then a blocks" of the tail datum.
+#![tactic(auto)]
+
 ghost use Rattle.std.specs.Prelude.{◌≡◌, ◌+◌, ltb, length};
 ghost use Rattle.answer.specs.Outcomes.{answer_of, output_of};
 ghost use Rattle.codec.specs.With.{encoded_with};

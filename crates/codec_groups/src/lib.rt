@@ -1,5 +1,7 @@
 // The groups of a table's edges by word: for each word the states that have it, in rising order, each with its first
 // edge and with the set of states to which its edges lead.
+#![tactic(auto)]
+
 ghost use Rattle.std.specs.Prelude.{◌≡◌, ◌≤◌, ◌<◌, length};
 ghost use Rattle.codec_groups.specs.Groups.{targets_at, Put, PutHave, group_of};
 

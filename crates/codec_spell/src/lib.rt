@@ -1,4 +1,6 @@
 // The words of a path, written into lent bytes: those of blocks from state 0, and those of closing blocks of one datum.
+#![tactic(auto)]
+
 ghost use Rattle.std.specs.Prelude.{◌≡◌, ◌++◌, ◌-◌, ◌≤◌, ◌<◌, length, take, drop, replicate};
 ghost use Rattle.laws.specs.Sums.{Below};
 ghost use Rattle.table.specs.Paths.{ends, spells};

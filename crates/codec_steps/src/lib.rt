@@ -1,4 +1,6 @@
 // Sets of states in two machine words, stepped by words along the groups of their edges, forward and back.
+#![tactic(auto)]
+
 ghost use Rattle.std.specs.Prelude.{◌≡◌, ◌||◌, ℕ, ◌≤◌, ◌<◌, length};
 ghost use Rattle.std.proofs.Math.Seq.{slice};
 ghost use Rattle.table.specs.Edges.{Arrays, rows_of};

@@ -1,4 +1,6 @@
 // Whether words are a recording: how many of them, from the first on, come back when their decoded blocks are encoded.
+#![tactic(auto)]
+
 ghost use Rattle.std.specs.Prelude.{◌≡◌, ◌≤◌};
 ghost use Rattle.answer.specs.Outcomes.{answer_of};
 ghost use Rattle.codec_verify.specs.Counting.{sizes_of};
@@ -16,7 +18,7 @@ pub mod counting;
 
 // The numbers of a code by which its words are counted: how many states, how many data, the bits of a word, the window,
 // and the tail datum.
-#[derive(Drop)]
+#[derive(Clone, Copy)]
 pub struct Sizes {
     pub states: usize,
     pub ways: usize,

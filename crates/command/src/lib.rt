@@ -1,4 +1,6 @@
 // The command `sbc`: finds the action that the arguments name, does it on files, and answers with its exit status.
+#![tactic(auto)]
+
 ghost use Rattle.std.specs.Prelude.{◌≡◌, false, ◌≤◌};
 ghost use Rattle.command_arguments.specs.declared.Action.TheVariants.{Collection, Coding, Stream, Recordings, Verify};
 ghost use Rattle.command_arguments.specs.declared.Action.TheVariants.{Unknown};

@@ -1,4 +1,6 @@
 // What the arguments of the command say: an action, which arguments it reads and writes, numbers; and how a run ends.
+#![tactic(auto)]
+
 ghost use Rattle.std.specs.Prelude.{◌≡◌, ◌≤◌};
 ghost use Rattle.command_arguments.specs.Shapes.{shaped, written_after, stream_shape, verify_shape, shape_of, fits};
 ghost use Rattle.command_arguments.specs.Shapes.{status_of};
@@ -7,7 +9,7 @@ pub mod naming;
 pub mod numbers;
 
 // What is printed of a record that is accepted: that it is, its code in words, or its code as a diagram.
-#[derive(Drop)]
+#[derive(Clone, Copy)]
 pub enum View {
     Check,
     Show,
@@ -15,14 +17,14 @@ pub enum View {
 }
 
 // What is done under a record.
-#[derive(Drop)]
+#[derive(Clone, Copy)]
 pub enum Way {
     Encode,
     Decode,
 }
 
 // What is done with bit streams.
-#[derive(Drop)]
+#[derive(Clone, Copy)]
 pub enum OnStream {
     Pack,
     Unpack,
@@ -32,21 +34,21 @@ pub enum OnStream {
 }
 
 // What is done with several recordings at once.
-#[derive(Drop)]
+#[derive(Clone, Copy)]
 pub enum OnRecordings {
     Weave,
     Unweave,
 }
 
 // How words are given: one byte each, or as a bit stream.
-#[derive(Drop)]
+#[derive(Clone, Copy)]
 pub enum Form {
     Words,
     Stream,
 }
 
 // What the command does.
-#[derive(Drop)]
+#[derive(Clone, Copy)]
 pub enum Action {
     // A run-length job, with so many weights after it.
     Compile(usize),
@@ -72,7 +74,7 @@ pub enum Action {
 // first number, the others follow it; the argument that names the record it works under, the one that names the file it
 // reads, and the one that names the file it writes. 0 is none; without a file to write, or where that argument is left
 // out, standard output is written.
-#[derive(Drop)]
+#[derive(Clone, Copy)]
 pub struct Shape {
     pub fewest: usize,
     pub most: usize,
@@ -83,7 +85,7 @@ pub struct Shape {
 }
 
 // How a run ends.
-#[derive(Drop)]
+#[derive(Clone, Copy)]
 pub enum Status {
     // 0: the result is written.
     Done,
@@ -96,7 +98,7 @@ pub enum Status {
 }
 
 // What an argument says that is to be a number.
-#[derive(Drop)]
+#[derive(Clone, Copy)]
 pub enum Parsed {
     Number(usize),
     // It is above the greatest number that is read.

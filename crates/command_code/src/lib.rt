@@ -1,4 +1,6 @@
 // The actions that encode and decode.
+#![tactic(auto)]
+
 ghost use Rattle.std.specs.Prelude.{◌≡◌, ◌⊎◌, length};
 ghost use Rattle.answer.specs.Outcomes.{answer_of, output_of};
 ghost use Rattle.command_arguments.specs.declared.Action.TheVariants.{Coding};

@@ -10,7 +10,7 @@ use text::is_same;
 
 // A run-length job, if the arguments say numbers that a byte holds: the first `size` bytes of `job`, which are five
 // numbers and so many weights; and the first of these arguments.
-#[derive(Drop)]
+#[derive(Clone, Copy)]
 pub struct Numbers {
     pub good: bool,
     pub job: [u8; 21],

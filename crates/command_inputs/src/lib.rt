@@ -1,5 +1,7 @@
 // What the arguments say: numbers, and files and standard input read into lent bytes. A file named - is standard input.
 // Each answer says which argument it was read from.
+#![tactic(auto)]
+
 ghost use Rattle.std.specs.Prelude.{◌≡◌, true, false, ◌≤◌, ◌<◌, length};
 ghost use Rattle.io.specs.Counts.{IsPrefixLen};
 ghost use Rattle.files.specs.Files.{Fits};
@@ -20,7 +22,7 @@ use text::is_same;
 
 // What reading a file comes to: whether it went well, whether the file has more bytes than were lent, how many of the
 // lent bytes it filled, and the argument that names it.
-#[derive(Drop)]
+#[derive(Clone, Copy)]
 pub struct Input {
     pub good: bool,
     pub more: bool,

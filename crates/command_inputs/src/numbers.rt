@@ -8,7 +8,7 @@ use command_arguments::{Action, Parsed};
 use command_messages::usage::{misused_above, misused_word};
 
 // A number, if the argument is one that is taken, and which argument it is.
-#[derive(Drop)]
+#[derive(Clone, Copy)]
 pub struct Number {
     pub good: bool,
     pub value: usize,

@@ -1,4 +1,6 @@
 // What encoding or decoding came to, written; the marks among decoded blocks are counted and said.
+#![tactic(auto)]
+
 ghost use Rattle.std.specs.Prelude.{◌≡◌, ◌≤◌, eqb};
 ghost use Rattle.laws.specs.Sums.{one, times};
 ghost use Rattle.text.specs.Texts.{Added};

@@ -1,4 +1,6 @@
 // What the command says on standard error, and how a run ends that says it.
+#![tactic(auto)]
+
 ghost use Rattle.std.specs.Prelude.{◌≡◌, ◌≤◌};
 ghost use Rattle.text.specs.Texts.{Added};
 ghost use Rattle.command_arguments.specs.Shapes.{status_of};

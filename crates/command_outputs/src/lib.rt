@@ -1,4 +1,6 @@
 // Results written: to the file that an action's argument names, or to standard output, which a file named - is.
+#![tactic(auto)]
+
 ghost use Rattle.std.specs.Prelude.{◌≡◌, ◌≤◌};
 ghost use Rattle.io.specs.Counts.{IsPrefixLen};
 ghost use Rattle.command_arguments.specs.Shapes.{shape_of, status_of};

@@ -1,6 +1,8 @@
 // Results written to files. A result goes to a new file beside the one that is named, which is renamed when it is
 // whole, so that a write that fails leaves the old file as it was. What has no bytes to lose (a pipe, a terminal, a
 // device) is written as it stands.
+#![tactic(auto)]
+
 ghost use Rattle.std.specs.Prelude.{◌≡◌, ◌≤◌, length};
 ghost use Rattle.io.specs.Counts.{IsPrefixLen};
 ghost use Rattle.text.specs.Texts.{Added};
@@ -10,7 +12,7 @@ use libc::{ENOENT, SEEK_END, close, fsync, ftruncate, lseek};
 use text::{is_same, put, put_number};
 
 // What writing a file comes to.
-#[derive(Drop)]
+#[derive(Clone, Copy)]
 pub enum Stored {
     // All bytes were taken, so many.
     Whole(usize),

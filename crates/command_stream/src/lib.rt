@@ -1,4 +1,6 @@
 // The actions on bit streams in files: packing, unpacking, encoding to a stream, decoding from one.
+#![tactic(auto)]
+
 ghost use Rattle.std.specs.Prelude.{◌≡◌, ◌⊎◌, ◌+◌, length};
 ghost use Rattle.answer.specs.Outcomes.{answer_of, output_of};
 ghost use Rattle.stream_pack.specs.Streams.{pack_into, unpack_into};

@@ -1,4 +1,6 @@
 // What is said of words that were verified, and how a run ends by it.
+#![tactic(auto)]
+
 ghost use Rattle.std.specs.Prelude.{◌≡◌, length};
 ghost use Rattle.text.specs.Texts.{Added};
 ghost use Rattle.answer.specs.Outcomes.{answer_of};

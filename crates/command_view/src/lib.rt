@@ -1,4 +1,6 @@
 // The text of a view of a table: no file is read or written here.
+#![tactic(auto)]
+
 ghost use Rattle.text.specs.Texts.{Added};
 ghost use Rattle.command_view.specs.Viewing.{view_text};
 

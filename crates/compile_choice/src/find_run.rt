@@ -3,7 +3,7 @@ ghost use Rattle.std.specs.Prelude.{◌≡◌, ℕ, ◌+◌, ◌*◌, ◌≤◌,
 ghost use Rattle.compile_choice.specs.ChoiceParts.{RunTo, FirstRun};
 
 // A run of `count` edges from place `from` on, with the sum of their weights.
-#[derive(Drop)]
+#[derive(Clone, Copy)]
 pub struct Run {
     pub from: usize,
     pub count: usize,

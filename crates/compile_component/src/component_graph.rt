@@ -12,7 +12,7 @@ use compile_reach::reaching::{Members, first_returning, list_members, live_edges
 use compile_weights::state_weights::word_counts;
 
 // The component: the sum of its weights, its start in the constraint, and its graph unless it has over 2,048 edges.
-#[derive(Drop)]
+#[derive(Clone, Copy)]
 pub struct ComponentAnswer {
     pub total: usize,
     pub start: usize,

@@ -1,2 +1,4 @@
 // "Component", as a graph in work.
+#![tactic(auto)]
+
 pub mod component_graph;

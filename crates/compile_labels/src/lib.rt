@@ -1,6 +1,8 @@
 // "State 0 stays. In each later state, in order, an edge first takes the lowest datum still free there that the lowest
 // earlier state with its word gave that word; edges with no such datum then take the free data, rising."
 // A column is the words, or the next states, of a table: the entry of state s and datum d stands at s * 16 + d.
+#![tactic(auto)]
+
 ghost use Rattle.std.specs.Prelude.{◌≡◌, ◌&&◌, [], ℕ, ◌≤◌, ◌<◌, T, length, get_or, take};
 ghost use Rattle.laws.specs.Lists.{range, first, extend, elem, index_of};
 ghost use Rattle.table.specs.Rows.{Rows};

@@ -1,4 +1,6 @@
 // Whether a component can be split: the sum of its weights and its edges are looked at, with refusals "3, 4, 5".
+#![tactic(auto)]
+
 ghost use Rattle.std.specs.Prelude.{◌≡◌};
 ghost use Rattle.answer.specs.Outcomes.{verdict_on};
 ghost use Rattle.compile_limits.specs.Weighed.{weighed};

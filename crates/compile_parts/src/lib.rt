@@ -1,5 +1,7 @@
 // The edges of a split: "a new last state takes all other edges of s", and "every edge into s becomes two, to s and to
 // the new state"; and whether some state has too few.
+#![tactic(auto)]
+
 ghost use Rattle.std.specs.Prelude.{◌≡◌, ℕ, ◌+◌, ◌*◌, ◌≤◌, ◌<◌, length, get_or, take, drop};
 ghost use Rattle.compile_graph.specs.Arcs.{out};
 ghost use Rattle.compile_graph.specs.Splitting.{unfinished};

@@ -6,7 +6,7 @@ ghost use Rattle.compile_graph.specs.Component.{reachings, reaches, returns, ret
 ghost use Rattle.compile_reach.specs.ReachSets.{row_of, rows_of, Linked, passes_on, live_edge, Listed};
 
 // The states of the component in rising order, and for each state its number in it, 16 for none.
-#[derive(Drop)]
+#[derive(Clone, Copy)]
 pub struct Members {
     pub count: usize,
     pub state: [usize; 16],

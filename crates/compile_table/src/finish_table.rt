@@ -14,7 +14,7 @@ use compile_graph::Graph;
 use compile_order::keys::{Keys, first_edges};
 
 // The rows of a table: the edge of state s that carries d has its word and its next state at s * 16 + d.
-#[derive(Drop)]
+#[derive(Clone, Copy)]
 pub struct TableRows {
     pub states: usize,
     pub word: [u8; 2048],

@@ -1,4 +1,6 @@
 // Whole files read into lent bytes.
+#![tactic(auto)]
+
 ghost use Rattle.std.specs.Prelude.{◌≡◌, length};
 ghost use Rattle.files.specs.Files.{Fits, loaded_of};
 
@@ -12,7 +14,7 @@ pub fn buffer() -> [u8; 1000000]
 }
 
 // What reading a file comes to: how many bytes it has, or why there is no result.
-#[derive(Drop)]
+#[derive(Clone, Copy)]
 pub enum Loaded {
     // All bytes are at the start of the lent ones.
     Whole(usize),

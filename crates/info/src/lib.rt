@@ -1,4 +1,6 @@
 // What a caller asks before it uses a record or after a refusal: the numbers of a record, and the words of a refusal.
+#![tactic(auto)]
+
 ghost use Rattle.std.specs.Prelude.{◌≡◌, T, length};
 ghost use Rattle.answer.specs.Outcomes.{fitting, answer_of, output_of};
 ghost use Rattle.table.specs.Value.{code_in, ready};

@@ -1,4 +1,6 @@
 // Two constraints joined to one: its states are the pairs of states that are reachable from both states 0.
+#![tactic(auto)]
+
 ghost use Rattle.std.specs.Prelude.{◌≡◌, true, map, ℕ, ◌+◌, ◌≤◌, ◌<◌, leb, length};
 ghost use Rattle.laws.specs.Lists.{index_of};
 ghost use Rattle.constraint.specs.Walking.{Lawful};
@@ -12,14 +14,14 @@ use constraint::words::after;
 
 // Pairs in the order in which they were met: state x of the first constraint and state y of the second are x * 16 + y.
 // Each of 16 walks adds two at most, so there are at most 33.
-#[derive(Drop)]
+#[derive(Clone, Copy)]
 pub struct PairList {
     pub count: usize,
     pub pair: [u8; 33],
 }
 
 // What joining answers: whether there are at most 16 pairs, and where there are, the constraint.
-#[derive(Drop)]
+#[derive(Clone, Copy)]
 pub struct JoinAnswer {
     pub few: bool,
     pub constraint: Constraint,

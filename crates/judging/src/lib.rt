@@ -1,4 +1,6 @@
 // Whether a call came out as a case says; a case that differs is printed.
+#![tactic(auto)]
+
 ghost use Rattle.std.specs.Prelude.{◌≡◌, true, ◌≤◌, get_or};
 ghost use Rattle.judging.specs.Comparing.{Stands, Same, differs};
 
@@ -9,7 +11,7 @@ use text::put_line;
 const LENT: u8 = 165;
 
 // What a call came to: the number of its answer and its value.
-#[derive(Drop)]
+#[derive(Clone, Copy)]
 pub struct Told {
     pub number: u64,
     pub value: usize,

@@ -1,5 +1,7 @@
 // The listing program: it reads five bytes, a run-length job, and prints the code's listing, or else `refused` and the
 // number. Input of any other length is refused with 8.
+#![tactic(auto)]
+
 ghost use Rattle.std.specs.Prelude.{◌≡◌, ◌≤◌, length, take};
 ghost use Rattle.io.specs.Counts.{IsPrefixLen};
 ghost use Rattle.view_job.specs.Listings.{listing_of};

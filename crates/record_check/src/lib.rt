@@ -1,4 +1,6 @@
 // The checker: a record loaded with every check, those of its fields and the two of its table.
+#![tactic(auto)]
+
 ghost use Rattle.std.specs.Prelude.{◌≡◌, T};
 ghost use Rattle.answer.specs.Outcomes.{answer_of};
 ghost use Rattle.table.specs.Value.{code_in, ready};

@@ -1,5 +1,7 @@
 // The test that every recording obeys the constraint: the pairs of a table state and a constraint state that recordings
 // reach are followed until none is new, and each is tested.
+#![tactic(auto)]
+
 ghost use Rattle.std.specs.Prelude.{◌≡◌, ◌≤◌, ◌<◌};
 ghost use Rattle.table.specs.Value.{code_in};
 ghost use Rattle.record_queue.specs.Places.{pair_after, finds_at, Queue};

@@ -1,5 +1,7 @@
 // Pairs of a table state and a constraint state, one edge on, and the list of those that are still to be followed. The
 // pair of table state s and constraint state k has the place s * 16 + k.
+#![tactic(auto)]
+
 ghost use Rattle.std.specs.Prelude.{◌≡◌, ◌≤◌, ◌<◌};
 ghost use Rattle.laws.specs.Lists.{range, all};
 ghost use Rattle.record_queue.specs.Places.{state_after, pair_after, finds_at, Queue, Grown};

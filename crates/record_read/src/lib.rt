@@ -1,4 +1,6 @@
 // A record's bytes read, with the refusals of its fields.
+#![tactic(auto)]
+
 ghost use Rattle.std.specs.Prelude.{◌≡◌, T};
 ghost use Rattle.table.specs.Value.{ready};
 ghost use Rattle.answer.specs.declared.Refusal.{Refusal};

@@ -1,4 +1,6 @@
 // A record with another tail datum, so that recordings under it close with that datum.
+#![tactic(auto)]
+
 ghost use Rattle.std.specs.Prelude.{◌≡◌, T, length};
 ghost use Rattle.answer.specs.Outcomes.{answer_of, output_of};
 ghost use Rattle.table.specs.Value.{code_in, ready};

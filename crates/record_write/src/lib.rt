@@ -1,4 +1,6 @@
 // A table written as a record, part by part into lent bytes.
+#![tactic(auto)]
+
 ghost use Rattle.std.specs.Prelude.{◌≡◌, ◌++◌, ◌+◌, ◌*◌, ◌-◌, ◌^◌, ◌≤◌, length, drop};
 ghost use Rattle.bits.specs.Bytes.{spliced};
 ghost use Rattle.bits.specs.Fields.{bits, bits_of};

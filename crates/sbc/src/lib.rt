@@ -1,4 +1,6 @@
 // The functions exported for C and Rust. Each takes bytes as pointer and length, and answers one number.
+#![tactic(auto)]
+
 ghost use Rattle.std.specs.Prelude.{◌≡◌, length};
 ghost use Rattle.answer.specs.Outcomes.{answer_of, output_of};
 ghost use Rattle.record_check.specs.Parse.{checked_only};

@@ -1,5 +1,7 @@
 // Sentences: a pattern of bytes in which each `#` stands for a number, and each `~` for the plural ending that a number
 // asks for.
+#![tactic(auto)]
+
 ghost use Rattle.std.specs.Prelude.{◌≡◌, get_or};
 ghost use Rattle.text.specs.Texts.{Added};
 ghost use Rattle.sentences.specs.Sentences.{plural, shown, takes, sentence};

@@ -1,4 +1,6 @@
 // The walk of a set: whether all its records are good, and otherwise which is the first bad one.
+#![tactic(auto)]
+
 ghost use Rattle.std.specs.Prelude.{◌≡◌};
 ghost use Rattle.set_check.specs.Sets.{read_set};
 ghost use Rattle.set_check.specs.Results.{set_answer, set_number, set_value, step_at};
@@ -9,14 +11,14 @@ use set_places::{Place, read};
 
 // What the walk of a set answers: how many records it has, all good; or the number of the first bad one, with its
 // refusal.
-#[derive(Drop)]
+#[derive(Clone, Copy)]
 pub enum SetAnswer {
     Good(usize),
     Bad { number: usize, refusal: Refusal },
 }
 
 // One step of the walk: a good record that ends at an offset; or the refusal that ends the walk.
-#[derive(Drop)]
+#[derive(Clone, Copy)]
 pub enum Step {
     On(usize),
     Stop(Refusal),

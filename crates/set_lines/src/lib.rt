@@ -1,4 +1,6 @@
 // What is printed of a good set: a line for each record, and how many there are.
+#![tactic(auto)]
+
 ghost use Rattle.std.specs.Prelude.{◌≡◌, ◌++◌, ◌+◌, ◌≤◌, length, take, drop};
 ghost use Rattle.text.specs.Texts.{Added};
 ghost use Rattle.record_check.specs.Parse.{parse};

@@ -1,18 +1,20 @@
 // Where the records of a set stand: one count byte, then each record after a two-byte length, most significant first.
 // The records are walked one by one from the lent bytes.
+#![tactic(auto)]
+
 ghost use Rattle.std.specs.Prelude.{◌≡◌};
 ghost use Rattle.set_places.specs.Offsets.{place_at, record_place};
 
 // A set's bytes and an offset in them. No reader moves on: one is made anew for each record, at the offset where the
 // record before it ends.
-#[derive(Drop)]
+#[derive(Clone, Copy)]
 pub struct Reader<'a> {
     pub set: &'a [u8],
     pub at: usize,
 }
 
 // Where a record stands in a set: its first byte and its length; or nowhere.
-#[derive(Drop)]
+#[derive(Clone, Copy)]
 pub enum Place {
     At { start: usize, len: usize },
     Nowhere,

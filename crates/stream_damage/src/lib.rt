@@ -1,5 +1,7 @@
 // The reach of damage: "Block numbers count data, bit numbers count channel bits, and neither may be passed for the
 // other." Only `blocks_of` turns the one into the other.
+#![tactic(auto)]
+
 ghost use Rattle.std.specs.Prelude.{◌≡◌, ◌*◌, ◌≤◌, ◌<◌, T};
 ghost use Rattle.table.specs.Value.{ready, code_in};
 ghost use Rattle.stream_pack.specs.Streams.{limit};
@@ -12,29 +14,29 @@ use stream_pack::LIMIT;
 use table::Table;
 
 // The number of a data block.
-#[derive(Drop)]
+#[derive(Clone, Copy)]
 pub struct BlockNo(pub usize);
 
 // The number of a channel bit.
-#[derive(Drop)]
+#[derive(Clone, Copy)]
 pub struct BitNo(pub usize);
 
 // Blocks from the first to the last, both among them.
-#[derive(Drop)]
+#[derive(Clone, Copy)]
 pub struct BlockRange {
     pub first: BlockNo,
     pub last: BlockNo,
 }
 
 // Channel bits from the first to the last, both among them.
-#[derive(Drop)]
+#[derive(Clone, Copy)]
 pub struct BitRange {
     pub first: BitNo,
     pub last: BitNo,
 }
 
 // The blocks that damage can reach, or why none are quoted.
-#[derive(Drop)]
+#[derive(Clone, Copy)]
 pub enum ReachAnswer {
     Blocks(BlockRange),
     Refused(Refusal),

@@ -1,5 +1,7 @@
 // Decoding from a bit stream under a table: in parts of 1,024 blocks, so that no more memory is needed than for the
 // words of one part. The reading of a block depends on its window alone.
+#![tactic(auto)]
+
 ghost use Rattle.std.specs.Prelude.{◌≡◌, ◌++◌, map, ℕ, ◌+◌, ◌*◌, ◌-◌, ◌%◌, ◌^◌, ◌≤◌, ◌<◌, min, length, get_or, take, drop};
 ghost use Rattle.laws.specs.Lists.{range, from};
 ghost use Rattle.answer.specs.Outcomes.{answer_of, output_of};

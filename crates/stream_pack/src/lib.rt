@@ -1,4 +1,6 @@
 // Words of q bits as a bit stream, "eight to the byte, first bit highest, last byte filled with 0", and back.
+#![tactic(auto)]
+
 ghost use Rattle.std.specs.Prelude.{◌≡◌, ◌+◌, ◌*◌, ◌-◌, ◌≤◌, eqb, length};
 ghost use Rattle.bits.specs.Fields.{bits_of, field};
 ghost use Rattle.answer.specs.Outcomes.{answer_of, output_of};

@@ -9,7 +9,7 @@ use bits::{joined, low_bits};
 
 // The bits of words that fill no byte yet: as many as `count`, fewer than eight, the number `held`, for the byte at
 // the place `at`.
-#[derive(Drop)]
+#[derive(Clone, Copy)]
 pub struct Waiting {
     pub at: usize,
     pub count: usize,

@@ -1,4 +1,6 @@
 // Encoding to a bit stream and decoding from one under the record in some bytes.
+#![tactic(auto)]
+
 ghost use Rattle.std.specs.Prelude.{◌≡◌, length};
 ghost use Rattle.answer.specs.Outcomes.{answer_of, output_of};
 ghost use Rattle.stream.specs.Recorded.{encode_stream, decode_stream};

@@ -1,5 +1,7 @@
 // Whether the words of a bit stream are a recording, in parts of 1,024 words, so that no more memory is needed than for
 // the words of one part.
+#![tactic(auto)]
+
 ghost use Rattle.std.specs.Prelude.{◌≡◌, ℕ, ◌*◌, ◌%◌, ◌^◌, ◌≤◌, ◌<◌, length, get_or};
 ghost use Rattle.answer.specs.Outcomes.{answer_of};
 ghost use Rattle.table.specs.Edges.{Fits};

@@ -10,7 +10,7 @@ use table::chains::wide;
 
 // A part of the `count` words of a stream: those from word `from` on and below `end`, unpacked from word `base` on,
 // with the state in which word `from` starts.
-#[derive(Drop)]
+#[derive(Clone, Copy)]
 pub struct Part {
     pub base: usize,
     pub count: usize,
@@ -20,7 +20,7 @@ pub struct Part {
 }
 
 // The state and the place to which words come back.
-#[derive(Drop)]
+#[derive(Clone, Copy)]
 pub struct Reached {
     pub state: usize,
     pub place: usize,

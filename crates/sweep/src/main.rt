@@ -3,6 +3,8 @@
 // over, for each job, its five bytes, the number of its answer (0 if it compiled) and the bytes of its record, none if
 // it was refused. The stored output has the numbers that the outside implementation in reference/ prints: it is what
 // shows that the counts are right, so that only safety is proved here.
+#![tactic(auto)]
+
 ghost use Rattle.std.specs.Prelude.{◌<◌};
 ghost use Rattle.io.specs.Counts.{IsPrefixLen};
 
@@ -14,7 +16,7 @@ use std::num::wrapping_add_usize;
 use text::{put, put_hex};
 
 // How many jobs there were, how many of them had each answer by its number, and the checksum.
-#[derive(Drop)]
+#[derive(Clone, Copy)]
 struct Tally {
     jobs: usize,
     answers: [usize; 256],

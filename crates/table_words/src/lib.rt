@@ -1,4 +1,6 @@
 // The edges with one word as sets: the states that have it, and for each of them where it leads.
+#![tactic(auto)]
+
 ghost use Rattle.std.specs.Prelude.{◌≡◌, ◌&&◌, ◌||◌, ℕ, ◌<◌, eqb, length, get_or};
 ghost use Rattle.laws.specs.Lists.{any};
 ghost use Rattle.table.specs.Edges.{borrowed, Linked};

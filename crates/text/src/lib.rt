@@ -1,5 +1,7 @@
 // Text put into lent bytes, one piece after the other. What there is no room for is left out, so that no function has
 // a premise.
+#![tactic(auto)]
+
 ghost use Rattle.std.specs.Prelude.{◌≡◌, [], ◌∷◌, ◌++◌, ◌+◌, ◌/◌, ◌%◌, ◌^◌, ◌≤◌, ◌<◌, min, length};
 ghost use Rattle.std.proofs.Math.Seq.{paste};
 ghost use Rattle.text.specs.Texts.{decimal, hex, Added};

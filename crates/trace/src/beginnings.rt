@@ -14,7 +14,7 @@ use compile_weights::state_weights::word_counts;
 use constraint::power::power_codes;
 
 // The weights, the states of the component in the constraint's numbers and how many there are, and the component.
-#[derive(Drop)]
+#[derive(Clone, Copy)]
 pub struct Beginning {
     pub weight: [usize; 16],
     pub states: [usize; 16],

@@ -1,4 +1,6 @@
 // The steps of compiling a job as text in lent bytes, by the functions that compile it.
+#![tactic(auto)]
+
 mod beginnings;
 mod endings;
 mod failures;

@@ -9,7 +9,7 @@ use compile_order::keys::key_weights;
 
 // The state to split and its weight, the weight that it keeps, the number of the new state, and the run of keys of the
 // edges that it keeps.
-#[derive(Drop)]
+#[derive(Clone, Copy)]
 pub struct Choice {
     pub state: usize,
     pub weight: usize,

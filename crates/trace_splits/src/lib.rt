@@ -1,4 +1,6 @@
 // The lines of the splits of a graph, and of the graph and the table that they end with.
+#![tactic(auto)]
+
 ghost use Rattle.std.specs.Prelude.{◌++◌, ◌+◌, ◌≤◌, ◌<◌};
 ghost use Rattle.laws.specs.Lists.{sum};
 ghost use Rattle.text.specs.Texts.{Added};

@@ -1,4 +1,6 @@
 // The lines of the weights and of the component, and why weights fail.
+#![tactic(auto)]
+
 ghost use Rattle.std.specs.Prelude.{◌≡◌, ◌++◌, ◌≤◌, get_or, take};
 ghost use Rattle.text.specs.Texts.{Added};
 ghost use Rattle.trace_stages.specs.StageText.{listed, weights_line, component_line};

@@ -1,6 +1,8 @@
 // Runs the test vectors of the outside implementation, data/vectors, against the library. It prints the length and the
 // checksum of the file; the number, from 0, of each case that differs; and for each kind of call, then for all, how
 // many cases there are and how many of them differ. The stored output is that of a run without a difference.
+#![tactic(auto)]
+
 ghost use Rattle.std.specs.Prelude.{◌≤◌, length};
 
 mod calls;

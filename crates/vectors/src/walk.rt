@@ -11,7 +11,7 @@ use std::num::wrapping_add_u64;
 
 // The place that the walk reached; how many cases there were, and how many of them differ; and for each kind how many
 // cases it has and how many of them differ.
-#[derive(Drop)]
+#[derive(Clone, Copy)]
 pub struct Tally {
     pub at: usize,
     pub cases: u64,

@@ -1,4 +1,6 @@
 // The state diagram of a code as a Graphviz digraph, or its matrix.
+#![tactic(auto)]
+
 ghost use Rattle.std.specs.Prelude.{◌≡◌, ◌++◌, ◌*◌, ◌^◌, ◌≤◌, ◌<◌};
 ghost use Rattle.text.specs.Texts.{Added};
 ghost use Rattle.text.specs.Words.{binary};

@@ -1,4 +1,6 @@
 // From bytes to text: a run-length job listed, and a refusal told.
+#![tactic(auto)]
+
 ghost use Rattle.std.specs.Prelude.{◌≡◌, length};
 ghost use Rattle.answer.specs.Outcomes.{fitting, answer_of, output_of};
 ghost use Rattle.compile_job.specs.JobValues.{job_in, JobReady};

@@ -13,5 +13,6 @@ pub fn fill(out: &mut [u8], text: &[u8]) -> Answer
     if out.len() < text.len() {
         return Answer::Refused(Refusal::ShortOutput);
     }
-    Answer::Done(bytes::copy(text, out))
+    out[..text.len()].copy_from_slice(text);
+    Answer::Done(text.len())
 }

@@ -1,4 +1,6 @@
 // The matrix of a code of many states: states by words, next state and datum, as SVG.
+#![tactic(auto)]
+
 ghost use Rattle.std.specs.Prelude.{◌≡◌, ◌*◌, ◌^◌, ◌≤◌, ◌<◌};
 ghost use Rattle.table.specs.Value.{word_at, next_at, code_in, Ready};
 ghost use Rattle.text.specs.Texts.{Added};

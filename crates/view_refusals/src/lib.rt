@@ -1,4 +1,6 @@
 // The refusals in words, in one table.
+#![tactic(auto)]
+
 ghost use Rattle.std.specs.Prelude.{◌≡◌};
 ghost use Rattle.text.specs.Texts.{Added};
 ghost use Rattle.view_refusals.specs.Phrases.{words_of, phrase_of, refusal_words, refusal_line};

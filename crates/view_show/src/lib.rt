@@ -1,4 +1,6 @@
 // The table of a code with its rate, its window and its constraint in words.
+#![tactic(auto)]
+
 ghost use Rattle.std.specs.Prelude.{◌≡◌};
 ghost use Rattle.text.specs.Texts.{Added};
 ghost use Rattle.view_show.specs.Shown.{window_line, whole, show_text};

@@ -1,4 +1,6 @@
 // Recordings woven word by word, and unwoven.
+#![tactic(auto)]
+
 ghost use Rattle.std.specs.Prelude.{◌≡◌, ◌++◌, map, ◌+◌, ◌*◌, ◌≤◌, ◌<◌, length, take, drop};
 ghost use Rattle.laws.specs.Lists.{from};
 ghost use Rattle.answer.specs.Outcomes.{verdict_on, answer_of, output_of};

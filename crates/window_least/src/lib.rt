@@ -1,4 +1,6 @@
 // A table with its least window, or "no window up to 15 and 15".
+#![tactic(auto)]
+
 ghost use Rattle.std.specs.Prelude.{◌≡◌};
 ghost use Rattle.answer.specs.declared.Verdict.TheVariants.{Good};
 ghost use Rattle.table.specs.Value.{code_in, Ready};

@@ -1,4 +1,6 @@
 // Sets of pairs of states, for each first state a set of second states, and where two edges with one word lead them.
+#![tactic(auto)]
+
 ghost use Rattle.std.specs.Prelude.{◌≡◌, true, ◌&&◌, ◌||◌, ℕ, ◌*◌, ◌<◌, eqb};
 ghost use Rattle.laws.specs.Lists.{any};
 ghost use Rattle.table.specs.Marks.{some};

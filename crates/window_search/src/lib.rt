@@ -1,4 +1,6 @@
 // The search for the least window: for each memory, sets of pairs of states are stepped until they are empty.
+#![tactic(auto)]
+
 ghost use Rattle.std.specs.Prelude.{◌≡◌, ◌⊎◌, ◌+◌, ◌≤◌, ◌<◌};
 ghost use Rattle.table.specs.Value.{Ready, rows_in};
 ghost use Rattle.window.specs.Search.{no_size, window, pasts};
@@ -13,14 +15,14 @@ use window_pairs::sets::fill;
 use window_test::steps::{clashes, extend_memory, lookahead_needed};
 
 // Memory and lookahead of a window; 16 and 16 for none.
-#[derive(Drop)]
+#[derive(Clone, Copy)]
 struct Best {
     memory: usize,
     lookahead: usize,
 }
 
 // What the search for a window finds: memory and lookahead of the least, or none up to 15 and 15.
-#[derive(Drop)]
+#[derive(Clone, Copy)]
 pub enum Found {
     None,
     Window(usize, usize),

@@ -1,4 +1,6 @@
 // The window test, by sets of pairs of states in two arrays of 2 KiB; no path is ever listed.
+#![tactic(auto)]
+
 ghost use Rattle.std.specs.Prelude.{◌≡◌, ◌≤◌};
 ghost use Rattle.table.specs.Value.{Ready, rows_in};
 ghost use Rattle.table.specs.Edges.{borrowed, rows_of};

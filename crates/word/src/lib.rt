@@ -1,4 +1,6 @@
 // An answer as one number of 64 bits, for calls that answer a number.
+#![tactic(auto)]
+
 ghost use Rattle.std.specs.Prelude.{◌≡◌, ℕ, ◌≤◌, min};
 ghost use Rattle.answer.specs.Refusals.{most};
 ghost use Rattle.word.specs.Words.{held, joined, word_of};

@@ -1,0 +1,20 @@
+-- `with_if` meets its contract.
+use Rattle.laws.proofs.All.{sym, ap, ◌∙◌, ◌||◌, ◌&&◌, or-false, eqb}
+use Rattle.bitsets.specs.BitSets.{holds}
+use Rattle.bitsets.proofs.with_if.Goals as goal
+
+pub returns-then-passed : goal.returns-then-passed
+returns-then-passed c =
+    record {
+      answer = λ j.
+          let a = c.args in
+          c.with.ensures.answer j ∙ ap (λ b. holds a.s j || (b && eqb a.i j)) (sym c.if-passed.true);
+    }
+
+pub returns-else-passed : goal.returns-else-passed
+returns-else-passed c =
+    record {
+      answer = λ j.
+          let a = c.args in
+          sym (ap (λ b. holds a.s j || (b && eqb a.i j)) c.if-passed.false ∙ or-false (holds a.s j));
+    }
