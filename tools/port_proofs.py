@@ -55,9 +55,22 @@ def blank(t):
     return t.isspace() or t.startswith("--")
 
 
+def parameters(folder, path):
+    """The names of a function's parameters, from its source."""
+    parts = path.split("/")
+    for base in ["src/" + "/".join(parts[:-1]) + ".rt"] if parts[:-1] else ["src/lib.rt", "src/main.rt"]:
+        file = os.path.join(folder, base)
+        if os.path.exists(file):
+            with open(file, encoding="utf-8") as f:
+                m = re.search(r"(?s)fn " + re.escape(parts[-1]) + r"\b[^(]*\((.*?)\)\s*(?:->|\n|\{)", f.read())
+            if m:
+                return re.findall(r"(?:^|,)\s*(?:mut )?(\w+)\s*:", m.group(1))
+    return []
+
+
 class Function:
-    def __init__(self, names):
-        self.n = names
+    def __init__(self, names, params):
+        self.n, self.params = names, params
         self.parent, self.step, self.newstep, self.index, self.newplace = {}, {}, {}, {}, {}
         for k, (p, par, st, call, _x) in enumerate(names["places"]):
             key = norm(p)
@@ -142,6 +155,13 @@ class Function:
             return b + "." + r + "".join("." + x for x in rest), None
         return self.tuple_of(b, left), None
 
+    def arguments(self, fields):
+        """An argument that had a number, as t1, has its own name today."""
+        m = re.match(r"t(\d+)$", fields[0]) if fields else None
+        if m and int(m.group(1)) <= len(self.params) and fields[0] not in self.params:
+            return [self.params[int(m.group(1)) - 1]] + fields[1:]
+        return fields
+
     def requires(self, root, rest):
         pre = self.n.get("pre")
         b = root + ".requires"
@@ -183,7 +203,7 @@ class Function:
                 rest = ["invariant"] + rest[1:]
             elif r0 == "taken":
                 rest = ["true"] + rest[1:]
-            elif r0 == "not-taken" or r0 == "passed":
+            elif r0 == "not-taken":
                 rest = ["false"] + rest[1:]
             return b + "".join("." + r for r in rest), None
         return b, ("step", root, place)
@@ -202,15 +222,20 @@ class Function:
             if not fields:
                 return None, ("place", root, place)
             f = fields.pop(0)
-            if f == "args" or f == "ranges" or f == "well_formed":
-                return root + "." + f + "".join("." + x for x in fields), None
+            if f in ("args", "ranges", "well_formed", "well-formed"):
+                if f == "args" and not fields:
+                    return root + ".args", ("args", root)
+                fields = self.arguments(fields) if f == "args" else fields
+                return root + "." + f.replace("-", "_") + "".join("." + x for x in fields), None
             if f in ("requires", "pre"):
                 return self.requires(root, fields), None
-            q = self.up(place, f)
+            q = self.up(place, f) or (self.up(place, f[:-4]) if f.endswith("_lem") else None)
             if q is None:
                 self.say("no step " + f)
                 return root + "." + f + "".join("." + x for x in fields), None
             return self.in_step(root, q, fields, goalplace)
+        if kind == "args":
+            return value[1] + ".args" + "".join("." + x for x in self.arguments(list(fields))), None
         if kind == "step":
             return self.in_step(value[1], value[2], list(fields), goalplace)
         if kind == "ensures":
@@ -335,6 +360,9 @@ class Walk:
                     continue
                 out.append(t + self.run(ts[i + 1:k], env) + ts[k])
                 i = k + 1
+            elif t in ("not-false", "not-true") and self.tested(ts, i, env) is not None:
+                text, i = self.tested(ts, i, env)
+                out.append(text)
             elif t in self.fn.macros and t not in env:
                 i = self.macro(ts, i, env, out)
             elif t in self.fn.helpers and t not in env:
@@ -359,12 +387,31 @@ class Walk:
                 i += 1
         return "".join(out)
 
+    def tested(self, ts, i, env):
+        """not-false _ X, where X is what a test of !x says: today that says it of x."""
+        ws = [k for k in range(i + 1, len(ts)) if not blank(ts[k])][:2]
+        if len(ws) < 2 or ts[ws[0]] != "_":
+            return None
+        if ts[ws[1]] in OPEN:
+            k = close_at(ts, ws[1])
+            text = self.run(ts[ws[1]:k + 1], env)
+            k += 1
+            if k < len(ts) and ts[k].startswith("."):
+                return None
+            return text, k
+        text = self.word(ts[ws[1]], env)
+        if re.search(r"\.(true|false)$", text):
+            return text, ws[1] + 1
+        return None
+
     def word(self, t, env):
         parts = t.split(".")
         if parts[0] in env:
             text, kd = self.fn.path(env[parts[0]], parts[1:], self.place)
             if kd and kd[0] == "place":
                 return self.bare(kd)
+            if env[parts[0]][0] == "args":
+                return parts[0] + text[len(env[parts[0]][1] + ".args"):]
             if env[parts[0]][0] != "place" and not parts[1:]:
                 return parts[0] if env[parts[0]][0] == "step" else self.fn.tuple_of(parts[0], env[parts[0]][2])
             if env[parts[0]][0] in ("step", "ensures") and len(env[parts[0]]) > 3:
@@ -448,6 +495,10 @@ class Walk:
             return e
         if kind is not None and len(names) == 1 and kind[0] == "step":
             out.append("let " + names[0] + " " + typ + "= " + kind[1] + "." + self.fn.newstep[kind[2]] + " in")
+            env[names[0]] = kind
+            return k + 1
+        if kind is not None and len(names) == 1 and kind[0] == "args":
+            out.append("let " + names[0] + " " + typ + "= " + kind[1] + ".args in")
             env[names[0]] = kind
             return k + 1
         if kind is not None and len(names) == 1 and kind[0] == "ensures":
@@ -776,9 +827,13 @@ def turn(fn, crate, path, folder, text):
             cl = clauses[0]
             c = re.match(r"(?s)(\S+)((?:\s+[^\s=]+)*)\s*=(.*)$", cl)
             params = [p for p in c.group(2).split() if not p.startswith("κ")]
-            root = params[-1] if params else "c"
+            root = params[0] if params else "c"
             w = Walk(fn, root, place, new)
-            body = w.run(tokens(c.group(3)), {root: ("place", root, place)})
+            src = c.group(3)
+            if params[1:] and fn.n["asked"].get(old):
+                src = " λ " + " ".join(params[1:]) + "." + src
+                params = params[:1]
+            body = w.run(tokens(src), {root: ("place", root, place)})
             body = wrapped(body, fn.n["asked"].get(old))
             answered.add(g)
             fn.at_goals = getattr(fn, "at_goals", [])
@@ -844,8 +899,11 @@ def turn(fn, crate, path, folder, text):
                 if re.sub(r"\s+", " ", body) in ("search needs", "search rules", "search arith", "omega arith"):
                     continue
                 params = [p for p in m.group(1).split() if not p.startswith("κ")]
-                root = params[-1]
+                root = params[0]
                 old, new = needs[g]
+                if params[1:] and fn.n["asked"].get(old):
+                    body = "λ " + " ".join(params[1:]) + ". " + body
+                    params = params[:1]
                 place = norm(fn.n["asked_at"][g][0])
                 w = Walk(fn, root, place, new)
                 b = w.run(tokens(" " + body), {root: ("place", root, place)})
@@ -886,7 +944,7 @@ def main(argv):
         if key not in names:
             print(f"{path}: not in the names")
             continue
-        fn = Function(names[key])
+        fn = Function(names[key], parameters(folder, path))
         try:
             ti, ta = turn(fn, crate, path, top, text)
         except (Bad, IndexError, KeyError, AttributeError, TypeError) as e:

@@ -1,0 +1,13 @@
+-- Each turn fills one state of both arrays, so that at the end all states below k + 1 are those of the definition.
+use Rattle.laws.proofs.All.{◌+◌, ◌-◌, ◌≤◌}
+use Rattle.constraint.specs.Walking.{none, run_length_state}
+use Rattle.constraint.specs.PowerTable.{Filled}
+use Rattle.constraint.proofs.runs.run_length.Given as goal
+
+abbrev pub invariant-loop-i : goal.invariant-loop-i
+invariant-loop-i l =
+    (l.i ≤ l.k + 1) × (l.k ≤ 15) × Filled (λ i. (run_length_state l.d l.k i).zero) none 16 l.i l.zero
+    × Filled (λ i. (run_length_state l.d l.k i).one) none 16 l.i l.one
+
+abbrev pub decreases-loop-i : goal.decreases-loop-i
+decreases-loop-i l = l.k + 1 - l.i

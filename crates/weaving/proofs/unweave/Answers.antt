@@ -1,0 +1,47 @@
+-- `unweave` meets its contract: the checks, then the words read across.
+use Rattle.laws.proofs.All.{sym, ap, ◌∙◌, ◌++◌, arith, length, drop}
+use Rattle.answer.specs.Outcomes.{done, onward}
+use Rattle.answer.proofs.Answered.{ends-onward, finished}
+use Rattle.answer.proofs.Outcomes.{said-bad}
+use Rattle.weaving.specs.Weaving.{unwoven, checked, unweave_into}
+use Rattle.weaving.proofs.Weaving.{length-unwoven}
+use Rattle.weaving.proofs.Checks.{Passed, passed}
+use Rattle.weaving.proofs.unweave.Goals.{In-Good}
+use Rattle.weaving.proofs.unweave.Goals as goal
+
+passes : (c : In-Good) → let a = c.args in
+    Passed a.d (length a.words.now) (length a.out.now)
+passes c =
+    let a = c.args in
+    passed a.d (length a.words.now) (length a.out.now) c.check-v.result c.check-v.ensures.answer
+    c.in-Good.is
+
+pub nonzero_div-words : goal.nonzero_div-words
+nonzero_div-words c = omega (arith, (passes c).deep)
+
+pub put_columns-requires : goal.put_columns-requires
+put_columns-requires c =
+    let p = passes (goal.at.put_columns-requires c).In-Good in
+    (omega (arith, p.rows, p.columns), omega (arith, p.rows, p.columns, p.fits))
+
+pub returns-in-Bad : goal.returns-in-Bad
+unfolding unweave_into
+returns-in-Bad c =
+    let a = c.args in
+    let n = length a.words.now in
+    let o = checked a.d n (length a.out.now) in
+    let w = ends-onward o (λ n. done (unwoven a.d a.words.now)) _ a.out.now
+    (said-bad c.check-v.result n o c.check-v.ensures.answer _ c.in-Bad.is) in
+    record { answer = w.0; written = w.1 }
+
+pub returns-in-Good : goal.returns-in-Good
+unfolding unweave_into unwoven
+returns-in-Good c =
+    let p = passes (goal.at.returns-in-Good c).In-Good in
+    let a = c.args in
+    let ws = a.words.now in
+    let r = unwoven a.d ws in
+    let w = finished (unweave_into a.d (length a.out.now) ws) r a.out.now _ (length ws)
+    (ap (λ o. onward o (λ n. done r)) p.done) (sym (length-unwoven a.d ws p.good))
+    (c.put_columns.ensures.written ∙ ap (λ n. r ++ drop n a.out.now) (sym p.columns)) in
+    record { answer = w.0; written = w.1 }
