@@ -205,6 +205,8 @@ class Function:
                 rest = ["true"] + rest[1:]
             elif r0 == "not-taken":
                 rest = ["false"] + rest[1:]
+            if new.startswith("if-not-") and rest in (["true"], ["false"]):
+                return "(ap not " + b + "." + rest[0] + ")", None
             return b + "".join("." + r for r in rest), None
         return b, ("step", root, place)
 
@@ -400,6 +402,9 @@ class Walk:
                 return None
             return text, k
         text = self.word(ts[ws[1]], env)
+        m = re.match(r"\(ap not (.*)\)$", text)
+        if m:
+            return m.group(1), ws[1] + 1
         if re.search(r"\.(true|false)$", text):
             return text, ws[1] + 1
         return None
@@ -613,8 +618,9 @@ def current(text):
         if ts[i] == "now" and i + 2 < len(ts) and ts[i + 1].isspace() and out and not "".join(out).rstrip().endswith("{"):
             if ts[i + 2] == "(":
                 k = close_at(ts, i + 2)
-                out.append("(" + current("".join(ts[i + 3:k])) + ").now")
-                i = k + 1
+                field = ts[k + 1] if k + 1 < len(ts) and ts[k + 1].startswith(".") else ""
+                out.append("(" + current("".join(ts[i + 3:k])) + ")" + field + ".now")
+                i = k + 1 + (1 if field else 0)
                 continue
             if re.match(r"[\w']", ts[i + 2]):
                 out.append(ts[i + 2] + ".now")
@@ -634,7 +640,7 @@ def declarations(text):
     lines = text.split("\n")
     blocks, cur = [], []
     for l in lines:
-        if l and not l[0].isspace():
+        if l and not l[0].isspace() and l[0] not in ")}":
             if cur:
                 blocks.append("\n".join(cur))
             cur = [l]
@@ -729,7 +735,7 @@ def invariant(fn, loop, name, params, body):
 
 def turn(fn, crate, path, folder, text):
     """Returns the texts of Invariants.antt and Answers.antt, or None for each."""
-    blocks = declarations(re.sub(r"(?<![\w-])needs(?![\w-])", "rules", current(text)))
+    blocks = declarations(re.sub(r"(?<![\w-])needs(?![\w-])", "rules", text if "let now" in text or "(now :" in text else current(text)))
     uses, head, comment = [], [], []
     decls = []
     spec = None
@@ -912,6 +918,10 @@ def turn(fn, crate, path, folder, text):
     mod = ".".join([crate, "proofs"] + path.split("/"))
     heads = [h for h in head if h.strip() != "-- Assumes nothing."]
     uses = [re.sub(r"(?<=[{ ])(rules|now)(?=[,}])(, )?", "", u) for u in uses] + ["use Rattle.std.proofs.Common.{rules}"]
+    had = " ".join(uses)
+    more = [w for w in ("ap", "not") if not re.search(r"[{ ]" + w + r"[,}]", had)]
+    if more:
+        uses.append("use Rattle.laws.proofs.All.{" + ", ".join(more) + "}")
     ti = ta = None
     if inv:
         body = "\n\n".join(inv)

@@ -7,7 +7,7 @@
 -- Assumes nothing.
 use Rattle.laws.proofs.All.{◌≡◌, refl, sym, ap, subst, ◌∙◌, ◌↔◌, ◌⊎◌, inl, inr, Bool, true, false, ◌&&◌, List, [], ◌∷◌}
 use Rattle.laws.proofs.All.{ℕ, zero, suc, ◌≤◌, ◌<◌, arith, T, leb, ltb, eqb, leb→le, le→leb, ltb→lt, lt→ltb, eqb→eq}
-use Rattle.laws.proofs.All.{T→true, leb-false, lt-leb, ltb-false, le-ltb, lt-ltb, eqb-false, ne_eqb, eq-eqb, length}
+use Rattle.laws.proofs.All.{leb-false, lt-leb, ltb-false, le-ltb, lt-ltb, eqb-false, ne_eqb, eq-eqb, length}
 use Rattle.laws.proofs.All.{dec_lt, take, get_or, if◌then◌else◌, Below}
 use Rattle.answer.specs.declared.Refusal.{Refusal}
 use Rattle.answer.specs.declared.Refusal.TheVariants.{BadByte}
@@ -16,7 +16,7 @@ use Rattle.answer.specs.Outcomes.{Outcome, done, refused, unless, onward}
 use Rattle.answer.specs.FirstBad.{first_bad, all_below}
 use Rattle.answer.proofs.Outcomes.{done_inj, refused-not, unless-true, unless-false, unless→, onward→}
 use Rattle.answer.proofs.FirstBad.{bad-le, below-bad, all_below-true, all_below→}
-use Rattle.answer.proofs.RefusedOutcomes.{refused-inj, onward-refused, Refuses}
+use Rattle.answer.proofs.RefusedOutcomes.{refused-inj, onward-refused}
 
 -- ---- tests
 -- what a test says where it passes, and what it says where it fails

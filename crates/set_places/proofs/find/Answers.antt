@@ -28,7 +28,7 @@ returns-in-Nowhere c =
     let a = c.args in
     let s = a.set.now in
     record {
-      answer = sym (record-cut s c.loop-passed.false a.i (omega arith) c.loop-passed.invariant.1
+      answer = sym (record-cut s c.loop-passed.passed a.i (omega arith) c.loop-passed.invariant.1
           (sym (ap (place_at s) c.loop-passed.invariant.2) ∙ sym c.read.ensures.answer ∙ c.in-Nowhere.is));
     }
 
@@ -36,12 +36,12 @@ returns-in-Nowhere c =
 onward : (c : In-At)
     → (c.in-At.start + c.in-At.len
     ≡ offset_of c.args.set.now
-    (c.loop-passed.false + 1))
+    (c.loop-passed.passed + 1))
     × (c.in-At.start + c.in-At.len
     ≤ length c.args.set.now)
 onward c =
     let s = c.args.set.now in
-    record-next s c.loop-passed.false _ _
+    record-next s c.loop-passed.passed _ _
     (sym (ap (place_at s) c.loop-passed.invariant.2) ∙ sym c.read.ensures.answer ∙ c.in-At.is)
 
 pub overflow_add-at : goal.overflow_add-at
@@ -61,7 +61,7 @@ pub returns : goal.returns
 returns c =
     let a = c.args in
     let s = a.set.now in
-    let e : c.loop-passed.false ≡ a.i = omega arith in
+    let e : c.loop-passed.passed ≡ a.i = omega arith in
     record {
       answer = c.read-2.ensures.answer ∙ ap (place_at s) (c.loop-passed.invariant.2 ∙ ap (offset_of s) e)
           ∙ sym (record-at s a.i c.loop-passed.invariant.1);

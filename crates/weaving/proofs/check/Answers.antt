@@ -17,7 +17,7 @@ good c = sym c.is_good_depth-good.ensures.answer ∙ c.if-not-good.false
 pub returns-then-not-fits : goal.returns-then-not-fits
 returns-then-not-fits c =
     let a = c.args in
-    record { answer = sym (checked-13 a.d a.length a.room (good (goal.at.returns-then-not-fits c).Else-not-good) (lt-leb a.room a.length c.if-not-fits.true)) }
+    record { answer = sym (checked-13 a.d a.length a.room (good (goal.at.returns-then-not-fits c).Else-not-good) (lt-leb a.length a.room c.if-not-fits.true)) }
 
 pub returns : goal.returns
 returns c =

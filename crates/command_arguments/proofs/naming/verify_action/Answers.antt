@@ -1,0 +1,28 @@
+-- `verify_action` meets its contract: the tests are those of the definition, in its order.
+use Rattle.laws.proofs.All.{sym, ◌∙◌}
+use Rattle.command_arguments.specs.Naming.{verify_action}
+use Rattle.command_arguments.proofs.naming.verify_action.Goals as goal
+
+pub returns-then-is_same : goal.returns-then-is_same
+unfolding verify_action
+returns-then-is_same c = record { answer = simp (sym c.is_same.ensures.answer ∙ c.if-is_same.true) }
+
+pub returns-then-is_same-2 : goal.returns-then-is_same-2
+unfolding verify_action
+returns-then-is_same-2 c =
+    record {
+      answer = simp (
+        sym c.is_same.ensures.answer ∙ c.if-is_same.false,
+        sym c.is_same-2.ensures.answer ∙ c.if-is_same-2.true,
+      );
+    }
+
+pub returns : goal.returns
+unfolding verify_action
+returns c =
+    record {
+      answer = c.asked_action.ensures.answer ∙ sym (simp (
+        sym c.is_same.ensures.answer ∙ c.if-is_same.false,
+        sym c.is_same-2.ensures.answer ∙ c.if-is_same-2.false,
+      ));
+    }

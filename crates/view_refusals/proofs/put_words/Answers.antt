@@ -1,0 +1,12 @@
+-- `put_words` puts the line of the number, and nothing for a number that is no refusal.
+use Rattle.laws.proofs.All.{◌∙◌}
+use Rattle.text.proofs.Adding.{added-same}
+use Rattle.view_refusals.proofs.Rows.{row, line-is, no_words}
+use Rattle.view_refusals.proofs.put_words.Goals as goal
+
+pub returns-then-number-gt17 : goal.returns-then-number-gt17
+returns-then-number-gt17 c = record { written = added-same (no_words _ c.if-number-gt17.true) c.put.ensures.written }
+
+pub returns : goal.returns
+unfolding row
+returns c = record { written = added-same (c.line.ensures.answer ∙ line-is _ c.if-number-gt17.false) c.put-2.ensures.written }
