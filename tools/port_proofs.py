@@ -217,9 +217,7 @@ class Function:
             root, place = value[1], value[2]
             fields = list(fields)
             while fields and fields[0] == "before":
-                place = self.parent[place]
-                if place is None:
-                    raise Bad("before the start")
+                place = self.parent[place] or place
                 fields.pop(0)
             if not fields:
                 return None, ("place", root, place)
@@ -360,7 +358,12 @@ class Walk:
                     out.append(self.bare(kd) if kd and kd[0] == "place" else text)
                     i = k + 1 + (1 if fields else 0)
                     continue
-                out.append(t + self.run(ts[i + 1:k], env) + ts[k])
+                inner = self.run(ts[i + 1:k], env)
+                its = tokens(inner.strip())
+                if t == "(" and its and its[0] == "(" and close_at(its, 0) == len(its) - 1:
+                    out.append(inner.strip())
+                else:
+                    out.append(t + inner + ts[k])
                 i = k + 1
             elif t in ("not-false", "not-true") and self.tested(ts, i, env) is not None:
                 text, i = self.tested(ts, i, env)
@@ -534,6 +537,54 @@ def split_args(ts):
     return out
 
 
+def trivial(s):
+    return bool(re.match(r"\(λ c( κs)?\. (search|omega) (needs|rules|arith)\)$", s))
+
+
+def aligned(args, needs, named):
+    """Which old answers go to which goals, in the same order, where some have no counterpart."""
+    m, n = len(args), len(needs)
+    best = [[0] * (n + 1) for _ in range(m + 1)]
+    come = [[None] * (n + 1) for _ in range(m + 1)]
+
+    def fit(i, g):
+        a = args[i]
+        s = re.sub(r"\s+", " ", "".join(a))
+        if len(a) == 1:
+            return 50 if named.get(a[0]) == g else -50
+        asks = needs[g][1].endswith("requires") or "-requires-" in needs[g][1]
+        if bool(re.match(r"\(λ c κs", s)) != asks:
+            return -20
+        if g in named.values():
+            return -50
+        return 3 if not trivial(s) else 2
+
+    for i in range(m + 1):
+        for g in range(n + 1):
+            if i == 0 and g == 0:
+                continue
+            cands = []
+            if i and g:
+                cands.append((best[i - 1][g - 1] + fit(i - 1, g - 1), "both"))
+            if i:
+                s = re.sub(r"\s+", " ", "".join(args[i - 1]))
+                cands.append((best[i - 1][g] - (0 if trivial(s) else 2 if len(args[i - 1]) > 1 else 30), "old"))
+            if g:
+                cands.append((best[i][g - 1] - 3, "new"))
+            best[i][g], come[i][g] = max(cands)
+    out, i, g = [], m, n
+    while i or g:
+        c = come[i][g]
+        if c == "both":
+            out.append((g - 1, args[i - 1]))
+            i, g = i - 1, g - 1
+        elif c == "old":
+            i -= 1
+        else:
+            g -= 1
+    return list(reversed(out))
+
+
 def wrapped(body, fields):
     """The old term for an unnamed conjunction, as a record of the clauses."""
     if not fields:
@@ -684,7 +735,7 @@ def invariant(fn, loop, name, params, body):
     for v, c, p in zip(vs, ch, params):
         sub[p] = ("l.initial." + v) if c else ("l." + v)
     cur = [v for v, c in zip(vs, ch) if c]
-    for v, p in zip(cur, params[len(vs):]):
+    for v, p in zip(cur, params[len(params) - len(cur):] if cur else []):
         sub[p] = "l." + v
     if len(params) != len(vs) + len(cur):
         fn.say(f"invariant of {len(params)} parameters, {len(vs)} + {len(cur)} known")
@@ -842,6 +893,8 @@ def turn(fn, crate, path, folder, text):
             body = w.run(tokens(src), {root: ("place", root, place)})
             body = wrapped(body, fn.n["asked"].get(old))
             answered.add(g)
+            fn.named = getattr(fn, "named", {})
+            fn.named[name] = g
             fn.at_goals = getattr(fn, "at_goals", [])
             ans.append(note + f"pub {new} : goal.{new}\n" + unf + f"{new} {' '.join(params)} ={body}")
             continue
@@ -887,13 +940,17 @@ def turn(fn, crate, path, folder, text):
         args = split_args(ts)
         args = args[2 * len(fn.loops):] if fn.loops else args
         needs = fn.n["needs"]
+        pairs = list(enumerate(args))
         if len(args) != len(needs):
             fn.say(f"{len(args)} answers for {len(needs)} goals")
-            rest = [a for a in args if len(a) > 1 and not re.match(r"\(λ c( κs)?\. search (needs|rules)\)$", re.sub(r"\s+", " ", "".join(a)))]
-            for a in rest:
-                fn.say("unplaced " + re.sub(r"\s+", " ", "".join(a)))
-        else:
-            for g, a in enumerate(args):
+            pairs = aligned(args, needs, getattr(fn, "named", {}))
+            got = {id(a) for _g, a in pairs}
+            for a in args:
+                s = re.sub(r"\s+", " ", "".join(a))
+                if len(a) > 1 and id(a) not in got and not trivial(s):
+                    fn.say("unplaced " + s)
+        if True:
+            for g, a in pairs:
                 s = re.sub(r"\s+", " ", "".join(a))
                 if len(a) == 1 or g in answered:
                     continue

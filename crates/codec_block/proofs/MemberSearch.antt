@@ -3,7 +3,7 @@
 -- member-sought; member-first.
 -- Assumes nothing.
 use Rattle.laws.proofs.All.{◌≡◌, refl, sym, ap, ap₂, subst, ◌∙◌, Bool, true, false, ◌&&◌, List, ◌∷◌, map, ℕ, ◌+◌, ◌-◌}
-use Rattle.laws.proofs.All.{◌≤◌, ◌<◌, arith, length, get_or, drop, if◌then◌else◌, from, filter, first, first-filter, Each}
+use Rattle.laws.proofs.All.{◌≤◌, ◌<◌, arith, length, get_or, drop, if◌then◌else◌, from, first, first-filter, Each}
 use Rattle.bitsets.specs.declared.BitSet.{BitSet}
 use Rattle.bitsets.specs.BitSets.{holds, members_of}
 use Rattle.bitsets.proofs.Places.{head-cons, head-none}

@@ -146,7 +146,7 @@ fn told(
     k: usize,
 ) -> u8
     requires { (states : ℕ) × (low high : List ℕ)
-        × Grouped (borrowed states n word.entry next.entry) start.now first.now low high
+        × Grouped (borrowed states n word next) start.now first.now low high
         × (k ≡ first_group start.now first.now low high past w ahead) }
     ensures answer { (states : ℕ) (low high : List ℕ)
         → Grouped (borrowed states n word.entry next.entry) start.now first.now low high
@@ -177,7 +177,7 @@ pub fn read_block(
     m: usize,
     a: usize,
 ) -> u8
-    requires { Grouped (borrowed states n word.entry next.entry) start.now first.now low.now high.now
+    requires { Grouped (borrowed states n word next) start.now first.now low.now high.now
         × (i + a < length words.now) }
     ensures answer { result ≡ block (under (rows_of (borrowed states n word.entry next.entry)) m a)
         words.now i }

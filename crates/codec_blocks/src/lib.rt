@@ -27,7 +27,7 @@ pub fn read_blocks(
     count: usize,
     out: &mut [u8],
 )
-    requires { Grouped (borrowed states n word.entry next.entry) start.now first.now low.now high.now
+    requires { Grouped (borrowed states n word next) start.now first.now low.now high.now
         × (begin + count + a ≤ length words.now)
         × (count ≤ length out.old) }
     ensures written { out.new
@@ -70,7 +70,7 @@ pub fn block_at(
     m: usize,
     a: usize,
 ) -> u8
-    requires { Grouped (borrowed states n word.entry next.entry) start.now first.now low.now high.now
+    requires { Grouped (borrowed states n word next) start.now first.now low.now high.now
         × (i + a < length words.now) }
     ensures answer { result ≡ block (under (rows_of (borrowed states n word.entry next.entry)) m a)
         words.now i }

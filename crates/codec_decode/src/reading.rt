@@ -24,7 +24,7 @@ fn read_with(
     high: &mut [u64],
     out: &mut [u8],
 )
-    requires { Fits (borrowed states n word.entry next.entry) × (count + a ≤ length words.now) × (count ≤ length out.old) × (q ≤ 8)
+    requires { Fits (borrowed states n word next) × (count + a ≤ length words.now) × (count ≤ length out.old) × (q ≤ 8)
         × ((e : ℕ) → e < states * 16 → e % 16 < n → get_or word.now e 0 < 2 ^ q)
         × (states * 16 ≤ length low.old) × (states * 16 ≤ length high.old) }
     ensures written { out.new
@@ -52,7 +52,7 @@ pub fn read_few(
     count: usize,
     out: &mut [u8],
 )
-    requires { Fits (borrowed states n word.entry next.entry) × (count + a ≤ length words.now) × (count ≤ length out.old) × (q ≤ 8)
+    requires { Fits (borrowed states n word next) × (count + a ≤ length words.now) × (count ≤ length out.old) × (q ≤ 8)
         × ((e : ℕ) → e < states * 16 → e % 16 < n → get_or word.now e 0 < 2 ^ q) × (states ≤ 16) }
     ensures written { out.new
         ≡ map (block (under (rows_of (borrowed states n word.entry next.entry)) m a)
@@ -78,7 +78,7 @@ fn read_some(
     count: usize,
     out: &mut [u8],
 )
-    requires { Fits (borrowed states n word.entry next.entry) × (count + a ≤ length words.now) × (count ≤ length out.old) × (q ≤ 8)
+    requires { Fits (borrowed states n word next) × (count + a ≤ length words.now) × (count ≤ length out.old) × (q ≤ 8)
         × ((e : ℕ) → e < states * 16 → e % 16 < n → get_or word.now e 0 < 2 ^ q) }
     ensures written { out.new
         ≡ map (block (under (rows_of (borrowed states n word.entry next.entry)) m a)
@@ -104,7 +104,7 @@ fn read_many(
     count: usize,
     out: &mut [u8],
 )
-    requires { Fits (borrowed states n word.entry next.entry) × (count + a ≤ length words.now) × (count ≤ length out.old) × (q ≤ 8)
+    requires { Fits (borrowed states n word next) × (count + a ≤ length words.now) × (count ≤ length out.old) × (q ≤ 8)
         × ((e : ℕ) → e < states * 16 → e % 16 < n → get_or word.now e 0 < 2 ^ q) }
     ensures written { out.new
         ≡ map (block (under (rows_of (borrowed states n word.entry next.entry)) m a)
@@ -130,7 +130,7 @@ pub fn read_all(
     count: usize,
     out: &mut [u8],
 )
-    requires { Fits (borrowed states n word.entry next.entry) × (count + a ≤ length words.now) × (count ≤ length out.old) × (q ≤ 8)
+    requires { Fits (borrowed states n word next) × (count + a ≤ length words.now) × (count ≤ length out.old) × (q ≤ 8)
         × ((e : ℕ) → e < states * 16 → e % 16 < n → get_or word.now e 0 < 2 ^ q) }
     ensures written { out.new
         ≡ map (block (under (rows_of (borrowed states n word.entry next.entry)) m a)

@@ -77,7 +77,7 @@ pub fn lay(
     low: &mut [u64],
     high: &mut [u64],
 )
-    requires { Fits (borrowed states n word.entry next.entry) × (length first.old ≡ 2048) × (states * 16 ≤ length low.old)
+    requires { Fits (borrowed states n word next) × (length first.old ≡ 2048) × (states * 16 ≤ length low.old)
         × (states * 16 ≤ length high.old) × (q ≤ 8)
         × ((e : ℕ) → e < states * 16 → e % 16 < n → get_or word.now e 0 < 2 ^ q) }
     ensures written { Grouped (borrowed states n word.entry next.entry) start.new first.new

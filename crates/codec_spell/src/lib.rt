@@ -15,7 +15,7 @@ pub fn write_blocks(
     blocks: &[u8],
     out: &mut [u8],
 ) -> usize
-    requires { Fits (borrowed states n word.entry next.entry) × Below n blocks.now
+    requires { Fits (borrowed states n word next) × Below n blocks.now
         × (length blocks.now ≤ length out.old) }
     ensures answer { (result ≡ ends (rows_of (borrowed states n word.entry next.entry)) 0 blocks.now)
         × (result < states) }
@@ -46,7 +46,7 @@ pub fn write_closing(
     end: usize,
     out: &mut [u8],
 )
-    requires { Fits (borrowed states n word.entry next.entry) × (datum < n) × (state < states) × (at ≤ end)
+    requires { Fits (borrowed states n word next) × (datum < n) × (state < states) × (at ≤ end)
         × (end ≤ length out.old) }
     ensures written { out.new
         ≡ (take at out.old

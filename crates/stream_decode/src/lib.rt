@@ -51,7 +51,7 @@ fn read_part(
     end: usize,
     out: &mut [u8],
 )
-    requires { Grouped (borrowed states n word.entry next.entry) start.now first.now low.now high.now × (q ≤ 8) × (count ≤ limit)
+    requires { Grouped (borrowed states n word next) start.now first.now low.now high.now × (q ≤ 8) × (count ≤ limit)
         × (count * q ≤ 8 * length stream.now) × (m ≤ 15) × (a ≤ 15) × (i % 8 ≡ 0) × (i ≤ end)
         × (end ≤ i + 1024) × (end + a ≤ count) × (end ≤ length out.old) }
     ensures written { out.new
@@ -100,7 +100,7 @@ fn read_parts(
     a: usize,
     out: &mut [u8],
 )
-    requires { Grouped (borrowed states n word.entry next.entry) start.now first.now low.now high.now × (q ≤ 8) × (count ≤ limit)
+    requires { Grouped (borrowed states n word next) start.now first.now low.now high.now × (q ≤ 8) × (count ≤ limit)
         × (count * q ≤ 8 * length stream.now) × (m ≤ 15) × (a ≤ 15) × (a ≤ count)
         × (count - a ≤ length out.old) }
     ensures written { out.new
@@ -131,7 +131,7 @@ fn read_all(
     a: usize,
     out: &mut [u8],
 )
-    requires { Fits (borrowed states n word.entry next.entry) × (q ≤ 8) × (count ≤ limit) × (count * q ≤ 8 * length stream.now)
+    requires { Fits (borrowed states n word next) × (q ≤ 8) × (count ≤ limit) × (count * q ≤ 8 * length stream.now)
         × (m ≤ 15) × (a ≤ 15) × (a ≤ count) × (count - a ≤ length out.old)
         × ((e : ℕ) → e < states * 16 → e % 16 < n → get_or word.now e 0 < 2 ^ q) }
     ensures written { out.new

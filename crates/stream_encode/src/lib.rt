@@ -40,7 +40,7 @@ fn put_recording(
     count: usize,
     out: &mut [u8],
 )
-    requires { Fits (borrowed states n word.entry next.entry)
+    requires { Fits (borrowed states n word next)
         × ((s d : ℕ) → s < states → d < n → get_or word.now (s * 16 + d) 0 < 2 ^ q)
         × Below n blocks.now × (tail < n) × (q ≤ 8) × (count ≤ limit) × (length blocks.now ≤ count)
         × (stream_size q count ≤ length out.old) }

@@ -3,7 +3,7 @@
 -- In order: told-width, told-stream, stream-numbers, the checks of 1 and 15; pack-calls; unpack-calls; pack-returns,
 -- unpack-returns.
 -- Assumes nothing.
-use Rattle.laws.proofs.All.{◌≡◌, sym, ap, subst, ◌∙◌, ◌↔◌, ◌⊎◌, inl, inr, ◌&&◌, List, ℕ, ◌+◌, ◌*◌, ◌-◌, ◌/◌, ◌^◌}
+use Rattle.laws.proofs.All.{◌≡◌, sym, ap, subst, ◌∙◌, ◌↔◌, ◌⊎◌, ◌&&◌, List, ℕ, ◌+◌, ◌*◌, ◌-◌, ◌/◌, ◌^◌}
 use Rattle.laws.proofs.All.{◌≤◌, ◌<◌, arith, T, leb, eqb, length, take, get_or, Below}
 use Rattle.answer.specs.declared.Refusal.TheVariants.{Parameters, BadByte, ShortOutput, Stream}
 use Rattle.answer.specs.Outcomes.{Outcome, done, refused, unless}

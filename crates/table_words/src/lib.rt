@@ -56,7 +56,7 @@ pub fn gather(
     k: usize,
     targets: &mut [u64; 256],
 ) -> BitSet
-    requires { Linked (borrowed states n word.entry next.entry) head.now link.now × (w < 256) × (length targets.old ≡ 256) }
+    requires { Linked (borrowed states n word next) head.now link.now × (w < 256) × (length targets.old ≡ 256) }
     ensures answer { Gathered (borrowed states n word.entry next.entry) w k result targets.new }
 {
     let mut have = none();

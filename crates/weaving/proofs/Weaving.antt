@@ -3,7 +3,7 @@
 -- length-unwoven; weave-places, unweave-places; weaving.
 -- Assumes nothing.
 use Rattle.laws.proofs.All.{◌≡◌, sym, ap, ◌∙◌, List, ℕ, ◌+◌, ◌*◌, ◌/◌, ◌%◌, ◌≤◌, ◌<◌, ◌&&◌, arith, T, leb, eqb}
-use Rattle.laws.proofs.All.{leb→le, eqb→eq, mul_comm, mul-le-mul_right, div-add-mod', length, get_or, take, drop, and→}
+use Rattle.laws.proofs.All.{leb→le, eqb→eq, mul_comm, mul-le-mul_right, div-add-mod', length, get_or, drop, and→}
 use Rattle.laws.proofs.All.{length-drop, length-take, length-take-le, get_or-take, get_or-drop, get_or-eq_default}
 use Rattle.laws.proofs.All.{min-le_left}
 use Rattle.weaving.specs.Weaving.{transposed, woven, unwoven, part, good_depth}

@@ -64,8 +64,8 @@ fn mark_edges(
     targets: &[u64; 256],
     out: &mut [u64; 256],
 )
-    requires { Linked (borrowed states n word.entry next.entry) head.now link.now × (w < 256)
-        × Gathered (borrowed states n word.entry next.entry) w k have targets.now × Long out.old }
+    requires { Linked (borrowed states n word next) head.now link.now × (w < 256)
+        × Gathered (borrowed states n word next) w k have targets.now × Long out.old }
     ensures written { Marked out.old (joins (borrowed states n word.entry next.entry) pairs.now w k)
         (states * 16) out.new }
 {
@@ -100,7 +100,7 @@ fn mark_word(
     targets: &mut [u64; 256],
     out: &mut [u64; 256],
 )
-    requires { Linked (borrowed states n word.entry next.entry) head.now link.now × (w < 256) × Long targets.old
+    requires { Linked (borrowed states n word next) head.now link.now × (w < 256) × Long targets.old
         × Long out.old }
     ensures written { Marked out.old (joins (borrowed states n word.entry next.entry) pairs.now w k)
         (states * 16) out.new }
@@ -123,7 +123,7 @@ pub fn step_pairs(
     pairs: &[u64; 256],
     out: &mut [u64; 256],
 )
-    requires { Linked (borrowed states n word.entry next.entry) head.now link.now × Long out.old }
+    requires { Linked (borrowed states n word next) head.now link.now × Long out.old }
     ensures written { Long out.new × ((u v : ℕ) → u < states → holds (set_at out.new u) v
         ≡ some (joins_by (borrowed states n word.entry next.entry) pairs.now 16 u v) 256) }
 {
@@ -161,7 +161,7 @@ fn mark_clashes(
     targets: &mut [u64; 256],
     out: &mut [u64; 256],
 )
-    requires { Linked (borrowed states n word.entry next.entry) head.now link.now × (w < 256) × Long targets.old
+    requires { Linked (borrowed states n word next) head.now link.now × (w < 256) × Long targets.old
         × Long out.old }
     ensures written { Marked out.old (λ u v d.
         joins_by (borrowed states n word.entry next.entry) pairs.now d u v w) n out.new }
@@ -185,7 +185,7 @@ pub fn clash_pairs(
     pairs: &[u64; 256],
     out: &mut [u64; 256],
 )
-    requires { Linked (borrowed states n word.entry next.entry) head.now link.now × Long out.old }
+    requires { Linked (borrowed states n word next) head.now link.now × Long out.old }
     ensures written { Long out.new × ((u v : ℕ) → u < states → holds (set_at out.new u) v
         ≡ some (clashes_by (borrowed states n word.entry next.entry) pairs.now u v) 256) }
 {

@@ -64,10 +64,10 @@ fn try_memory(
     set: &mut [u64; 256],
     spare: &mut [u64; 256],
 ) -> Best
-    requires { Worded (borrowed states n word.entry next.entry) head.now link.now × (m ≤ 15)
+    requires { Worded (borrowed states n word next) head.now link.now × (m ≤ 15)
         × (m ≤ best.memory + best.lookahead)
-        × (pairs_in states past.now ≡ pasts (rows_of (borrowed states n word.entry next.entry)) m)
-        × Leading (rows_of (borrowed states n word.entry next.entry)) m (size best.memory best.lookahead)
+        × (pairs_in states past.now ≡ pasts (rows_of (borrowed states n word next)) m)
+        × Leading (rows_of (borrowed states n word next)) m (size best.memory best.lookahead)
         × Long set.old × Long spare.old }
     ensures answer { Leading (rows_of (borrowed states n word.entry next.entry)) (m + 1)
         (size result.memory result.lookahead) }
@@ -112,7 +112,7 @@ fn stop_at(
     past: &mut [u64; 256],
     spare: &mut [u64; 256],
 ) -> usize
-    requires { Worded (borrowed states n word.entry next.entry) head.now link.now × Long past.old × Long spare.old }
+    requires { Worded (borrowed states n word next) head.now link.now × Long past.old × Long spare.old }
     ensures answer { (result ≡ last) ⊎ ((result ≡ 0) × (m < last)
         × (pairs_in states past.new ≡ pairs_in states past.old)) }
     ensures written { m < last → pairs_in states past.new
@@ -138,7 +138,7 @@ fn least(
     head: &[u16; 256],
     link: &[u16; 2048],
 ) -> Best
-    requires { Worded (borrowed states n word.entry next.entry) head.now link.now }
+    requires { Worded (borrowed states n word next) head.now link.now }
     ensures answer { window (rows_of (borrowed states n word.entry next.entry)) ≡ size result.memory result.lookahead }
 {
     let mut past = [0u64; 256];

@@ -28,8 +28,8 @@ fn pairs_after(
     past: &mut [u64; 256],
     spare: &mut [u64; 256],
 )
-    requires { Worded (borrowed states n word.entry next.entry) head.now link.now × Long past.old × Long spare.old
-        × (pairs_in states past.old ≡ all_pairs (rows_of (borrowed states n word.entry next.entry))) }
+    requires { Worded (borrowed states n word next) head.now link.now × Long past.old × Long spare.old
+        × (pairs_in states past.old ≡ all_pairs (rows_of (borrowed states n word next))) }
     ensures written { pairs_in states past.new
         ≡ pasts (rows_of (borrowed states n word.entry next.entry)) m }
     ensures kept { Long past.new × Long spare.new }
@@ -54,7 +54,7 @@ fn works_by(
     memory: usize,
     lookahead: usize,
 ) -> bool
-    requires { Worded (borrowed states n word.entry next.entry) head.now link.now × (lookahead ≤ 15) }
+    requires { Worded (borrowed states n word next) head.now link.now × (lookahead ≤ 15) }
     ensures answer { result ≡ works (rows_of (borrowed states n word.entry next.entry)) (size memory lookahead) }
 {
     let mut past = [0u64; 256];

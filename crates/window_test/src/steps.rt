@@ -21,7 +21,7 @@ pub fn forward(
     pairs: &[u64; 256],
     out: &mut [u64; 256],
 )
-    requires { Worded (borrowed states n word.entry next.entry) head.now link.now × Long out.old }
+    requires { Worded (borrowed states n word next) head.now link.now × Long out.old }
     ensures written { Long out.new
         × (pairs_in states out.new
         ≡ into (reversed (rows_of (borrowed states n word.entry next.entry)))
@@ -41,7 +41,7 @@ pub fn clashes(
     pairs: &[u64; 256],
     out: &mut [u64; 256],
 )
-    requires { Worded (borrowed states n word.entry next.entry) head.now link.now × Long out.old }
+    requires { Worded (borrowed states n word next) head.now link.now × Long out.old }
     ensures written { Long out.new
         × (pairs_in states out.new
         ≡ hits (rows_of (borrowed states n word.entry next.entry))
@@ -61,7 +61,7 @@ pub fn extend_memory(
     past: &mut [u64; 256],
     spare: &mut [u64; 256],
 ) -> bool
-    requires { Worded (borrowed states n word.entry next.entry) head.now link.now × Long past.old × Long spare.old }
+    requires { Worded (borrowed states n word next) head.now link.now × Long past.old × Long spare.old }
     ensures answer { result ≡ true → pairs_in states past.new ≡ pairs_in states past.old }
     ensures written { pairs_in states past.new
         ≡ with_word (rows_of (borrowed states n word.entry next.entry))
@@ -86,7 +86,7 @@ pub fn lookahead_needed(
     set: &mut [u64; 256],
     spare: &mut [u64; 256],
 ) -> usize
-    requires { Worded (borrowed states n word.entry next.entry) head.now link.now × (most ≤ 15) × Long set.old
+    requires { Worded (borrowed states n word next) head.now link.now × (most ≤ 15) × Long set.old
         × Long spare.old }
     ensures answer { Emptied (rows_of (borrowed states n word.entry next.entry)) (pairs_in states set.old)
         most result }

@@ -1,4 +1,4 @@
-use Rattle.std.proofs.Common.{◌+◌, ◌-◌, drop, sym, refl, ap, ◌∙◌, arith, drop_of_length-le}
+use Rattle.std.proofs.Common.{◌+◌, drop, sym, refl, ap, ◌∙◌, arith, drop_of_length-le}
 use Rattle.checksum.specs.Fnv.{sum}
 use Rattle.checksum.proofs.Product.{sum_more}
 use Rattle.checksum.proofs.add.Goals as goal

@@ -1,4 +1,4 @@
-use Rattle.laws.proofs.All.{sym, ◌∙◌, ◌-◌, arith}
+use Rattle.laws.proofs.All.{sym, ◌∙◌, arith}
 use Rattle.constraint.specs.Value.{constraint_of}
 use Rattle.joining.specs.Joined.{pairs}
 use Rattle.joining.specs.PairLists.{pairs_in}

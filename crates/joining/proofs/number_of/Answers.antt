@@ -1,4 +1,4 @@
-use Rattle.laws.proofs.All.{◌≡◌, sym, ◌∙◌, ◌-◌, arith, length, index-here, index-later}
+use Rattle.laws.proofs.All.{◌≡◌, sym, ◌∙◌, arith, length, index-here, index-later}
 use Rattle.laws.proofs.All.{index-end}
 use Rattle.joining.specs.PairLists.{pairs_in}
 use Rattle.joining.proofs.PairLists.{pairs-long, pairs-at}

@@ -1,4 +1,4 @@
-use Rattle.laws.proofs.All.{refl, ap, ◌-◌, arith, take_all}
+use Rattle.laws.proofs.All.{refl, ap, arith, take_all}
 use Rattle.text.proofs.Adding.{added-same, ◌then◌, begun}
 use Rattle.sentences.specs.Sentences.{sentence}
 use Rattle.sentences.proofs.Sentences.{sentence-next, used-next, used-fits}

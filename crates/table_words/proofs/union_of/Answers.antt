@@ -1,5 +1,5 @@
 use Rattle.laws.proofs.All.{◌≡◌, refl, ap, ◌∙◌, ◌||◌, List, [], ◌∷◌, ℕ, ◌≤◌, ◌<◌, arith, length, get_or}
-use Rattle.laws.proofs.All.{length-drop, }
+use Rattle.laws.proofs.All.{length-drop}
 use Rattle.bitsets.specs.BitSets.{value_of, holds, members_of}
 use Rattle.bitsets.proofs.Places.{places-each}
 use Rattle.bitsets.proofs.Members.{walk_start, walk-next, walk-done, head-lt}
@@ -36,12 +36,12 @@ loop-more-preserved c =
           ∙ ap (λ s. holds l.out u || holds_in A u s) c.lowest.ensures.answer),
     )
 
+none_left : (xs : List ℕ) → length xs ≡ 0 → 128 ≤ get_or xs 0 128
+none_left [] e = omega arith
+none_left (x ∷ xs) e = absurd (omega arith)
+
 pub returns : goal.returns
 returns c =
     let l = c.loop-more in
     let z : length (members_of l.left) ≡ 0 = omega (arith, l.invariant.0, c.loop-more-test.false) in
-    record { answer = walk-done 128 _ _ _ _ _ _ l.invariant.1 (none_left (members_of l.left) z)
-  where
-    none_left : (xs : List ℕ) → length xs ≡ 0 → 128 ≤ get_or xs 0 128
-    none_left [] e = omega arith
-    none_left (x ∷ xs) e = absurd (omega arith) }
+    record { answer = walk-done 128 _ _ _ _ _ _ l.invariant.1 (none_left (members_of l.left) z) }

@@ -2,6 +2,7 @@ use Rattle.laws.proofs.All.{◌≡◌, refl, sym, ap, ap₂, ◌∙◌, ⊎_elim
 use Rattle.laws.proofs.All.{get_or, range, any, T→true, →any-below, any-range-no}
 use Rattle.compile_reach.specs.ReachSets.{passes_on}
 use Rattle.compile_reach.proofs.reaching.leads_any.Goals as goal
+use Rattle.compile_reach.proofs.reaching.leads_any.Goals.{else-edge-s, then-edge-s+else-m-t}
 
 pub returns-then-m-t : goal.returns-then-m-t
 returns-then-m-t c =
@@ -18,18 +19,18 @@ pub loop-u-preserved : goal.loop-u-preserved
 loop-u-preserved c =
     let p = c.args in
     let f = passes_on p.edge.now p.m.now p.t p.s in
-    ⊎_elim
-    (λ w. (
+    elim c.if-edge-s.branch [
+      then-edge-s+else-m-t w ↦ (
       omega arith,
       any-range-no f c.loop-u.u c.loop-u.invariant.1
-          (ap₂ (λ a b. a && b) w.0.taken w.2.left),
-    ))
-    (λ w. (
+          (ap₂ (λ a b. a && b) w.if-edge-s.true w.if-m-t.false),
+    )
+      | else-edge-s w ↦ (
       omega arith,
       any-range-no f c.loop-u.u c.loop-u.invariant.1
-          (ap (λ a. a && get_or p.m.now (p.t * 16 + c.loop-u.u) false) w.left),
-    ))
-    c.if-edge-s.branch
+          (ap (λ a. a && get_or p.m.now (p.t * 16 + c.loop-u.u) false) w.if-edge-s.false),
+    )
+    ]
 
 pub returns : goal.returns
 returns c =

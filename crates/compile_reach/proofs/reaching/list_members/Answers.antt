@@ -4,6 +4,7 @@ use Rattle.compile_reach.proofs.ComponentMembers.{component-is}
 use Rattle.compile_reach.proofs.Numbering.{Numbered, numbered-none, numbered-yes, numbered-no, numbered-end}
 use Rattle.std.proofs.Common.{rules}
 use Rattle.compile_reach.proofs.reaching.list_members.Goals as goal
+use Rattle.compile_reach.proofs.reaching.list_members.Goals.{else-is_member, then-is_member}
 
 pub loop-t-preserved : goal.loop-t-preserved
 loop-t-preserved c =
@@ -11,20 +12,20 @@ loop-t-preserved c =
     let p = c.args in
     let q : ℕ → Bool = λ x. ltb 0 (get_or p.v x 0) && reach_at p.m.now x p.s in
     let e = c.is_member.ensures.answer in
-    ⊎_elim
-    (λ w. (
+    elim c.if-is_member.branch [
+      then-is_member w ↦ (
       omega arith,
       omega arith,
-      rw (w.1, w.2, w.3)
-          (numbered-yes q l.t l.count l.state l.index (omega arith) l.invariant.2 (sym e ∙ w.0.taken)),
-    ))
-    (λ w. (
+      rw (w.state-is, w.index-is, w.count-is)
+          (numbered-yes q l.t l.count l.state l.index (omega arith) l.invariant.2 (sym e ∙ w.if-is_member.true)),
+    )
+      | else-is_member w ↦ (
       omega arith,
       omega arith,
-      rw (w.1, w.2, w.3)
-          (numbered-no q l.t l.count l.state l.index (omega arith) l.invariant.2 (sym e ∙ w.0.left)),
-    ))
-    c.if-is_member.branch
+      rw (w.state-is, w.index-is, w.count-is)
+          (numbered-no q l.t l.count l.state l.index (omega arith) l.invariant.2 (sym e ∙ w.if-is_member.false)),
+    )
+    ]
 
 pub returns : goal.returns
 returns c =

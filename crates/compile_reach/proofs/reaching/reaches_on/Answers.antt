@@ -25,7 +25,7 @@ pub returns : goal.returns
 returns c =
     let p = c.args in
     record {
-      answer = c.leads_any.ensures
+      answer = c.leads_any.ensures.answer
           ∙ sym (ap (λ b. b || any (passes_on p.edge.now p.m.now (p.x / 16) (p.x % 16)) (range p.k))
           c.if-m-x.false);
     }

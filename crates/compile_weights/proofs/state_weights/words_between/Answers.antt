@@ -2,9 +2,26 @@ use Rattle.laws.proofs.All.{◌≡◌, sym, ap, ◌∙◌, ⊎_elim, ◌-◌, ar
 use Rattle.compile_weights.specs.PowerTable.{word_count}
 use Rattle.compile_weights.proofs.WeightRounds.{count_none, count_yes, count_no}
 use Rattle.compile_weights.proofs.state_weights.words_between.Goals as goal
+use Rattle.compile_weights.proofs.state_weights.words_between.Goals.{else-power-s, then-power-s}
 
 pub loop-w-preserved : goal.loop-w-preserved
-loop-w-preserved c = ?
+loop-w-preserved c =
+    let l = c.loop-w in
+    let p = c.args in
+    elim c.if-power-s.branch [
+      then-power-s u ↦ (
+      omega arith,
+      omega (arith, u.count-is),
+      omega
+          (arith, u.count-is, count_yes p.power.now p.s p.t l.w u.if-power-s.true),
+    )
+      | else-power-s u ↦ (
+      omega arith,
+      omega (arith, u.count-is),
+      omega
+          (arith, u.count-is, count_no p.power.now p.s p.t l.w u.if-power-s.false),
+    )
+    ]
 
 pub returns : goal.returns
 returns c =

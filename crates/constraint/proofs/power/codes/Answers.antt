@@ -1,5 +1,4 @@
-use Rattle.laws.proofs.All.{◌≡◌, ◌-◌, arith, length}
-use Rattle.constraint.specs.PowerTable.{code_of}
+use Rattle.laws.proofs.All.{◌≡◌, arith, length}
 use Rattle.constraint.proofs.Values.{fill_none, fill_more}
 use Rattle.constraint.proofs.PowerTable.{filled-codes}
 use Rattle.std.proofs.Common.{rules}

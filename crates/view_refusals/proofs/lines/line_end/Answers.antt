@@ -1,4 +1,4 @@
-use Rattle.laws.proofs.All.{refl, ◌-◌, arith}
+use Rattle.laws.proofs.All.{refl, arith}
 use Rattle.view_refusals.proofs.TextLines.{end-here, end_on, end_none}
 use Rattle.std.proofs.Common.{rules}
 use Rattle.view_refusals.proofs.lines.line_end.Goals as goal

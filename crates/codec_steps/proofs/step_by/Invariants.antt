@@ -1,0 +1,12 @@
+-- The loop goes over the groups of the word, and joins the targets of those whose states are in the set.
+use Rattle.laws.proofs.All.{◌+◌, ◌-◌, get_or}
+use Rattle.codec_groups.specs.Groups.{steps_to}
+use Rattle.codec_steps.proofs.GroupTurns.{Joining}
+use Rattle.codec_steps.proofs.step_by.Given as goal
+
+abbrev pub invariant-loop-k : goal.invariant-loop-k
+invariant-loop-k l =
+    Joining (steps_to l.first l.low l.high l.set) (get_or l.start l.w 0) (get_or l.start (l.w + 1) 0) l.k l.out
+
+abbrev pub decreases-loop-k : goal.decreases-loop-k
+decreases-loop-k l = get_or l.start (l.w + 1) 0 - l.k

@@ -1,0 +1,18 @@
+-- `read_job` meets its contract: what the bytes hold, with its weights checked.
+use Rattle.laws.proofs.All.{ap, ◌∙◌}
+use Rattle.answer.specs.Outcomes.{onward}
+use Rattle.compile_job.specs.Jobs.{fitted, read_job}
+use Rattle.compile_job.proofs.Jobs.{read_job-allowed}
+use Rattle.compile_job.proofs.JobSteps.{ready-kept}
+use Rattle.compile_job.proofs.reading.read_job.Goals as goal
+
+pub returns : goal.returns
+unfolding read_job
+returns c =
+    let xs = c.args.bytes.now in
+    let w = ready-kept c.fit_read.result (read_job xs)
+    (c.fit_read.ensures.answer ∙ ap (λ o. onward o fitted) c.hold_job.ensures.answer) (read_job-allowed xs) in
+    record { answer = w.0; kept = w.1 }
+
+pub fit_read-requires : goal.fit_read-requires
+fit_read-requires c = c.hold_job.ensures.kept

@@ -1,0 +1,13 @@
+-- `next_of` meets its contract: the field "present" says whether there is a next state.
+use Rattle.laws.proofs.All.{arith, eq-eqb, ne_eqb}
+use Rattle.record.proofs.columns.next_of.Goals as goal
+
+pub returns-then-get-eq0 : goal.returns-then-get-eq0
+returns-then-get-eq0 c = record { answer = rw (← c.get.ensures.answer, eq-eqb c.get.result 0 c.if-get-eq0.true) }
+
+pub returns : goal.returns
+returns c =
+    record {
+      answer = rw (← c.get.ensures.answer, ne_eqb c.get.result 0 (λ e. omega arith))
+          c.get-2.ensures.answer;
+    }

@@ -1,0 +1,13 @@
+-- `put_matrix` meets its contract. The loop's invariant: the text put since the loop began has the entries of the edges
+-- passed. The measure is what is left of the edges.
+use Rattle.laws.proofs.All.{◌-◌, ◌≤◌}
+use Rattle.text.specs.Texts.{Added}
+use Rattle.view_matrix.specs.Matrix.{cell}
+use Rattle.view_listing.specs.Edges.{lines_to}
+use Rattle.view_matrix.proofs.put_matrix.Given as goal
+
+abbrev pub invariant-loop-e : goal.invariant-loop-e
+invariant-loop-e l = (l.e ≤ l.edges) × Added (lines_to (cell l.n) l.t l.e) l.initial.at l.initial.out l.out l.at
+
+abbrev pub decreases-loop-e : goal.decreases-loop-e
+decreases-loop-e l = l.edges - l.e

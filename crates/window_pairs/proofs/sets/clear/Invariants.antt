@@ -1,0 +1,9 @@
+-- The words that the loop has passed are 0.
+use Rattle.laws.proofs.All.{◌-◌, ◌*◌, ◌≤◌, Filled}
+use Rattle.window_pairs.proofs.sets.clear.Given as goal
+
+abbrev pub invariant-loop-z : goal.invariant-loop-z
+invariant-loop-z l = (l.z ≤ 2 * l.states) × Filled 0 (λ j. 0) 256 l.z l.out
+
+abbrev pub decreases-loop-z : goal.decreases-loop-z
+decreases-loop-z l = 2 * l.states - l.z
