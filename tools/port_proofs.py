@@ -81,7 +81,7 @@ class Function:
         self.said = []
         self.uses = set()
         self.at = set()
-        self.macros, self.convs, self.helpers = {}, {}, {}
+        self.macros, self.convs, self.helpers, self.bodies = {}, {}, {}, {}
         self.loops = {norm(a[0]): (a[1], v) for a, v in names["loops"]}
         self.changed = {norm(l[0][0]): c for l, c in zip(names["loops"], names["changed"])}
 
@@ -197,6 +197,13 @@ class Function:
             if len(rest) == 1 and len(self.clause_fields(place)) > 1:
                 return t, ("ensures", b + ".ensures", self.clause_fields(place))
             return t, k
+        if rest and rest[0] == "new" and len(rest) > 1 and rest[1] in ("0", "1"):
+            params = self.n["params"].get(self.n["places"][self.index[place]][3], [])
+            k = 1
+            while k < len(rest) and rest[k] == "1":
+                k += 1
+            if k - 1 < len(params) and k < len(rest) and rest[k] == "0":
+                return b + ".new." + params[k - 1] + "".join("." + r for r in rest[k + 1:]), None
         if rest:
             r0 = rest[0]
             if r0 == "inv":
@@ -373,6 +380,11 @@ class Walk:
             elif t in self.fn.helpers and t not in env:
                 want = self.fn.helpers[t]
                 v, k = self.atom(ts, i + 1, env)
+                if v and v[1] == self.root and self.goal is None and want != self.place and t in self.fn.bodies:
+                    param, body = self.fn.bodies[t]
+                    out.append("(" + self.run(tokens(body), {param: ("place", v[1], want)}).strip() + ")")
+                    i = k
+                    continue
                 out.append(t)
                 i += 1
                 if v:
@@ -857,6 +869,10 @@ def turn(fn, crate, path, folder, text):
                 if p is None:
                     raise Bad("place " + m.group(1))
                 fn.helpers[name] = p
+        if name in fn.helpers and len(clauses) == 1 and not unfold:
+            c = re.match(r"(?s)\S+\s+(\S+)\s*=(.*)$", clauses[0])
+            if c:
+                fn.bodies[name] = (c.group(1), c.group(2).strip())
         ordered.append((mods, name, sig, clauses, com, unfold))
     for mods, name, sig, clauses, com, unfold in ordered:
         note = "".join(c + "\n" for c in com)

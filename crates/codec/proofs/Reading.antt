@@ -172,6 +172,7 @@ module _ (g : Rows) (c : Closed g) (S : List Bool) (pre ws : List ℕ) (w : ℕ)
 
       go : (ys : List ℕ) → Reads g (ends g s (take (length pre) xs)) ys (w ∷ ws)
           → (d : ℕ) × T (elem d (readings g (along_all g S pre) w (able g ws)))
+      go [] r' = elim r' [ ]
       go (d ∷ ys) (step a b h) = (
         d,
         →reading g c (along_all g S pre) w ws d

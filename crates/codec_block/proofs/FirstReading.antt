@@ -64,7 +64,8 @@ module _ (t : Arrays) (g : Fits t) (P A : BitSet) (w : ℕ) where
       row-none s hs (λ d hd. h (s * 16 + d) (place-lt t s d g hs hd)))
 
   -- the datum of the first edge that passes is the first reading
-  pub first-reading : (e : ℕ) → e < places t → reads_at t P A w e ≡ true → ((j : ℕ) → j < e → reads_at t P A w j ≡ false)
+  pub first-reading : (e : ℕ) → e < places t → reads_at t P A w e ≡ true
+      → ((j : ℕ) → j < e → reads_at t P A w j ≡ false)
       → (d : ℕ) → e % 16 ≡ get_or (readings (rows_of t) S w B) 0 d
   first-reading e b p h d =
       let hs : e / 16 < t.states = omega arith in

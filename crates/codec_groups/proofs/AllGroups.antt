@@ -96,7 +96,8 @@ module _ (t : Arrays) (v k : ℕ) (start first low high : List ℕ) (y : Laying 
           (λ j z. p j (omega arith)) (λ j z. q j (omega arith)))
 
       at-sources : (w : ℕ) → w < v + 1 → 2304 ≤ length low → 2304 ≤ length high → Dec (w ≡ v)
-          → Sources f (get_or (set start (v + 1) (k + m)) w 0) (get_or (set start (v + 1) (k + m)) (w + 1) 0) (have_at l h w)
+          → Sources f (get_or (set start (v + 1) (k + m)) w 0) (get_or (set start (v + 1) (k + m)) (w + 1) 0)
+          (have_at l h w)
       at-sources w i x z (yes e) =
           subst (λ u. Sources f (get_or (set start (v + 1) (k + m)) u 0) (get_or (set start (v + 1) (k + m)) (u + 1) 0)
           (have_at l h u)) (sym e)

@@ -3,7 +3,8 @@
 -- putting-some, putting-more, putting-done.
 -- Assumes nothing.
 use Rattle.laws.proofs.All.{◌≡◌, refl, sym, ap, ap₂, ◌∙◌, List, ℕ, ◌+◌, ◌-◌, ◌≤◌, ◌<◌, add-zero, arith, ℕ_discrete}
-use Rattle.laws.proofs.All.{dec_lt, length, get_or, set, drop, length-set, get_or-set_same, get_or-set_other, get_or-drop}
+use Rattle.laws.proofs.All.{dec_lt, length, get_or, set, drop, length-set, get_or-set_same, get_or-set_other}
+use Rattle.laws.proofs.All.{get_or-drop}
 use Rattle.laws.proofs.All.{drop-drop, get_d_any, length-drop, get_or-eq_default}
 use Rattle.bitsets.specs.declared.BitSet.{BitSet}
 use Rattle.bitsets.specs.BitSets.{set_of, set_at}

@@ -1,7 +1,7 @@
 -- The edges of a table by word as sets: for each word its groups, one for each state that has it, in rising order.
--- In order: goes_to; has_at, first_edge; targets_at, source_at, a group; Within, a group of a word; have_at, Sources, the
--- states that have a word; Grouped, a table with all its groups; Put, PutAll, PutHave, one group written, those of one
--- word, and the states that have it; between; steps_to, leads_into, one group in a step forward and back; group_of,
+-- In order: goes_to; has_at, first_edge; targets_at, source_at, a group; Within, a group of a word; have_at, Sources,
+-- the states that have a word; Grouped, a table with all its groups; Put, PutAll, PutHave, one group written, those of
+-- one word, and the states that have it; between; steps_to, leads_into, one group in a step forward and back; group_of,
 -- member_to, the group of a state.
 -- Assumes nothing.
 use Rattle.std.specs.Prelude.{◌≡◌, Bool, true, false, ◌&&◌, List, ℕ, ◌+◌, ◌-◌, ◌*◌, ◌/◌, ◌≤◌, ◌<◌, eqb, length, get_or}
@@ -73,8 +73,8 @@ pub record Put (first low high : List ℕ) (k e : ℕ) (s : BitSet) (f l h : Lis
   pub edges : (j : ℕ) → (j ≡ k → ⊥) → get_or f j 0 ≡ get_or first j 0
   pub others : (j : ℕ) → (j ≡ k → ⊥) → targets_at l h j ≡ targets_at low high j
 
--- three arrays with, from group `at` on, a group for each state of the list, its first edge by `edge_of` and its targets
--- by `sets`; the groups below `at` and the sets after those of all groups as they were
+-- three arrays with, from group `at` on, a group for each state of the list, its first edge by `edge_of` and its
+-- targets by `sets`; the groups below `at` and the sets after those of all groups as they were
 pub record PutAll (first low high : List ℕ) (at : ℕ) (states : List ℕ) (edge_of : ℕ → ℕ) (sets : List ℕ)
     (f l h : List ℕ) : Type 0 where
   pub first_long : length f ≡ 2048

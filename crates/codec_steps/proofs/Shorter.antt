@@ -13,7 +13,8 @@ use Rattle.codec_steps.proofs.SetSteps.{step-members}
 
 -- the groups of the word w stand from i on and below j, and H are the states that have it
 module _ (t : Arrays) (start first low high : List ℕ) (g : Grouped t start first low high) (w : ℕ) (hw : w < 256)
-    (x : 2304 ≤ length low) (y : 2304 ≤ length high) (i j : ℕ) (a : i ≡ get_or start w 0) (b : j ≡ get_or start (w + 1) 0)
+    (x : 2304 ≤ length low) (y : 2304 ≤ length high) (i j : ℕ) (a : i ≡ get_or start w 0)
+    (b : j ≡ get_or start (w + 1) 0)
     (H : BitSet) (e : H ≡ have_at low high w) (l : i < j) where
   word-sources : Sources first (get_or start w 0) (get_or start (w + 1) 0) H
   word-sources =
@@ -28,7 +29,8 @@ module _ (t : Arrays) (start first low high : List ℕ) (g : Grouped t start fir
 
   module _ (S B : BitSet) (h : (s : ℕ) → holds B s ≡ (holds H s && holds S s)) where
     -- the group of a member stands in the arrays
-    pub short-inside : (s : ℕ) → s < 128 → T (holds B s) → (group_of i H s < length low) × (group_of i H s < length high)
+    pub short-inside : (s : ℕ) → s < 128 → T (holds B s) → (group_of i H s < length low)
+        × (group_of i H s < length high)
     short-inside s u v =
         let (p, q) = and→ (holds H s) (holds S s) (subst T (h s) v) in
         let k = group-below first i j H short-sources s u p in

@@ -2,7 +2,7 @@
 -- In order: joins_at, first_group, one group between two sets; into_at, first_member, the group of a member; enters_at,
 -- first_into, one edge into a set; holds_from; no_place; under, the code with a table and a window.
 -- Assumes nothing.
-use Rattle.std.specs.Prelude.{Bool, ◌&&◌, List, [], map, ℕ, ◌+◌, ◌-◌, ◌*◌, ◌/◌, eqb, get_or}
+use Rattle.std.specs.Prelude.{Bool, ◌&&◌, List, [], map, ℕ, ◌+◌, ◌-◌, eqb, get_or}
 use Rattle.laws.specs.Lists.{from, first}
 use Rattle.table.specs.Rows.{Rows, Code}
 use Rattle.bitsets.specs.declared.BitSet.{BitSet}

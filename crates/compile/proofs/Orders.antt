@@ -15,7 +15,7 @@ use Rattle.compile_job.specs.Ranges.{Ranged, Few, Nexts}
 use Rattle.compile_job.proofs.Orders.{read-order, run-length-order as read-run-length}
 use Rattle.compile_job.proofs.JoinedOrder.{joined-order as read-joined}
 use Rattle.compile.specs.Compile.{compile_job, compile_run_length, compile_joined}
-use Rattle.compile.specs.Kinds.{general, run_length, joined}
+use Rattle.compile.specs.Kinds.{general, run_length as kind_run_length, joined}
 use Rattle.compile.proofs.Early.{Early}
 use Rattle.compile.proofs.Written.{read-refused}
 
@@ -40,7 +40,7 @@ module _ (xs : List ℕ) (room : ℕ) (r : Refusal) (h : Early r) where
       ∷ check States ((d ≤ k) × (k ≤ 15)) ∷ check Length ((n ≡ 5) ⊎ (n ≡ 5 + (k + 1)))
       ∷ check BadWeights ((n ≡ 5) ⊎ Passing (2 ^ get_or xs 2 0) (get_or xs 4 0) (power (run_length d k) (get_or xs 3 0))
       (drop 5 xs)) ∷ []) r
-  run-length-order = then (read-refused run_length xs room r h) (read-run-length xs r)
+  run-length-order = then (read-refused kind_run_length xs room r h) (read-run-length xs r)
 
   -- "8 below four bytes, 1, then for each constraint 8 for a missing K, K by 2, 8, next states by 2", then 14
   pub joined-order : let n = length xs in let K = get_or xs 3 0 in let L = get_or xs (4 + 2 * K) 0 in

@@ -185,11 +185,13 @@ held_run_length-held xs j e =
     let k = get_or xs 1 0 in
     let (t, _, h, s, q) = held_run_length→ xs j e in
     let l = run_length-lawful (get_or xs 0 0) k h in
+    let found = held_with (get_or xs 2 0) (get_or xs 3 0) (get_or xs 4 0) (run_length (get_or xs 0 0) k)
+    (bringing 5 xs) in
     subst Held (sym q)
     (record {
       parameters = t;
       lawful = l;
-      counted = bringing-counted 5 (k + 1) xs _ (length-run_length (get_or xs 0 0) k) s;
+      counted = bringing-counted 5 (k + 1) xs found (length-run_length (get_or xs 0 0) k) s;
     })
 
 pub read_run_length-allowed : (xs : List ℕ) (j : Job) → read_run_length xs ≡ done j → Allowed j

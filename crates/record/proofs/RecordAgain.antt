@@ -93,7 +93,8 @@ pub rows-good : (s p q m : ℕ) (us vs : List ℕ) → Fits (repeat s (repeat (2
 rows-good zero p q m us vs f t = tt
 rows-good (suc s) p q m us vs f t =
     let es = edges_of (2 ^ p) vs in
-    let (x, y) = and→ (all (good_target m) es) (all (all (good_target m)) (rows_of s (2 ^ p) (drop (2 ^ p * 2) vs))) t in
+    let (x, y) = and→ (all (good_target m) es) (all (all (good_target m)) (rows_of s (2 ^ p) (drop (2 ^ p * 2) vs))) t
+    in
     let f' : Fits (repeat (2 ^ p) (q ∷ 7 ∷ []) ++ (repeat s (repeat (2 ^ p) (q ∷ 7 ∷ [])) ++ us)) vs =
     rw append_assoc at f in
     →and (good_row p q m es) (all (good_row p q m) (rows_of s (2 ^ p) (drop (2 ^ p * 2) vs)))

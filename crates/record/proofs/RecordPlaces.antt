@@ -56,7 +56,8 @@ next-at (suc n) zero us bs d h =
     rw (six bs, five bs)
 next-at (suc n) (suc k) us bs d h =
     next-at n k us (drop 4 (drop 1 (drop 4 (drop 1 bs)))) d (le_of_suc-le-suc h)
-    ∙ ap (λ l. next_at l (k * state_size)) (ten bs) ∙ next_at-drop bs 10 (k * state_size) (suc k * state_size) (omega arith)
+    ∙ ap (λ l. next_at l (k * state_size)) (ten bs)
+    ∙ next_at-drop bs 10 (k * state_size) (suc k * state_size) (omega arith)
 
 -- ---- edges
 abbrev pub edge_at : List ℕ → ℕ → ℕ → Edge

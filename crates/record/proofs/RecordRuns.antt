@@ -45,7 +45,8 @@ states-next k s B B₁ B₂ B₃ h l p q r =
     let e : header_bits + 5 + s * state_size ≡ header_bits + s * state_size + length (next_bits z) =
     omega (arith, length-next z) in
     let g : B₃ ≡ spliced (header_bits + s * state_size) (next_bits z ++ next_bits o) B₁ =
-    spliced-next B₁ B₂ B₃ (next_bits z) (next_bits o) (header_bits + s * state_size) (header_bits + 5 + s * state_size) e
+    spliced-next B₁ B₂ B₃ (next_bits z) (next_bits o) (header_bits + s * state_size) (header_bits + 5 + s * state_size)
+    e
     (omega (arith, length-next o)) q r in
     run-next (λ i. state_bits (next_states_at k i)) state_size (length-state k) B B₁ B₃ header_bits s
     (header_bits + s * state_size) refl (omega arith)

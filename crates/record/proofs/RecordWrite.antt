@@ -3,7 +3,7 @@
 -- fields-pack.
 -- Assumes nothing.
 use Rattle.laws.proofs.All.{T→true, eq-eqb, eqb_is, so, nay, ◌≡◌, refl, sym, ap, ap₂, subst, ◌∙◌, ◌&&◌, List}
-use Rattle.laws.proofs.All.{[], ◌∷◌, ◌++◌, append_assoc, ℕ, zero, ◌+◌, ◌*◌, ◌-◌, ◌^◌, suc-mul, arith, T, ltb, leb}
+use Rattle.laws.proofs.All.{[], ◌∷◌, ◌++◌, append_assoc, ℕ, ◌+◌, ◌*◌, ◌-◌, ◌^◌, suc-mul, arith, T, ltb, leb}
 use Rattle.laws.proofs.All.{eqb, eqb→eq, le→leb, lt→ltb, length, get_or, take, drop, replicate, length-append}
 use Rattle.laws.proofs.All.{length-replicate, lit<, drop_at, all, Each, and→, →and, each_map, all-each, all_of}
 use Rattle.answer.specs.declared.Refusal.TheVariants.{Field, Length}
@@ -165,7 +165,8 @@ passed l h bs vs c e e' t₁ t₂ t₃ =
     ∙ rw (T→true (good_head h) t₁, eq-eqb l (size h) t₂, T→true (good_rest h vs c) t₃)
   where
     checked : List ℕ → Code → Outcome Code
-    checked vs c = unless Field (good_head h) (unless Length (eqb l (size h)) (unless Field (good_rest h vs c) (done c)))
+    checked vs c = unless Field (good_head h)
+        (unless Length (eqb l (size h)) (unless Field (good_rest h vs c) (done c)))
 
 -- a code with its fields in range, packed and read, is the code
 pub fields-pack : (c : Code) → T (formed c) → fields_checked (pack c) ≡ done c

@@ -23,7 +23,8 @@ good_field K b s = if eqb b 0 then eqb s 0 else ltb s K
 abbrev pub good_fields : ℕ → ℕ → List ℕ → Bool
 good_fields K zero vs = true
 good_fields K (suc n) vs =
-    (good_field K (get_or vs 0 0) (get_or vs 1 0) && good_field K (get_or vs 2 0) (get_or vs 3 0)) && good_fields K n (drop 4 vs)
+    (good_field K (get_or vs 0 0) (get_or vs 1 0) && good_field K (get_or vs 2 0) (get_or vs 3 0)) && good_fields K n
+    (drop 4 vs)
 
 -- the edge leads to one of n states
 abbrev pub good_target : ℕ → Edge → Bool

@@ -11,7 +11,7 @@ use Rattle.constraint.specs.PowerTable.{power_codes}
 use Rattle.constraint.proofs.Values.{length-constraint_of}
 use Rattle.constraint.proofs.PowerTable.{codes_at}
 use Rattle.table.specs.declared.Table.{Table}
-use Rattle.table.specs.Rows.{Edge, at}
+use Rattle.table.specs.Rows.{Edge}
 use Rattle.table.specs.Value.{word_at, next_at, rows_in, code_in}
 use Rattle.record_obeys.specs.Obeys.{reached_pairs, obeys}
 use Rattle.table.specs.Edges.{lent}

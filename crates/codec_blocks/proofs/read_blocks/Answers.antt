@@ -1,4 +1,4 @@
-use Rattle.laws.proofs.All.{◌≡◌, refl, ap, ◌∙◌, ◌++◌, map, ◌-◌, arith, drop, length-set}
+use Rattle.laws.proofs.All.{◌≡◌, refl, ap, ◌∙◌, ◌++◌, map, arith, drop, length-set}
 use Rattle.laws.proofs.All.{from, map_more}
 use Rattle.table.specs.Edges.{arrays, rows_of}
 use Rattle.codec_steps.specs.Reading.{block}
@@ -15,7 +15,8 @@ loop-i-preserved c =
       l.invariant.1,
       length-set l.out l.i c.read_block.result ∙ l.invariant.2,
       map_more ((let a = c.args in
-          block (under (rows_of (arrays a.states a.n a.word.now a.next.now)) a.m a.a) a.words.now)) c.args.begin c.args.out.now l.out l.i c.read_block.result l.invariant.3
+          block (under (rows_of (arrays a.states a.n a.word.now a.next.now)) a.m a.a) a.words.now)) c.args.begin
+              c.args.out.now l.out l.i c.read_block.result l.invariant.3
           c.read_block.ensures.answer (omega arith),
     )
 
@@ -28,5 +29,6 @@ returns c =
     let e : l.i ≡ c.args.count = omega arith in
     record {
       written = l.invariant.3 ∙ ap (λ k. map ((let a = c.args in
-          block (under (rows_of (arrays a.states a.n a.word.now a.next.now)) a.m a.a) a.words.now)) (from c.args.begin k) ++ drop k c.args.out.now) e;
+          block (under (rows_of (arrays a.states a.n a.word.now a.next.now)) a.m a.a) a.words.now))
+              (from c.args.begin k) ++ drop k c.args.out.now) e;
     }

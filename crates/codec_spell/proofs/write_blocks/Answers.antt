@@ -1,4 +1,4 @@
-use Rattle.laws.proofs.All.{refl, [], ◌+◌, ◌-◌, ◌*◌, ◌<◌, arith, length, get_or, below_at}
+use Rattle.laws.proofs.All.{refl, [], ◌+◌, ◌*◌, ◌<◌, arith, length, get_or, below_at}
 use Rattle.table.specs.Edges.{arrays, next_of}
 use Rattle.table.proofs.RowsOf.{place-next}
 use Rattle.codec_spell.proofs.Writing.{writes_start, writes_more, writes_end}
@@ -18,16 +18,18 @@ place-small c =
     omega (arith, c.loop-i.invariant.2.inside, f.few, f.narrow, datum-small c)
 
 next_small : (c : In-loop-i)
-    → next_of ((arrays c.args.states c.args.n c.args.word.now c.args.next.now)) (c.loop-i.s * 16 + get_or c.args.blocks.now c.loop-i.i 0) < c.args.states
+    → next_of (arrays c.args.states c.args.n c.args.word.now c.args.next.now)
+    (c.loop-i.s * 16 + get_or c.args.blocks.now c.loop-i.i 0) < c.args.states
 next_small c =
-    place-next ((arrays c.args.states c.args.n c.args.word.now c.args.next.now)) c.loop-i.s _ c.requires.0 c.loop-i.invariant.2.inside (datum-small c)
+    place-next (arrays c.args.states c.args.n c.args.word.now c.args.next.now) c.loop-i.s _ c.requires.0
+    c.loop-i.invariant.2.inside (datum-small c)
 
 pub loop-i-init : goal.loop-i-init
 loop-i-init c =
     let a = c.args in (
       omega arith,
       c.requires.2,
-      writes_start ((arrays c.args.states c.args.n c.args.word.now c.args.next.now)) [] 0 a.blocks.now a.out.now 0 refl
+      writes_start (arrays c.args.states c.args.n c.args.word.now c.args.next.now) [] 0 a.blocks.now a.out.now 0 refl
           c.requires.0.some refl,
     )
 
@@ -58,8 +60,10 @@ loop-i-preserved c =
     let l = c.loop-i in (
       omega arith,
       l.invariant.1,
-      writes_more ((arrays c.args.states c.args.n c.args.word.now c.args.next.now)) [] 0 c.args.blocks.now c.args.out.now l.i l.i l.s l.out l.invariant.2
-          c.requires.0 (l.i + 1) _ refl refl c.loop-i-test.true (datum-small (goal.at.loop-i-preserved c).In-loop-i) (omega arith),
+      writes_more (arrays c.args.states c.args.n c.args.word.now c.args.next.now) [] 0 c.args.blocks.now c.args.out.now
+          l.i l.i l.s l.out l.invariant.2
+          c.requires.0 (l.i + 1) _ refl refl c.loop-i-test.true (datum-small (goal.at.loop-i-preserved c).In-loop-i)
+          (omega arith),
     )
 
 pub shape_of-out : goal.shape_of-out
@@ -69,7 +73,8 @@ pub returns : goal.returns
 returns c =
     let a = c.args in
     let l = c.loop-i in
-    let w = writes_end ((arrays c.args.states c.args.n c.args.word.now c.args.next.now)) [] 0 a.blocks.now a.out.now l.i l.i l.s
+    let w = writes_end (arrays c.args.states c.args.n c.args.word.now c.args.next.now) [] 0 a.blocks.now a.out.now l.i
+    l.i l.s
     l.out l.invariant.2
     (length a.blocks.now) (omega arith) (omega arith) in
     record { answer = (w.0, l.invariant.2.inside); written = w.1 }

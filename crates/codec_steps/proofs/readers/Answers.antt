@@ -41,7 +41,8 @@ loop-j-preserved c =
           c.back_by-stepped.ensures.answer t g
           ∙ ap (λ A. back (rows_of t) A (get_or ws (l.j - 1) 0))
           (l.invariant.2 t g ∙ ap (λ j. able (rows_of t) (slice j to ws)) (sym e))
-          ∙ sym (able-first (rows_of t) ws (l.j - 1) to (omega (arith, c.loop-j-test.true, l.invariant.0)) c.requires.2),
+          ∙ sym (able-first (rows_of t) ws (l.j - 1) to (omega (arith, c.loop-j-test.true, l.invariant.0))
+          c.requires.2),
     )
 
 pub returns : goal.returns

@@ -6,6 +6,7 @@ use Rattle.compile_labels.proofs.Homes.{noted-none, note-put, note-skip}
 use Rattle.std.proofs.Common.{rules}
 use Rattle.compile_labels.proofs.note.Goals.{In-loop-d}
 use Rattle.compile_labels.proofs.note.Goals as goal
+use Rattle.compile_labels.proofs.note.Goals.{else-r-w, then-r-w}
 
 pub loop-d-init : goal.loop-d-init
 loop-d-init c =
@@ -20,27 +21,27 @@ pub loop-d-preserved : goal.loop-d-preserved
 loop-d-preserved c =
     let l = c.loop-d in
     let a = c.args in
-    ⊎_elim
-    (λ w. (
-      omega arith,
-      l.invariant.1,
-      l.invariant.2,
-      l.invariant.3,
-      ap length w.1 ∙ length-set l.r (get_or a.words l.d 0) a.i ∙ l.invariant.4,
-      λ x h. ap (λ r. get_or r x 0) w.1
-          ∙ note-put a.words a.i l.d a.home l.r (omega arith) l.invariant.2 l.invariant.5 l.invariant.4
-          (word_small (goal.at.loop-d-preserved c).In-loop-d) (omega (arith, w.0.taken)) x h,
-    ))
-    (λ w. (
-      omega arith,
-      l.invariant.1,
-      l.invariant.2,
-      l.invariant.3,
-      ap length w.1 ∙ l.invariant.4,
-      λ x h. ap (λ r. get_or r x 0) w.1
-          ∙ note-skip a.words a.i l.d a.home l.r (omega arith) l.invariant.2 l.invariant.5 w.0.left x h,
-    ))
-    c.if-r-w.branch
+    elim c.if-r-w.branch [
+      | then-r-w w ↦ (
+        omega arith,
+        l.invariant.1,
+        l.invariant.2,
+        l.invariant.3,
+        ap length w.r-is ∙ length-set l.r (get_or a.words l.d 0) a.i ∙ l.invariant.4,
+        λ x h. ap (λ r. get_or r x 0) w.r-is
+            ∙ note-put a.words a.i l.d a.home l.r (omega arith) l.invariant.2 l.invariant.5 l.invariant.4
+            (word_small (goal.at.loop-d-preserved c).In-loop-d) (omega (arith, w.if-r-w.true)) x h,
+      )
+      | else-r-w w ↦ (
+        omega arith,
+        l.invariant.1,
+        l.invariant.2,
+        l.invariant.3,
+        ap length w.r-is ∙ l.invariant.4,
+        λ x h. ap (λ r. get_or r x 0) w.r-is
+            ∙ note-skip a.words a.i l.d a.home l.r (omega arith) l.invariant.2 l.invariant.5 w.if-r-w.false x h,
+      )
+    ]
 
 pub returns : goal.returns
 returns c =

@@ -4,6 +4,7 @@ use Rattle.compile_labels.specs.Parts.{served}
 use Rattle.compile_labels.proofs.Passes.{serve-kept, serve-put}
 use Rattle.std.proofs.Common.{rules}
 use Rattle.compile_labels.proofs.serve.Goals as goal
+use Rattle.compile_labels.proofs.serve.Goals.{else-wide-n, then-wide-n}
 
 pub loop-k-init : goal.loop-k-init
 loop-k-init c =
@@ -15,23 +16,23 @@ loop-k-preserved c =
     let l = c.loop-k in
     let a = c.args in
     let x = c.wide.ensures.answer.0 in
-    ⊎_elim
-    (λ w. (
-      omega arith,
-      l.invariant.1,
-      ap length w.2 ∙ length-set l.ds l.k w.1.result ∙ l.invariant.2,
-      ap (λ ds. served a.n (take (l.k + 1) ds) (drop (l.k + 1) (take a.n ds))) w.2
-          ∙ sym (serve-put a.n l.k l.ds (omega arith) (omega arith) (rw x at w.0.taken) w.1.result
-          w.1.ensures.0) ∙ l.invariant.3,
-    ))
-    (λ w. (
-      omega arith,
-      l.invariant.1,
-      ap length w.1 ∙ l.invariant.2,
-      ap (λ ds. served a.n (take (l.k + 1) ds) (drop (l.k + 1) (take a.n ds))) w.1
-          ∙ sym (serve-kept a.n l.k l.ds (omega arith) (omega arith) (rw x at w.0.left)) ∙ l.invariant.3,
-    ))
-    c.if-wide-n.branch
+    elim c.if-wide-n.branch [
+      | then-wide-n w ↦ (
+        omega arith,
+        l.invariant.1,
+        ap length w.ds-is ∙ length-set l.ds l.k w.lowest_free.result ∙ l.invariant.2,
+        ap (λ ds. served a.n (take (l.k + 1) ds) (drop (l.k + 1) (take a.n ds))) w.ds-is
+            ∙ sym (serve-put a.n l.k l.ds (omega arith) (omega arith) (rw x at w.if-wide-n.true) w.lowest_free.result
+            w.lowest_free.ensures.answer.0) ∙ l.invariant.3,
+      )
+      | else-wide-n w ↦ (
+        omega arith,
+        l.invariant.1,
+        ap length w.ds-is ∙ l.invariant.2,
+        ap (λ ds. served a.n (take (l.k + 1) ds) (drop (l.k + 1) (take a.n ds))) w.ds-is
+            ∙ sym (serve-kept a.n l.k l.ds (omega arith) (omega arith) (rw x at w.if-wide-n.false)) ∙ l.invariant.3,
+      )
+    ]
 
 pub returns : goal.returns
 returns c =

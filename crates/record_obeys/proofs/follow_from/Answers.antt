@@ -1,4 +1,4 @@
-use Rattle.laws.proofs.All.{sym, ◌∙◌, ◌-◌, ◌≤◌, ◌<◌, not-suc-le-zero, arith}
+use Rattle.laws.proofs.All.{sym, ◌∙◌, ◌≤◌, ◌<◌, not-suc-le-zero, arith}
 use Rattle.laws.proofs.All.{get_or, member-lt}
 use Rattle.record_queue.specs.Places.{pair_after, finds_at}
 use Rattle.record_obeys.proofs.Reaching.{reach-start, reach-more, reach-done, reach-fail, reach-test}
@@ -19,7 +19,8 @@ place-on c =
 pub loop-i-init : goal.loop-i-init
 loop-i-init c = (
   c.requires.1,
-  reach-start ((pair_after c.args.word.now c.args.next.now c.args.power.now)) c.args.n c.args.start _ _ _ _ _ c.requires.0 c.requires.2 c.put-count.ensures.written,
+  reach-start (pair_after c.args.word.now c.args.next.now c.args.power.now) c.args.n c.args.start _ _ _ _ _ c.requires.0
+      c.requires.2 c.put-count.ensures.written,
   λ j h. absurd (not-suc-le-zero h),
 )
 
@@ -36,7 +37,8 @@ pub returns-then-not-finds_all : goal.returns-then-not-finds_all
 returns-then-not-finds_all c =
     let l = c.loop-i in
     record {
-      answer = reach-fail ((pair_after c.args.word.now c.args.next.now c.args.power.now)) c.args.n c.args.start l.i l.set l.list l.count l.invariant.1 ((finds_at c.args.word.now c.args.power.now))
+      answer = reach-fail (pair_after c.args.word.now c.args.next.now c.args.power.now) c.args.n c.args.start l.i l.set
+          l.list l.count l.invariant.1 ((finds_at c.args.word.now c.args.power.now))
           c.loop-i-test.true (sym c.finds_all.ensures.answer ∙ c.if-not-finds_all.true);
     }
 
@@ -56,9 +58,11 @@ loop-i-preserved c =
     let l = c.loop-i in
     let g = c.put_targets-count.ensures.written in (
       l.invariant.0,
-      reach-more ((pair_after c.args.word.now c.args.next.now c.args.power.now)) a.n a.start l.i l.set l.list l.count l.invariant.1 _ _ _
+      reach-more (pair_after c.args.word.now c.args.next.now c.args.power.now) a.n a.start l.i l.set l.list l.count
+          l.invariant.1 _ _ _
           c.loop-i-test.true g,
-      reach-test ((pair_after c.args.word.now c.args.next.now c.args.power.now)) a.n a.start l.i l.set l.list l.count l.invariant.1 ((finds_at c.args.word.now c.args.power.now)) _ _ _
+      reach-test (pair_after c.args.word.now c.args.next.now c.args.power.now) a.n a.start l.i l.set l.list l.count
+          l.invariant.1 ((finds_at c.args.word.now c.args.power.now)) _ _ _
           c.loop-i-test.true g l.invariant.2 (sym c.finds_all.ensures.answer ∙ c.if-not-finds_all.false),
     )
 
@@ -66,6 +70,7 @@ pub returns : goal.returns
 returns c =
     let l = c.loop-i in
     record {
-      answer = reach-done ((pair_after c.args.word.now c.args.next.now c.args.power.now)) c.args.n c.args.start l.i l.set l.list l.count l.invariant.1 ((finds_at c.args.word.now c.args.power.now))
+      answer = reach-done (pair_after c.args.word.now c.args.next.now c.args.power.now) c.args.n c.args.start l.i l.set
+          l.list l.count l.invariant.1 ((finds_at c.args.word.now c.args.power.now))
           (omega arith) l.invariant.2;
     }

@@ -1,4 +1,4 @@
-use Rattle.laws.proofs.All.{sym, ◌∙◌, ◌-◌, not-suc-le-zero, arith, below_more}
+use Rattle.laws.proofs.All.{sym, ◌∙◌, not-suc-le-zero, arith, below_more}
 use Rattle.record_queue.specs.Places.{state_after, finds_at}
 use Rattle.table.proofs.LoopTests.{all-passed, all-failed}
 use Rattle.record_queue.proofs.PairTests.{other-than, same-as}

@@ -1,4 +1,4 @@
-use Rattle.laws.proofs.All.{◌≡◌, ◌-◌, arith}
+use Rattle.laws.proofs.All.{◌≡◌, arith}
 use Rattle.record_queue.proofs.Queue.{grown-none, grown-more}
 use Rattle.record_queue.proofs.put_targets.Goals as goal
 

@@ -48,7 +48,8 @@ pub returns-then-not-good_front : goal.returns-then-not-good_front
 returns-then-not-good_front c =
     let xs = c.args.bytes.now in
     record {
-      answer = c.declined-then-not-good_front.ensures.answer ∙ sym (checked-front xs c.front_of-f.result c.front_of-f.ensures.answer
+      answer = c.declined-then-not-good_front.ensures.answer
+          ∙ sym (checked-front xs c.front_of-f.result c.front_of-f.ensures.answer
           (le-leb header_bytes (length xs) (omega (arith, c.if-bytes-lt5.false)))
           (sym c.good_front.ensures.answer ∙ not-true c.good_front.result (ap not c.if-not-good_front.true)));
       kept = λ e. absurd (c.declined-then-not-good_front.ensures.past e);
@@ -62,8 +63,10 @@ pub returns-then-bytes-size_of : goal.returns-then-bytes-size_of
 returns-then-bytes-size_of c =
     let xs = c.args.bytes.now in
     record {
-      answer = c.declined-then-bytes-size_of.ensures.answer ∙ sym (checked-length xs c.front_of-f.result c.front_of-f.ensures.answer
-          (le-leb header_bytes (length xs) (omega (arith, c.if-bytes-lt5.false))) (fronted (goal.at.returns-then-bytes-size_of c).Else-not-good_front)
+      answer = c.declined-then-bytes-size_of.ensures.answer
+          ∙ sym (checked-length xs c.front_of-f.result c.front_of-f.ensures.answer
+          (le-leb header_bytes (length xs) (omega (arith, c.if-bytes-lt5.false)))
+              (fronted (goal.at.returns-then-bytes-size_of c).Else-not-good_front)
           (ne_eqb _ _ (λ e. c.if-bytes-size_of.true (e ∙ sym c.size_of.ensures.answer))));
       kept = λ e. absurd (c.declined-then-bytes-size_of.ensures.past e);
       empty = λ x e. c.declined-then-bytes-size_of.ensures.empty;
@@ -76,8 +79,10 @@ pub returns-then-not-good_rest : goal.returns-then-not-good_rest
 returns-then-not-good_rest c =
     let xs = c.args.bytes.now in
     record {
-      answer = c.declined-then-not-good_rest.ensures.answer ∙ sym (checked-rest xs c.front_of-f.result c.front_of-f.ensures.answer
-          (le-leb header_bytes (length xs) (omega (arith, c.if-bytes-lt5.false))) (fronted (goal.at.returns-then-not-good_rest c).Else-not-good_front)
+      answer = c.declined-then-not-good_rest.ensures.answer
+          ∙ sym (checked-rest xs c.front_of-f.result c.front_of-f.ensures.answer
+          (le-leb header_bytes (length xs) (omega (arith, c.if-bytes-lt5.false)))
+              (fronted (goal.at.returns-then-not-good_rest c).Else-not-good_front)
           (eq-eqb _ _ (sized (goal.at.returns-then-not-good_rest c).Else-bytes-size_of))
           (sym c.good_rest.ensures.answer ∙ not-true c.good_rest.result (ap not c.if-not-good_rest.true)));
       kept = λ e. absurd (c.declined-then-not-good_rest.ensures.past e);
@@ -85,7 +90,8 @@ returns-then-not-good_rest c =
     }
 
 pub table_of-requires : goal.table_of-requires
-table_of-requires c = (small (goal.at.table_of-requires c).Else-not-good_front, sized (goal.at.table_of-requires c).Else-bytes-size_of)
+table_of-requires c = (small (goal.at.table_of-requires c).Else-not-good_front, sized
+    (goal.at.table_of-requires c).Else-bytes-size_of)
 
 pub returns : goal.returns
 returns c =
@@ -93,6 +99,7 @@ returns c =
     let xs = c.args.bytes.now in
     let good = sym c.good_rest.ensures.answer ∙ not-false c.good_rest.result (ap not c.if-not-good_rest.false) in
     let same = ap done c.table_of.ensures.answer ∙ sym (checked-good xs h c.front_of-f.ensures.answer
-    (le-leb header_bytes (length xs) (omega (arith, c.if-bytes-lt5.false))) (fronted (goal.at.returns c).Else-not-good_front)
+    (le-leb header_bytes (length xs) (omega (arith, c.if-bytes-lt5.false)))
+        (fronted (goal.at.returns c).Else-not-good_front)
     (eq-eqb _ _ (sized (goal.at.returns c).Else-bytes-size_of)) good) in
     record { answer = same; kept = λ e. read-ready xs c.table_of.result same; empty = good-not }

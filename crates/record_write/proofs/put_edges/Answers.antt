@@ -1,4 +1,4 @@
-use Rattle.laws.proofs.All.{◌≡◌, refl, ap, ◌∙◌, ◌+◌, ◌*◌, ◌-◌, ◌/◌, ◌%◌, ◌^◌, ◌≤◌, ◌<◌, mul-le-mul_right, mod-lt}
+use Rattle.laws.proofs.All.{◌≡◌, refl, ap, ◌∙◌, ◌+◌, ◌*◌, ◌/◌, ◌%◌, ◌^◌, ◌≤◌, ◌<◌, mul-le-mul_right, mod-lt}
 use Rattle.laws.proofs.All.{div-lt_iff_lt-mul, arith, length, get_or, pow_pos, pow_mono}
 use Rattle.bits.specs.Bytes.{spliced}
 use Rattle.bits.specs.Fields.{bits_of}
@@ -7,7 +7,6 @@ use Rattle.record.specs.Places.{spot}
 use Rattle.record.proofs.Fills.{spot-lt}
 use Rattle.record.proofs.Sizes.{place-le, product_le}
 use Rattle.record.proofs.RecordRuns.{edges_bits, edges-begin, edges-next, edges-all}
-use Rattle.laws.proofs.All.{not}
 use Rattle.record_write.proofs.put_edges.Goals.{In-loop-e}
 use Rattle.record_write.proofs.put_edges.Goals as goal
 
@@ -104,7 +103,8 @@ put_low-requires c = (
 
 pub overflow_add-at-in-loop-e-2 : goal.overflow_add-at-in-loop-e-2
 overflow_add-at-in-loop-e-2 c =
-    record { fits = omega (arith, small (goal.at.overflow_add-at-in-loop-e-2 c).In-loop-e, c.requires.1, c.requires.0.short) }
+    record { fits = omega (arith, small (goal.at.overflow_add-at-in-loop-e-2 c).In-loop-e, c.requires.1,
+        c.requires.0.short) }
 
 pub bounds-t-i-in-loop-e : goal.bounds-t-i-in-loop-e
 bounds-t-i-in-loop-e c = within (goal.at.bounds-t-i-in-loop-e c).In-loop-e

@@ -1,4 +1,4 @@
-use Rattle.laws.proofs.All.{◌≡◌, refl, ap, ◌∙◌, map, ◌-◌, arith, range}
+use Rattle.laws.proofs.All.{◌≡◌, refl, ap, ◌∙◌, map, arith, range}
 use Rattle.bits.specs.Bytes.{spliced}
 use Rattle.bits.specs.Fields.{bits_of}
 use Rattle.bits.proofs.Puts.{length-bits_of}
@@ -29,7 +29,8 @@ returns c =
     let a = c.args in
     let e : c.loop-s.s ≡ a.constraint.states = omega arith in
     record {
-      written = c.loop-s.invariant.2 ∙ ap (λ k. spliced header_bits (states_bits (map (next_states_at a.constraint) (range k)))
+      written = c.loop-s.invariant.2
+          ∙ ap (λ k. spliced header_bits (states_bits (map (next_states_at a.constraint) (range k)))
           (bits_of a.out.now)) e;
       kept = c.loop-s.invariant.1;
     }

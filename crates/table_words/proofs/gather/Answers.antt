@@ -7,35 +7,44 @@ use Rattle.table_words.proofs.gather.Goals as goal
 
 -- where the chain starts
 start-on : (s : Start)
-    → get_or s.args.head.now s.args.w 0 ≡ last_below ((arrays s.args.states s.args.n s.args.word.now s.args.next.now)) s.args.w (s.args.states * 16)
+    → get_or s.args.head.now s.args.w 0
+    ≡ last_below (arrays s.args.states s.args.n s.args.word.now s.args.next.now) s.args.w (s.args.states * 16)
 start-on s = s.requires.0.chained.heads s.args.w s.requires.1
 
 -- the edge in hand
 edge_on : (c : In-loop-cur)
-    → bears ((arrays c.args.states c.args.n c.args.word.now c.args.next.now)) c.args.w (c.loop-cur.cur - 1) ≡ true
+    → bears (arrays c.args.states c.args.n c.args.word.now c.args.next.now) c.args.w (c.loop-cur.cur - 1) ≡ true
 edge_on c = c.loop-cur.invariant.1 c.loop-cur-test.true
 
-next_small : (c : In-loop-cur) → next_of ((arrays c.args.states c.args.n c.args.word.now c.args.next.now)) (c.loop-cur.cur - 1) < 128
+next_small : (c : In-loop-cur)
+    → next_of (arrays c.args.states c.args.n c.args.word.now c.args.next.now) (c.loop-cur.cur - 1) < 128
 next_small c =
     let g = c.requires.0.fits in
     omega (
       arith,
       g.few,
       g.inside (c.loop-cur.cur - 1) (omega arith)
-          (bears-edge ((arrays c.args.states c.args.n c.args.word.now c.args.next.now)) _ (c.loop-cur.cur - 1) (edge_on c)),
+          (bears-edge (arrays c.args.states c.args.n c.args.word.now c.args.next.now) _ (c.loop-cur.cur - 1)
+          (edge_on c)),
     )
 
 -- the edge before it
 link_on : (c : In-loop-cur)
     → get_or c.args.link.now (c.loop-cur.cur - 1) 0
-    ≡ last_below ((arrays c.args.states c.args.n c.args.word.now c.args.next.now)) c.args.w (c.loop-cur.cur - 1)
+    ≡ last_below (arrays c.args.states c.args.n c.args.word.now c.args.next.now) c.args.w (c.loop-cur.cur - 1)
 link_on c =
-    link-below ((arrays c.args.states c.args.n c.args.word.now c.args.next.now)) _ (c.loop-cur.cur - 1) (edge_on c) (c.args.states * 16) c.args.head.now
+    link-below (arrays c.args.states c.args.n c.args.word.now c.args.next.now) _ (c.loop-cur.cur - 1) (edge_on c)
+    (c.args.states * 16) c.args.head.now
     c.args.link.now c.requires.0.chained (omega arith)
 
 pub overflow_cast-cur : goal.overflow_cast-cur
 overflow_cast-cur c =
-    omega (arith, c.requires.0.fits.few, on-le ((arrays c.args.states c.args.n c.args.word.now c.args.next.now)) _ (c.args.states * 16) _ (start-on (goal.at.overflow_cast-cur c).Start))
+    omega (
+      arith,
+      c.requires.0.fits.few,
+      on-le (arrays c.args.states c.args.n c.args.word.now c.args.next.now) _
+          (c.args.states * 16) _ (start-on (goal.at.overflow_cast-cur c).Start),
+    )
 
 pub loop-cur-init : goal.loop-cur-init
 loop-cur-init c =
@@ -51,16 +60,29 @@ loop-cur-init c =
     )
 
 pub with_edge-more-requires : goal.with_edge-more-requires
-with_edge-more-requires c =
-    (omega (arith, c.requires.0.fits.few), next_small (goal.at.with_edge-more-requires c).In-loop-cur, c.loop-cur.invariant.2.long)
+with_edge-more-requires c = (
+  omega (arith, c.requires.0.fits.few),
+  next_small (goal.at.with_edge-more-requires c).In-loop-cur,
+  c.loop-cur.invariant.2.long,
+)
 
 pub overflow_cast-cur-in-loop-cur : goal.overflow_cast-cur-in-loop-cur
 overflow_cast-cur-in-loop-cur c =
-    omega (arith, c.requires.0.fits.few, on-le ((arrays c.args.states c.args.n c.args.word.now c.args.next.now)) _ (c.loop-cur.cur - 1) _ (link_on (goal.at.overflow_cast-cur-in-loop-cur c).In-loop-cur))
+    omega (
+      arith,
+      c.requires.0.fits.few,
+      on-le (arrays c.args.states c.args.n c.args.word.now c.args.next.now) _
+          (c.loop-cur.cur - 1) _ (link_on (goal.at.overflow_cast-cur-in-loop-cur c).In-loop-cur),
+    )
 
 pub loop-cur-smaller : goal.loop-cur-smaller
 loop-cur-smaller c =
-    omega (arith, c.loop-cur-test.true, on-le ((arrays c.args.states c.args.n c.args.word.now c.args.next.now)) _ (c.loop-cur.cur - 1) _ (link_on (goal.at.loop-cur-smaller c).In-loop-cur))
+    omega (
+      arith,
+      c.loop-cur-test.true,
+      on-le (arrays c.args.states c.args.n c.args.word.now c.args.next.now) _
+          (c.loop-cur.cur - 1) _ (link_on (goal.at.loop-cur-smaller c).In-loop-cur),
+    )
 
 pub loop-cur-preserved : goal.loop-cur-preserved
 loop-cur-preserved c =
@@ -73,7 +95,8 @@ loop-cur-preserved c =
       omega (arith, on-le t w e j (link_on (goal.at.loop-cur-preserved c).In-loop-cur)),
       on-bears t w e j (link_on (goal.at.loop-cur-preserved c).In-loop-cur),
       part-jump t w c.args.k (c.args.states * 16) _ _ e
-          (part_edge t w c.args.k (c.args.states * 16) _ _ l.cur l.invariant.2 c.loop-cur-test.true (edge_on (goal.at.loop-cur-preserved c).In-loop-cur)
+          (part_edge t w c.args.k (c.args.states * 16) _ _ l.cur l.invariant.2 c.loop-cur-test.true
+          (edge_on (goal.at.loop-cur-preserved c).In-loop-cur)
           _ _ g.answer g.written.0 g.written.1) j (link_on (goal.at.loop-cur-preserved c).In-loop-cur),
     )
 

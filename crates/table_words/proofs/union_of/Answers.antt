@@ -8,11 +8,10 @@ use Rattle.table_words.proofs.union_of.Goals.{In-loop-more}
 use Rattle.table_words.proofs.union_of.Goals as goal
 
 pub loop-more-init : goal.loop-more-init
-loop-more-init c =
-    (
-      c.count-more.ensures.answer,
-      walk_start 128 _ _ _ _ _ refl (places-each 128 (value_of c.args.set)) c.none-out.ensures.answer,
-    )
+loop-more-init c = (
+  c.count-more.ensures.answer,
+  walk_start 128 _ _ _ _ _ refl (places-each 128 (value_of c.args.set)) c.none-out.ensures.answer,
+)
 
 -- a member is left
 lowest-lt : (c : In-loop-more) → get_or (members_of c.loop-more.left) 0 128 < 128
@@ -31,7 +30,8 @@ loop-more-preserved c =
     let l = c.loop-more in
     let A = c.args.sets.now in (
       omega (arith, l.invariant.0, ap length c.rest-others.ensures.answer, length-drop 1 (members_of l.left)),
-      walk-next 128 _ _ _ _ _ _ l.invariant.1 _ _ _ (lowest-lt (goal.at.loop-more-preserved c).In-loop-more) c.rest-others.ensures.answer refl
+      walk-next 128 _ _ _ _ _ _ l.invariant.1 _ _ _ (lowest-lt (goal.at.loop-more-preserved c).In-loop-more)
+          c.rest-others.ensures.answer refl
           (λ u. c.join-joined.ensures.answer u ∙ ap (λ g. holds l.out u || holds g u) c.set_at.ensures.answer
           ∙ ap (λ s. holds l.out u || holds_in A u s) c.lowest.ensures.answer),
     )

@@ -47,7 +47,8 @@ pub returns-then-has : goal.returns-then-has
 returns-then-has c =
     let a = c.args in
     record {
-      answer = sym (turn (goal.at.returns-then-has c).After-has ∙ ap (λ b. b || between (holds_from a.first.now a.set) (c.loop-k.k + 1)
+      answer = sym (turn (goal.at.returns-then-has c).After-has
+          ∙ ap (λ b. b || between (holds_from a.first.now a.set) (c.loop-k.k + 1)
           (get_or a.start.now (a.w + 1) 0)) c.if-has.true);
     }
 
@@ -61,7 +62,8 @@ pub loop-k-preserved : goal.loop-k-preserved
 loop-k-preserved c =
     let a = c.args in (
       omega (arith, c.loop-k.invariant.0),
-      turn (goal.at.loop-k-preserved c).After-has ∙ ap (λ b. b || between (holds_from a.first.now a.set) (c.loop-k.k + 1)
+      turn (goal.at.loop-k-preserved c).After-has
+          ∙ ap (λ b. b || between (holds_from a.first.now a.set) (c.loop-k.k + 1)
           (get_or a.start.now (a.w + 1) 0)) c.if-has.false,
     )
 

@@ -31,7 +31,8 @@ pub returns-then-meets : goal.returns-then-meets
 returns-then-meets c =
     let a = c.args in
     record {
-      answer = sought-yes 128 _ _ _ _ _ _ _ c.loop-s.invariant c.loop-s-test.true _ c.group_of-k.ensures.answer _ (into (goal.at.returns-then-meets c).After-meets)
+      answer = sought-yes 128 _ _ _ _ _ _ _ c.loop-s.invariant c.loop-s-test.true _ c.group_of-k.ensures.answer _
+          (into (goal.at.returns-then-meets c).After-meets)
           c.if-meets.true
           ∙ member-sought a.low.now a.high.now a.at a.have a.members a.ahead;
     }
@@ -46,7 +47,8 @@ loop-s-smaller c =
 
 pub loop-s-preserved : goal.loop-s-preserved
 loop-s-preserved c =
-    sought-no 128 _ _ _ _ _ _ _ c.loop-s.invariant _ _ c.loop-s-test.true _ c.group_of-k.ensures.answer _ (into (goal.at.loop-s-preserved c).After-meets)
+    sought-no 128 _ _ _ _ _ _ _ c.loop-s.invariant _ _ c.loop-s-test.true _ c.group_of-k.ensures.answer _
+        (into (goal.at.loop-s-preserved c).After-meets)
     c.if-meets.false c.rest-others.ensures.answer c.lowest-s-in-loop-s.ensures.answer
 
 pub returns : goal.returns

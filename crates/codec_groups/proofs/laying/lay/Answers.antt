@@ -1,4 +1,4 @@
-use Rattle.laws.proofs.All.{◌≡◌, refl, ◌∙◌, ℕ, ◌+◌, ◌-◌, ◌^◌, ◌≤◌, ◌<◌, arith, length, length-replicate}
+use Rattle.laws.proofs.All.{◌≡◌, refl, ◌∙◌, ℕ, ◌+◌, ◌^◌, ◌≤◌, ◌<◌, arith, length, length-replicate}
 use Rattle.laws.proofs.All.{pow_mono}
 use Rattle.table.specs.Edges.{arrays, places}
 use Rattle.bitsets.specs.BitSets.{members_of}
@@ -18,7 +18,8 @@ loop-w-init c =
       omega (arith, c.power-words.ensures.answer),
       length-replicate {A = ℕ} 256 0,
       record { fits = c.requires.0; chained = c.chain.ensures.written },
-      laying-start ((arrays c.args.states c.args.n c.args.word.now c.args.next.now)) a.first.now a.low.now a.high.now c.requires.1 c.requires.2 c.requires.3,
+      laying-start (arrays c.args.states c.args.n c.args.word.now c.args.next.now) a.first.now a.low.now a.high.now
+          c.requires.1 c.requires.2 c.requires.3,
       refl,
       refl,
     )
@@ -30,14 +31,16 @@ gather-have-requires c =
 
 -- no more groups than edges with the word
 few : (c : After-gather-have)
-    → length (members_of c.gather-have.result) ≤ count ((arrays c.args.states c.args.n c.args.word.now c.args.next.now)) c.loop-w.w
-    (places ((arrays c.args.states c.args.n c.args.word.now c.args.next.now)))
+    → length (members_of c.gather-have.result)
+    ≤ count (arrays c.args.states c.args.n c.args.word.now c.args.next.now) c.loop-w.w
+    (places (arrays c.args.states c.args.n c.args.word.now c.args.next.now))
 few c =
-    states-few ((arrays c.args.states c.args.n c.args.word.now c.args.next.now)) c.requires.0 c.loop-w.w c.gather-have.result _ c.gather-have.ensures.answer
+    states-few (arrays c.args.states c.args.n c.args.word.now c.args.next.now) c.requires.0 c.loop-w.w
+    c.gather-have.result _ c.gather-have.ensures.answer
 
 room : (c : After-gather-have)
     → c.loop-w.k + length (members_of c.gather-have.result)
-    ≤ places ((arrays c.args.states c.args.n c.args.word.now c.args.next.now))
+    ≤ places (arrays c.args.states c.args.n c.args.word.now c.args.next.now)
 room c =
     let l = c.loop-w in
     laying-room _ _ _ _ _ _ _ l.invariant.5 (length (members_of c.gather-have.result)) (few c)
@@ -51,7 +54,8 @@ put_groups-requires c =
           omega (
             arith,
             c.requires.0.few,
-            (member-group ((arrays c.args.states c.args.n c.args.word.now c.args.next.now)) c.requires.0 l.w c.gather-have.result _ c.gather-have.ensures.answer x h q).below,
+            (member-group (arrays c.args.states c.args.n c.args.word.now c.args.next.now) c.requires.0 l.w
+                c.gather-have.result _ c.gather-have.ensures.answer x h q).below,
           ),
       l.invariant.5.first_long,
       omega (arith, room (goal.at.put_groups-requires c).After-gather-have, l.invariant.5.low_long),
@@ -90,13 +94,19 @@ loop-w-preserved c =
       G.long,
       l.invariant.4,
       laying-more _ _ _ _ _ _ _ l.invariant.5 (below (goal.at.loop-w-preserved c).After-count) c.count.result
-          (omega (arith, few (goal.at.loop-w-preserved c).After-gather-have, c.count.ensures.answer)) _ _ _ P.first_long (H.low_long ∙ P.low_long)
+          (omega (arith, few (goal.at.loop-w-preserved c).After-gather-have, c.count.ensures.answer)) _ _ _ P.first_long
+          (H.low_long ∙ P.low_long)
           (H.high_long ∙ P.high_long)
-          (word_same ((arrays c.args.states c.args.n c.args.word.now c.args.next.now)) l.w l.k (l.k + c.count.result) _ _ _ _ _ _
-          (word-laid ((arrays c.args.states c.args.n c.args.word.now c.args.next.now)) c.requires.0 l.w c.gather-have.result _ G _ _ _ l.k _ _ _ P c.count.result
-          c.count.ensures.answer) (λ j b. refl) (λ j b. H.others j (away j (omega (arith, fits (goal.at.loop-w-preserved c).After-count)))))
-          P.edges (λ j b. H.others j (away j (omega (arith, fits (goal.at.loop-w-preserved c).After-count))) ∙ P.others j b)
-          (word-sources ((arrays c.args.states c.args.n c.args.word.now c.args.next.now)) c.requires.0 l.w c.gather-have.result _ G _ _ _ l.k _ _ _ P c.count.result
+          (word_same (arrays c.args.states c.args.n c.args.word.now c.args.next.now) l.w l.k (l.k + c.count.result) _ _
+          _ _ _ _
+          (word-laid (arrays c.args.states c.args.n c.args.word.now c.args.next.now) c.requires.0 l.w
+          c.gather-have.result _ G _ _ _ l.k _ _ _ P c.count.result
+          c.count.ensures.answer) (λ j b. refl)
+          (λ j b. H.others j (away j (omega (arith, fits (goal.at.loop-w-preserved c).After-count)))))
+          P.edges (λ j b. H.others j (away j (omega (arith, fits (goal.at.loop-w-preserved c).After-count)))
+          ∙ P.others j b)
+          (word-sources (arrays c.args.states c.args.n c.args.word.now c.args.next.now) c.requires.0 l.w
+          c.gather-have.result _ G _ _ _ l.k _ _ _ P c.count.result
           c.count.ensures.answer _ _ H)
           (λ v b. H.others (2048 + v) (λ e. omega arith) ∙ P.after (2048 + v) (omega arith)),
       H.low_long ∙ P.low_long ∙ l.invariant.6,
@@ -108,7 +118,8 @@ returns c =
     let l = c.loop-w in
     let z : l.w ≡ 2 ^ c.args.q = omega (arith, l.invariant.0, l.invariant.1, c.loop-w-test.false) in
     record {
-      written = laid ((arrays c.args.states c.args.n c.args.word.now c.args.next.now)) (2 ^ c.args.q) l.k l.start l.first l.low l.high c.requires.0
+      written = laid (arrays c.args.states c.args.n c.args.word.now c.args.next.now) (2 ^ c.args.q) l.k l.start l.first
+          l.low l.high c.requires.0
           (omega (arith, l.invariant.1, l.invariant.2)) c.requires.5 (rw z at l.invariant.5);
     }
 

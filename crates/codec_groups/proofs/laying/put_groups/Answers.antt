@@ -1,7 +1,6 @@
 use Rattle.laws.proofs.All.{◌≡◌, sym, ap, ◌-◌, ◌<◌, arith, T, length, get_or, length-drop, subst}
 use Rattle.bitsets.specs.BitSets.{holds, members_of}
 use Rattle.bitsets.proofs.Sets.{members-hold}
-use Rattle.codec_groups.specs.Groups.{first_edge}
 use Rattle.codec_groups.proofs.Puts.{putting-start, putting-at, putting-some, putting-more}
 use Rattle.codec_groups.proofs.Puts.{putting-done}
 use Rattle.codec_groups.proofs.laying.put_groups.Goals.{In-loop-s}
@@ -31,10 +30,27 @@ pub put_group-requires : goal.put_group-requires
 put_group-requires c =
     let l = c.loop-s in (
       room (goal.at.put_group-requires c).In-loop-s,
-      omega (arith, c.first_edge.ensures.answer, c.requires.2 l.s c.loop-s-test.true (held (goal.at.put_group-requires c).In-loop-s)),
+      omega (
+        arith,
+        c.first_edge.ensures.answer,
+        c.requires.2 l.s c.loop-s-test.true
+            (held (goal.at.put_group-requires c).In-loop-s),
+      ),
       l.invariant.first_long,
-      omega (arith, l.invariant.low_long, (place (goal.at.put_group-requires c).In-loop-s).0, l.invariant.begun, c.requires.4),
-      omega (arith, l.invariant.high_long, (place (goal.at.put_group-requires c).In-loop-s).0, l.invariant.begun, c.requires.5),
+      omega (
+        arith,
+        l.invariant.low_long,
+        (place (goal.at.put_group-requires c).In-loop-s).0,
+        l.invariant.begun,
+        c.requires.4,
+      ),
+      omega (
+        arith,
+        l.invariant.high_long,
+        (place (goal.at.put_group-requires c).In-loop-s).0,
+        l.invariant.begun,
+        c.requires.5,
+      ),
     )
 
 some_left : (i : In-loop-s) → 0 < length (members_of i.loop-s.left)
@@ -51,7 +67,8 @@ loop-s-smaller c =
 
 pub loop-s-preserved : goal.loop-s-preserved
 loop-s-preserved c =
-    putting-more _ _ _ _ _ _ _ _ _ _ _ _ _ c.loop-s.invariant _ _ _ _ _ _ _ c.loop-s-test.true (room (goal.at.loop-s-preserved c).In-loop-s)
+    putting-more _ _ _ _ _ _ _ _ _ _ _ _ _ c.loop-s.invariant _ _ _ _ _ _ _ c.loop-s-test.true
+    (room (goal.at.loop-s-preserved c).In-loop-s)
     c.rest-others.ensures.answer c.lowest-s-in-loop-s.ensures.answer c.first_edge.ensures.answer c.set_at.ensures.answer
     c.put_group.ensures.written
 

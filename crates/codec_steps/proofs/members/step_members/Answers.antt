@@ -35,7 +35,8 @@ pub loop-s-preserved : goal.loop-s-preserved
 loop-s-preserved c =
     let l = c.loop-s in
     let a = c.args in
-    walk-next 128 _ _ _ _ _ _ l.invariant _ _ _ c.loop-s-test.true c.rest-others.ensures.answer c.lowest-s-in-loop-s.ensures.answer
+    walk-next 128 _ _ _ _ _ _ l.invariant _ _ _ c.loop-s-test.true c.rest-others.ensures.answer
+    c.lowest-s-in-loop-s.ensures.answer
     (λ u. c.join-more.ensures.answer u ∙ ap (λ S. holds l.out u || holds S u) c.targets_at.ensures.answer
     ∙ ap (λ k. holds l.out u || holds (targets_at a.low.now a.high.now k) u) c.group_of.ensures.answer)
 

@@ -1,5 +1,5 @@
 -- The members are walked by their groups, or the groups of the word.
-use Rattle.laws.proofs.All.{◌<◌, arith}
+use Rattle.laws.proofs.All.{arith}
 use Rattle.codec_steps.proofs.Shorter.{short-room, short-inside, short-step}
 use Rattle.codec_steps.proofs.members.step_shorter.Goals as goal
 

@@ -11,7 +11,7 @@ loop-i-preserved c =
     let g = c.args.g in
     let e = greatest-more (weight_at g) l.i in
     elim c.if-m-g.branch [
-      then-m-g w ↦ (omega arith, refl, omega arith, omega (arith, w.m-is, w.if-m-g.true))
+      | then-m-g w ↦ (omega arith, refl, omega arith, omega (arith, w.m-is, w.if-m-g.true))
       | else-m-g w ↦ (omega arith, refl, omega arith, omega (arith, w.m-is, w.if-m-g.false))
     ]
 

@@ -28,23 +28,23 @@ loop-w-preserved c =
     let p = c.args in
     let e = c.place_of-t.ensures.answer in
     elim c.if-t-lt16.branch [
-      then-t-lt16+else-m-ge2048 u ↦ (
-      omega arith,
-      omega (arith, u.if-m-ge2048.false, u.m-is),
-      refl,
-      rw (u.h-is, u.m-is)
-          (rowed-yes p.power.now p.index p.s p.g l.h l.m l.w l.invariant.3
-          c.place_of-t.result e
-          (omega (arith, u.if-m-ge2048.false)) u.if-t-lt16.true),
-    )
+      | then-t-lt16+else-m-ge2048 u ↦ (
+        omega arith,
+        omega (arith, u.if-m-ge2048.false, u.m-is),
+        refl,
+        rw (u.h-is, u.m-is)
+            (rowed-yes p.power.now p.index p.s p.g l.h l.m l.w l.invariant.3
+            c.place_of-t.result e
+            (omega (arith, u.if-m-ge2048.false)) u.if-t-lt16.true),
+      )
       | else-t-lt16 u ↦ (
-      omega arith,
-      omega (arith, u.m-is),
-      refl,
-      rw (u.h-is, u.m-is)
-          (rowed-no p.power.now p.index p.s p.g l.h l.m l.w l.invariant.3
-          (omega (arith, u.if-t-lt16.false))),
-    )
+        omega arith,
+        omega (arith, u.m-is),
+        refl,
+        rw (u.h-is, u.m-is)
+            (rowed-no p.power.now p.index p.s p.g l.h l.m l.w l.invariant.3
+            (omega (arith, u.if-t-lt16.false))),
+      )
     ]
 
 pub returns : goal.returns

@@ -47,7 +47,7 @@ pub returns-in-Good : goal.returns-in-Good
 returns-in-Good c =
     let xs = c.args.bytes.now in
     let f = c.front_verdict in
-    let w = held_kept c.Job-of.result (held_job xs)
-    (c.Job-of.ensures ∙ ap (λ o. onward o (λ k. done (job_bringing xs k))) (read (goal.at.returns-in-Good c).After-read_constraint)
+    let w = held_kept c.job_of.result (held_job xs)
+    (c.job_of.ensures.answer ∙ ap (λ o. onward o (λ k. done (job_bringing xs k))) (read (goal.at.returns-in-Good c).After-read_constraint)
     ∙ sym (held_job-from xs ∙ front-good xs f.result f.ensures.answer _ c.in-Good.is)) (held_job-held xs) in
     record { answer = w.0; kept = w.1 }

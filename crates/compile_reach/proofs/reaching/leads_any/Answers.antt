@@ -20,16 +20,16 @@ loop-u-preserved c =
     let p = c.args in
     let f = passes_on p.edge.now p.m.now p.t p.s in
     elim c.if-edge-s.branch [
-      then-edge-s+else-m-t w ↦ (
-      omega arith,
-      any-range-no f c.loop-u.u c.loop-u.invariant.1
-          (ap₂ (λ a b. a && b) w.if-edge-s.true w.if-m-t.false),
-    )
+      | then-edge-s+else-m-t w ↦ (
+        omega arith,
+        any-range-no f c.loop-u.u c.loop-u.invariant.1
+            (ap₂ (λ a b. a && b) w.if-edge-s.true w.if-m-t.false),
+      )
       | else-edge-s w ↦ (
-      omega arith,
-      any-range-no f c.loop-u.u c.loop-u.invariant.1
-          (ap (λ a. a && get_or p.m.now (p.t * 16 + c.loop-u.u) false) w.if-edge-s.false),
-    )
+        omega arith,
+        any-range-no f c.loop-u.u c.loop-u.invariant.1
+            (ap (λ a. a && get_or p.m.now (p.t * 16 + c.loop-u.u) false) w.if-edge-s.false),
+      )
     ]
 
 pub returns : goal.returns

@@ -13,18 +13,18 @@ loop-t-preserved c =
     let q : ℕ → Bool = λ x. ltb 0 (get_or p.v x 0) && reach_at p.m.now x p.s in
     let e = c.is_member.ensures.answer in
     elim c.if-is_member.branch [
-      then-is_member w ↦ (
-      omega arith,
-      omega arith,
-      rw (w.state-is, w.index-is, w.count-is)
-          (numbered-yes q l.t l.count l.state l.index (omega arith) l.invariant.2 (sym e ∙ w.if-is_member.true)),
-    )
+      | then-is_member w ↦ (
+        omega arith,
+        omega arith,
+        rw (w.state-is, w.index-is, w.count-is)
+            (numbered-yes q l.t l.count l.state l.index (omega arith) l.invariant.2 (sym e ∙ w.if-is_member.true)),
+      )
       | else-is_member w ↦ (
-      omega arith,
-      omega arith,
-      rw (w.state-is, w.index-is, w.count-is)
-          (numbered-no q l.t l.count l.state l.index (omega arith) l.invariant.2 (sym e ∙ w.if-is_member.false)),
-    )
+        omega arith,
+        omega arith,
+        rw (w.state-is, w.index-is, w.count-is)
+            (numbered-no q l.t l.count l.state l.index (omega arith) l.invariant.2 (sym e ∙ w.if-is_member.false)),
+      )
     ]
 
 pub returns : goal.returns

@@ -55,27 +55,27 @@ loop-t-preserved c =
     let S = c.reach_rows-set.result in
     let I = c.ranks-index.result in
     elim c.if-set-t.branch [
-      then-set-t w ↦ (
-      l.invariant.0,
-      l.invariant.1,
-      l.invariant.2,
-      omega arith,
-      refl,
-      rw (w.rows-is, w.count-is)
-          (laid-yes p.n p.g l.invariant.0 S l.invariant.1 I l.invariant.2 l.t l.count l.rows l.invariant.5
-          w.if-set-t.true
-          w.add_row-r.result w.add_row-r.ensures.answer),
-    )
+      | then-set-t w ↦ (
+        l.invariant.0,
+        l.invariant.1,
+        l.invariant.2,
+        omega arith,
+        refl,
+        rw (w.rows-is, w.count-is)
+            (laid-yes p.n p.g l.invariant.0 S l.invariant.1 I l.invariant.2 l.t l.count l.rows l.invariant.5
+            w.if-set-t.true
+            w.add_row-r.result w.add_row-r.ensures.answer),
+      )
       | else-set-t w ↦ (
-      l.invariant.0,
-      l.invariant.1,
-      l.invariant.2,
-      omega arith,
-      refl,
-      rw (w.rows-is, w.count-is)
-          (laid-no p.n p.g l.invariant.0 S l.invariant.1 I l.invariant.2 l.t l.count l.rows l.invariant.5
-          w.if-set-t.false),
-    )
+        l.invariant.0,
+        l.invariant.1,
+        l.invariant.2,
+        omega arith,
+        refl,
+        rw (w.rows-is, w.count-is)
+            (laid-no p.n p.g l.invariant.0 S l.invariant.1 I l.invariant.2 l.t l.count l.rows l.invariant.5
+            w.if-set-t.false),
+      )
     ]
 
 pub returns : goal.returns

@@ -9,18 +9,18 @@ loop-w-preserved c =
     let l = c.loop-w in
     let p = c.args in
     elim c.if-power-s.branch [
-      then-power-s u ↦ (
-      omega arith,
-      omega (arith, u.count-is),
-      omega
-          (arith, u.count-is, count_yes p.power.now p.s p.t l.w u.if-power-s.true),
-    )
+      | then-power-s u ↦ (
+        omega arith,
+        omega (arith, u.count-is),
+        omega
+            (arith, u.count-is, count_yes p.power.now p.s p.t l.w u.if-power-s.true),
+      )
       | else-power-s u ↦ (
-      omega arith,
-      omega (arith, u.count-is),
-      omega
-          (arith, u.count-is, count_no p.power.now p.s p.t l.w u.if-power-s.false),
-    )
+        omega arith,
+        omega (arith, u.count-is),
+        omega
+            (arith, u.count-is, count_no p.power.now p.s p.t l.w u.if-power-s.false),
+      )
     ]
 
 pub returns : goal.returns

@@ -1,4 +1,4 @@
-use Rattle.laws.proofs.All.{ap₂, refl, ◌+◌, ◌*◌, ◌-◌, arith, length-set}
+use Rattle.laws.proofs.All.{ap₂, refl, ◌+◌, ◌*◌, arith, length-set}
 use Rattle.laws.proofs.All.{map-range-same}
 use Rattle.bits.specs.Fields.{bits_of}
 use Rattle.record.specs.Layout.{header_bits, state_size}
@@ -28,7 +28,8 @@ pub returns : goal.returns
 returns c =
     let a = c.args in
     record {
-      answer = map-range-same _ _ a.count (λ k h. ap₂ (λ x y. record { zero = x; one = y }) (c.loop-s.invariant.3 k (omega arith))
+      answer = map-range-same _ _ a.count
+          (λ k h. ap₂ (λ x y. record { zero = x; one = y }) (c.loop-s.invariant.3 k (omega arith))
           (c.loop-s.invariant.4 k (omega arith)));
       kept = refl;
     }

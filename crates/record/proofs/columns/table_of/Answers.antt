@@ -31,5 +31,6 @@ returns c =
     record {
       answer = code_is a.f (bits_of a.bytes.now) c.column-word.result c.column-next.result _
           c.power-n.result
-          c.power-n.ensures.answer c.states_of-constraint.ensures.answer c.column-word.ensures.answer c.column-next.ensures.answer;
+          c.power-n.ensures.answer c.states_of-constraint.ensures.answer c.column-word.ensures.answer
+          c.column-next.ensures.answer;
     }

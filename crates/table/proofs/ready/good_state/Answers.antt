@@ -11,4 +11,7 @@ returns-then-next-eq255 c =
 pub returns : goal.returns
 returns c =
     let a = c.args in
-    record { answer = sym (ap₂ (λ b m. b || ltb m a.k) (ne_eqb a.next none c.if-next-eq255.false) (sym c.wide.ensures.answer.0)) }
+    record {
+      answer = sym (ap₂ (λ b m. b || ltb m a.k) (ne_eqb a.next none c.if-next-eq255.false)
+          (sym c.wide.ensures.answer.0));
+    }

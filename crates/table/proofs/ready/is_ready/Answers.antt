@@ -19,7 +19,8 @@ pub returns-then-not-good_head : goal.returns-then-not-good_head
 returns-then-not-good_head c =
     record {
       answer = ready-head c.args.t
-          (head-is (goal.at.returns-then-not-good_head c).After-good_head ∙ not-true c.good_head.result (ap not c.if-not-good_head.true));
+          (head-is (goal.at.returns-then-not-good_head c).After-good_head
+          ∙ not-true c.good_head.result (ap not c.if-not-good_head.true));
     }
 
 pub returns-then-not-good_nexts : goal.returns-then-not-good_nexts

@@ -1,5 +1,5 @@
 -- `put_failure` meets its contract: each return follows the first of the three tests that fails.
-use Rattle.laws.proofs.All.{◌≡◌, sym, ◌∙◌, true, ◌<◌, length, range, all, any, not-true, not-false}
+use Rattle.laws.proofs.All.{◌≡◌, sym, ◌∙◌, true, ◌<◌, length, range, all, any}
 use Rattle.text.proofs.Adding.{added-same}
 use Rattle.compile_graph.specs.Weights.{low, weighty}
 use Rattle.compile_weights.specs.PowerTable.{tabled}
@@ -9,7 +9,6 @@ use Rattle.trace_stages.specs.FailText.{over_line, zero_line}
 use Rattle.trace_stages.proofs.Failed.{all-low, fail-over, fail-zero, fail-short, not-met}
 use Rattle.trace_stages.proofs.Failed.{unmet-below, unmet-first}
 use Rattle.std.proofs.Common.{rules}
-use Rattle.laws.proofs.All.{ap, not}
 use Rattle.trace_stages.proofs.failures.put_failure.Goals.{After-first_unmet-t, Else-not-is_some, Else-s-k, Start}
 use Rattle.trace_stages.proofs.failures.put_failure.Goals as goal
 
@@ -21,29 +20,34 @@ lows : (c : Else-s-k) → let a = c.args in
     all (low a.cap a.v) (range a.k) ≡ true
 lows c =
     let a = c.args in
-    all-low a.n a.cap a.k ((tabled c.args.power.now c.args.words c.args.k)) a.v c.requires.0.states (wide (CROSS c Start)) _ c.first_over-s.ensures.answer
-    c.if-s-k.false
+    let wide : length a.v ≡ 16 = search rules in
+    all-low a.n a.cap a.k (tabled a.power.now a.words a.k) a.v c.requires.0.states wide _
+    c.first_over-s.ensures.answer c.if-s-k.false
 
 -- one of them is above 0
 some : (c : Else-not-is_some) → let a = c.args in
     any (weighty a.v) (range a.k) ≡ true
-some c = sym c.is_some.ensures.answer ∙ not-false c.is_some.result (ap not c.if-not-is_some.false)
+some c = sym c.is_some.ensures.answer ∙ c.if-not-is_some.false
 
 -- the inequality fails at the state that is found
 below : (c : After-first_unmet-t) →
     c.first_unmet-t.result < c.args.k
 below c =
     let a = c.args in
+    let g = tabled a.power.now a.words a.k in
+    let wide : length a.v ≡ 16 = search rules in
+    let lows = all-low a.n a.cap a.k g a.v c.requires.0.states wide _ c.first_over-s.ensures.answer c.if-s-k.false in
+    let some = sym c.is_some.ensures.answer ∙ c.if-not-is_some.false in
     unmet-below a.power.now c.word_counts-count.result a.words a.k a.n c.requires.0.states c.requires.1
-    (λ x h. (c.word_counts-count.ensures.answer x h).0) a.v (wide (CROSS c Start)) _ c.first_unmet-t.ensures.answer
-    (not-met a.n a.cap a.k ((tabled c.args.power.now c.args.words c.args.k)) a.v c.requires.0.states (wide (CROSS c Start)) (lows (CROSS c Else-s-k)) (some (CROSS c Else-not-is_some)) c.requires.4)
+    (λ x h. (c.word_counts-count.ensures.answer x h).0) a.v wide _ c.first_unmet-t.ensures.answer
+    (not-met a.n a.cap a.k g a.v c.requires.0.states wide lows some c.requires.4)
 
 pub returns-then-s-k : goal.returns-then-s-k
 unfolding over_line
 returns-then-s-k c =
     let a = c.args in
     record {
-      written = added-same (fail-over a.n a.cap a.k ((tabled c.args.power.now c.args.words c.args.k)) a.v c.requires.0.states (wide (goal.at.returns-then-s-k c).Start) _
+      written = added-same (fail-over a.n a.cap a.k (tabled a.power.now a.words a.k) a.v c.requires.0.states (wide (goal.at.returns-then-s-k c).Start) _
           c.first_over-s.ensures.answer c.if-s-k.true) c.put_sentence.ensures.written;
     }
 
@@ -52,8 +56,8 @@ unfolding zero_line
 returns-then-not-is_some c =
     let a = c.args in
     record {
-      written = added-same (fail-zero a.n a.cap a.k ((tabled c.args.power.now c.args.words c.args.k)) a.v c.requires.0.states (wide (goal.at.returns-then-not-is_some c).Start) (lows (goal.at.returns-then-not-is_some c).Else-s-k)
-          (sym c.is_some.ensures.answer ∙ not-true c.is_some.result (ap not c.if-not-is_some.true))) c.put.ensures.written;
+      written = added-same (fail-zero a.n a.cap a.k (tabled a.power.now a.words a.k) a.v c.requires.0.states (wide (goal.at.returns-then-not-is_some c).Start) (lows (goal.at.returns-then-not-is_some c).Else-s-k)
+          (sym c.is_some.ensures.answer ∙ c.if-not-is_some.true)) c.put.ensures.written;
     }
 
 pub first_unmet-t-requires : goal.first_unmet-t-requires
@@ -81,7 +85,7 @@ pub returns : goal.returns
 returns c =
     let a = c.args in
     record {
-      written = added-same (fail-short a.n a.cap a.k ((tabled c.args.power.now c.args.words c.args.k)) a.v c.requires.0.states (wide (goal.at.returns c).Start) (lows (goal.at.returns c).Else-s-k) (some (goal.at.returns c).Else-not-is_some) _ _
+      written = added-same (fail-short a.n a.cap a.k (tabled a.power.now a.words a.k) a.v c.requires.0.states (wide (goal.at.returns c).Start) (lows (goal.at.returns c).Else-s-k) (some (goal.at.returns c).Else-not-is_some) _ _
           (below (goal.at.returns c).After-first_unmet-t) (unmet-first a.power.now c.word_counts-count.result a.words a.k a.n c.requires.0.states
           c.requires.1 (λ x h. (c.word_counts-count.ensures.answer x h).0) a.v (wide (goal.at.returns c).Start) _ c.first_unmet-t.ensures.answer (below (goal.at.returns c).After-first_unmet-t))
           (sum_is a.power.now c.word_counts-count.result a.words a.k c.requires.0.states
