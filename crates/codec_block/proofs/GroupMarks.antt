@@ -44,7 +44,7 @@ module _ (t : Arrays) (start first low high : List ℕ) (g : Grouped t start fir
   edge-from e l b p =
       let (k, (_, i, j), q) = g.whole w e hw l (T→true (bears t w e) b) in
       →between (holds_from first P) (get_or start w 0) (get_or start (w + 1) 0) k i j
-          (subst (λ x. T (holds P x)) (sym q) p)
+      (subst (λ x. T (holds P x)) (sym q) p)
 
   →some : T (some_edge (rows_of t) S w) → T (between (holds_from first P) (get_or start w 0) (get_or start (w + 1) 0))
   →some h =
@@ -63,7 +63,7 @@ module _ (t : Arrays) (start first low high : List ℕ) (g : Grouped t start fir
   pub some-group : between (holds_from first P) (get_or start w 0) (get_or start (w + 1) 0) ≡ some_edge (rows_of t) S w
   some-group =
       bool_eq (between (holds_from first P) (get_or start w 0) (get_or start (w + 1) 0)) (some_edge (rows_of t) S w)
-          some→
+      some→
       →some
 
   -- the mark by the answer b of a test of the groups

@@ -42,7 +42,8 @@ held-before xs =
     (unless-before Parameters (good_parameters (get_or xs 0 0) (get_or xs 1 0) (get_or xs 2 0)) _ (inl (omega arith))
     (unless-before States (leb 1 K && leb K 16) _ (inl (omega arith))
     (unless-before Length (eqb (length xs) (4 + 2 * K) || eqb (length xs) (4 + 3 * K)) _ (inr (inl refl))
-    (unless-before States (all (good_next K) (states_of K (drop 4 xs))) _ (inl (omega arith)) (refuses-done Before _)))))
+    (unless-before States (all (good_next K) (states_of K (drop 4 xs))) _ (inl (omega arith))
+    (refuses-done Before _)))))
 
 pub run-length-before : (xs : List ℕ) → Refuses Before (held_run_length xs)
 unfolding held_run_length

@@ -37,6 +37,7 @@ module _ {A : Type 0} (o : Outcome A) (f : A → Outcome (List ℕ)) (B : List �
 -- a table whose fields are in range is written as its code is
 pub goes-packed : (t : Table) (o : Outcome Code) (B C : List ℕ) (r : Answer) → T (ready t) → o ≡ done (code_in t)
     → r ≡ answer_of (pack_with t (length B)) → C ≡ output_of (pack_with t (length B)) B
-    → (r ≡ answer_of (onward o (λ c. pack_into c (length B)))) × (C ≡ output_of (onward o (λ c. pack_into c (length B))) B)
+    → (r ≡ answer_of (onward o (λ c. pack_into c (length B))))
+    × (C ≡ output_of (onward o (λ c. pack_into c (length B))) B)
 goes-packed t o B C r k e p q =
     let z = pack-ready t (length B) k in rw e (rw z at p, rw z at q)

@@ -1,6 +1,7 @@
 -- "Compiling": a job to a code, and to its record in lent bytes, with refusals "3, 4, 5, 6, 13" in this order.
 -- In order: ways, graph_of; Vector, what the weights are the greatest of; greatest_of, used, weights_of, component_of,
--- start_of, finished_of, table_for; code, compile; compile_into; compile_job, compile_run_length, compile_joined, from bytes to
+-- start_of, finished_of, table_for; code, compile; compile_into; compile_job, compile_run_length, compile_joined, from
+-- bytes to
 -- bytes.
 -- Assumes nothing.
 use Rattle.std.specs.Prelude.{not, List, ℕ, ◌^◌, ◌≤◌, ltb, leb, length, get_or}

@@ -28,47 +28,49 @@ first-filter p d f e (x ∷ l) h = go (p (f x)) refl h (first-filter p d f e l)
     go true q u r = (x, rw q, first-yes p d (f x) (map f l) q)
     go false q u r = let (y, a, b) = r u in (y, rw q a, first-no p d (f x) (map f l) q ∙ b)
 
-module _ (g : Graph) (s : ℕ) (fits : Fits g) (M : ℕ) (some : T (any (lighter (weights_in g) M) (out (arcs_in g) s))) where
-  abbrev v : List ℕ
-  v = weights_in g
+module _ (g : Graph) (s : ℕ) (fits : Fits g) (M : ℕ) (some : T (any (lighter (weights_in g) M) (out (arcs_in g) s)))
+  where
+    abbrev v : List ℕ
+    v = weights_in g
 
-  abbrev ks : List ℕ
-  ks = keys_from (arcs_in g) s
+    abbrev ks : List ℕ
+    ks = keys_from (arcs_in g) s
 
-  light-filter : filter (admitted v M 65535) ks ≡ filter (λ k. lighter v M (arc_of s k)) ks
-  light-filter =
-      filter_same (admitted v M 65535) (λ k. lighter v M (arc_of s k)) ks
-      (each_map (λ k. k < 32768) _ (λ k h. rw (ne_eqb k 65535 (λ e. omega arith)) (and-true _)) ks
-      (keys-small g s fits))
+    light-filter : filter (admitted v M 65535) ks ≡ filter (λ k. lighter v M (arc_of s k)) ks
+    light-filter =
+        filter_same (admitted v M 65535) (λ k. lighter v M (arc_of s k)) ks
+        (each_map (λ k. k < 32768) _ (λ k h. rw (ne_eqb k 65535 (λ e. omega arith)) (and-true _)) ks
+        (keys-small g s fits))
 
-  light-any : any (λ k. lighter v M (arc_of s k)) ks ≡ true
-  light-any =
-      sym (any-map (lighter v M) (arc_of s) ks) ∙ ap (any (lighter v M)) (sym (sort-keys g s fits))
-      ∙ T→true (any (lighter v M) (sort (out (arcs_in g) s))) (any-sort (lighter v M) (out (arcs_in g) s) some)
+    light-any : any (λ k. lighter v M (arc_of s k)) ks ≡ true
+    light-any =
+        sym (any-map (lighter v M) (arc_of s) ks) ∙ ap (any (lighter v M)) (sym (sort-keys g s fits))
+        ∙ T→true (any (lighter v M) (sort (out (arcs_in g) s))) (any-sort (lighter v M) (out (arcs_in g) s) some)
 
-  pub light-at : (r : Keys) → keys_in r ≡ first_keys g s M 65535 1 → r.count ≤ 1
-      → first (lighter v M) (arc 0 0 0) (sort (out (arcs_in g) s)) ≡ arc_of s (get_or r.key 0 0)
-  unfolding first_keys
-  light-at r e h =
-      let (x, a, b) = first-filter (lighter v M) (arc 0 0 0) (arc_of s) 0 ks light-any in
-      let q : keys_in r ≡ x ∷ [] = e ∙ ap (take 1) light-filter ∙ a in
-      let l : 0 < r.count = omega (arith, ap length q, length-take r.count r.key) in
-      rw (sort-keys g s fits) (cc (b, get_or-take r.count r.key 0 0 l))
+    pub light-at : (r : Keys) → keys_in r ≡ first_keys g s M 65535 1 → r.count ≤ 1
+        → first (lighter v M) (arc 0 0 0) (sort (out (arcs_in g) s)) ≡ arc_of s (get_or r.key 0 0)
+    unfolding first_keys
+    light-at r e h =
+        let (x, a, b) = first-filter (lighter v M) (arc 0 0 0) (arc_of s) 0 ks light-any in
+        let q : keys_in r ≡ x ∷ [] = e ∙ ap (take 1) light-filter ∙ a in
+        let l : 0 < r.count = omega (arith, ap length q, length-take r.count r.key) in
+        rw (sort-keys g s fits) (cc (b, get_or-take r.count r.key 0 0 l))
 
-  passes : (l k : ℕ) → admitted v 256 l k ≡ other (arc_of s l) (arc_of s k)
-  passes l k = rw (lt-ltb (get_or v (k % 128) 0) 256 (weights-small g s fits (k % 128))) (sym (ap not (same-arcs s k l)))
+    passes : (l k : ℕ) → admitted v 256 l k ≡ other (arc_of s l) (arc_of s k)
+    passes l k = rw (lt-ltb (get_or v (k % 128) 0) 256 (weights-small g s fits (k % 128)))
+        (sym (ap not (same-arcs s k l)))
 
-  others-keys : (l n : ℕ) → map (arc_of s) (first_keys g s 256 l n)
-      ≡ take n (filter (other (arc_of s l)) (sort (out (arcs_in g) s)))
-  unfolding first_keys
-  others-keys l n =
-      rw (sort-keys g s fits, map-take (arc_of s) n, filter_map (other (arc_of s l)) (arc_of s) ks)
-      (ap (λ x. take n (map (arc_of s) x)) (filter_same (admitted v 256 l) _ ks (each-always _ (passes l) ks)))
+    others-keys : (l n : ℕ) → map (arc_of s) (first_keys g s 256 l n)
+        ≡ take n (filter (other (arc_of s l)) (sort (out (arcs_in g) s)))
+    unfolding first_keys
+    others-keys l n =
+        rw (sort-keys g s fits, map-take (arc_of s) n, filter_map (other (arc_of s l)) (arc_of s) ks)
+        (ap (λ x. take n (map (arc_of s) x)) (filter_same (admitted v 256 l) _ ks (each-always _ (passes l) ks)))
 
-  pub candidates-keys : (n : ℕ) (light others r : Keys) → keys_in light ≡ first_keys g s M 65535 1 → light.count ≤ 1
-      → keys_in others ≡ first_keys g s 256 (get_or light.key 0 0) (n - 1)
-      → keys_in r ≡ get_or light.key 0 0 ∷ keys_in others
-      → map (arc_of s) (keys_in r) ≡ candidates n v M (sort (out (arcs_in g) s))
-  candidates-keys n light others r a h b e =
-      rw (light-at light a h, e, b)
-      (ap (λ x. arc_of s (get_or light.key 0 0) ∷ x) (others-keys (get_or light.key 0 0) (n - 1)))
+    pub candidates-keys : (n : ℕ) (light others r : Keys) → keys_in light ≡ first_keys g s M 65535 1 → light.count ≤ 1
+        → keys_in others ≡ first_keys g s 256 (get_or light.key 0 0) (n - 1)
+        → keys_in r ≡ get_or light.key 0 0 ∷ keys_in others
+        → map (arc_of s) (keys_in r) ≡ candidates n v M (sort (out (arcs_in g) s))
+    candidates-keys n light others r a h b e =
+        rw (light-at light a h, e, b)
+        (ap (λ x. arc_of s (get_or light.key 0 0) ∷ x) (others-keys (get_or light.key 0 0) (n - 1)))

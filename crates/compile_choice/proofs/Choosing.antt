@@ -78,7 +78,8 @@ module _ (g : Graph) (M : ℕ) where
         let at : get_or (arcs_in g) k (arc 0 0 0) ≡ arc_at g k = map-range-at (arc_at g) g.edges k (arc 0 0 0) h in
         let light : T (lighter v (greatest v) (arc_at g k)) =
         rw (weigh (get_or g.target k 0) (f.target k h), ← e) b in
-        →and (eqb (get_or v (source_at k) 0) (greatest v)) (any (lighter v (greatest v)) (out (arcs_in g) (source_at k)))
+        →and (eqb (get_or v (source_at k) 0) (greatest v))
+        (any (lighter v (greatest v)) (out (arcs_in g) (source_at k)))
         (rw (weigh (source_at k) (f.source k h), ← e) a)
         (rw (any-filter (lighter v (greatest v)) (leaves (source_at k)) (arcs_in g))
         (→any (λ x. leaves (source_at k) x && lighter v (greatest v) x) (arc 0 0 0) (arcs_in g) k

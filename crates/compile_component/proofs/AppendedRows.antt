@@ -15,11 +15,13 @@ use Rattle.compile_component.specs.ComponentParts.{place_of, row_keeps, row_arc,
 use Rattle.compile_graph.proofs.Values.{with_arc, Appended, appended-count, appended-more, arcs-count, climbs}
 
 module _ (P I : List ℕ) (s : ℕ) where
-  row_snoc : (w : ℕ) → row_arcs P I s (w + 1) ≡ row_arcs P I s w ++ map (row_arc P I s) (filter (row_keeps P I s) (w ∷ []))
+  row_snoc : (w : ℕ) → row_arcs P I s (w + 1) ≡ row_arcs P I s w ++ map (row_arc P I s)
+      (filter (row_keeps P I s) (w ∷ []))
   row_snoc w = rw (range-more w, filter-append (row_keeps P I s) (range w))
       (map-append (row_arc P I s) (filter (row_keeps P I s) (range w)) (filter (row_keeps P I s) (w ∷ [])))
 
-  row-yes : (w : ℕ) → place_of I (entry_at P s w) < 16 → row_arcs P I s (w + 1) ≡ row_arcs P I s w ++ (row_arc P I s w ∷ [])
+  row-yes : (w : ℕ) → place_of I (entry_at P s w) < 16 → row_arcs P I s (w + 1) ≡ row_arcs P I s w
+      ++ (row_arc P I s w ∷ [])
   row-yes w h = row_snoc w ∙ rw (lt-ltb (place_of I (entry_at P s w)) 16 h)
 
   row-no : (w : ℕ) → 16 ≤ place_of I (entry_at P s w) → row_arcs P I s (w + 1) ≡ row_arcs P I s w

@@ -108,14 +108,16 @@ module _ (P : List ℕ) (words k : ℕ) (pw : Powers P words k) (v : List ℕ) (
     row_is : (x : ℕ) → x < k → map (renamed C) (filter (both C) (words_at P words x)) ≡ row_of_state P words I x
     row_is x h = go (elem x C) refl
       where
-        go : (b : Bool) → elem x C ≡ b → map (renamed C) (filter (both C) (words_at P words x)) ≡ row_of_state P words I x
+        go : (b : Bool) → elem x C ≡ b → map (renamed C) (filter (both C) (words_at P words x)) ≡ row_of_state P words I
+            x
         go true e =
             ap (map (renamed C)) (filter_map (both C) (word_at P x) (range words))
             ∙ map-map (renamed C) (word_at P x) (filter (λ w. both C (word_at P x w)) (range words))
             ∙ ap (map (λ w. renamed C (word_at P x w)))
             (filter_same (λ w. both C (word_at P x w)) (row_keeps P I x) (range words)
             (each_map (λ w. w < words) _
-            (λ w l. ap (λ b. b && elem (entry_at P x w) C) e ∙ keep-is (entry_at P x w) (pw.leads x w h l)) (range words)
+            (λ w l. ap (λ b. b && elem (entry_at P x w) C) e ∙ keep-is (entry_at P x w) (pw.leads x w h l))
+            (range words)
             (each-range words)))
             ∙ map_each (λ w. renamed C (word_at P x w)) (row_arc P I x) (filter (row_keeps P I x) (range words))
             (each-filter (λ w. renamed C (word_at P x w) ≡ row_arc P I x w) (row_keeps P I x) (range words)

@@ -37,7 +37,8 @@ module _ (v : List ℕ) (k : ℕ) (few : k ≤ 16) (long : length v ≡ 16) wher
       (edges : (x : ℕ) → x < k * 16 → get_or E x false ≡ live_edge A v x) where
     -- at s * 16 + u
     edge-at : (s u : ℕ) → s < k → u < k
-        → get_or E (s * 16 + u) false ≡ (ltb 0 (get_or v s 0) && (ltb 0 (get_or v u 0) && ltb 0 (word_count P words s u)))
+        → get_or E (s * 16 + u) false ≡ (ltb 0 (get_or v s 0)
+        && (ltb 0 (get_or v u 0) && ltb 0 (word_count P words s u)))
     edge-at s u h l =
         let x = s * 16 + u in
         let b : x < k * 16 = omega arith in
@@ -55,7 +56,8 @@ module _ (v : List ℕ) (k : ℕ) (few : k ≤ 16) (long : length v ≡ 16) wher
           let (s', h, a) = any-below→ (λ s'. any (found s') (range words)) k t in
           let (w, l, b) = any-below→ (found s') words a in
           let u = entry_at P s' w in
-          let (on, rest) = and→ (leads_on (word_at P s' w)) (both L (word_at P s' w) && leads_into S s (word_at P s' w)) b in
+          let (on, rest) = and→ (leads_on (word_at P s' w)) (both L (word_at P s' w) && leads_into S s (word_at P s' w))
+          b in
           let (two, into) = and→ (both L (word_at P s' w)) (leads_into S s (word_at P s' w)) rest in
           let (ls, lu) = and→ (elem s' L) (elem u L) two in
           let (same, m) = and→ (eqb s' s) (member S u) into in

@@ -4,7 +4,8 @@
 -- constraint_from-lawful, constraint_from-length, constraint_from-fits.
 -- Assumes nothing.
 use Rattle.laws.proofs.All.{◌≡◌, refl, sym, ap, subst, ◌∙◌, ◌⊎◌, inl, inr, Bool, ◌&&◌, List, ℕ, zero, suc, ◌+◌, ◌*◌}
-use Rattle.laws.proofs.All.{◌≤◌, T, ltb, leb, eqb, ltb→lt, leb→le, eqb→eq, length, get_or, drop, all, and→, or→, each_map}
+use Rattle.laws.proofs.All.{◌≤◌, T, ltb, leb, eqb, ltb→lt, leb→le, eqb→eq, length, get_or, drop, all, and→, or→}
+use Rattle.laws.proofs.All.{each_map}
 use Rattle.laws.proofs.All.{all-each}
 use Rattle.answer.specs.declared.Refusal.TheVariants.{States, Length}
 use Rattle.answer.specs.Outcomes.{Outcome, done, unless}

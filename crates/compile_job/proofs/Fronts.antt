@@ -27,7 +27,8 @@ module _ {A : Type 0} (xs : List ℕ) (o : Outcome A) where
   front-parameters h e =
       unless-true Length (leb 4 (length xs)) _ (le→leb 4 (length xs) h) ∙ unless-false Parameters _ o e
 
-  pub front-passed : 4 ≤ length xs → T (good_parameters (get_or xs 0 0) (get_or xs 1 0) (get_or xs 2 0)) → fronted xs o ≡ o
+  pub front-passed : 4 ≤ length xs → T (good_parameters (get_or xs 0 0) (get_or xs 1 0) (get_or xs 2 0)) → fronted xs o
+      ≡ o
   front-passed h t =
       unless-true Length (leb 4 (length xs)) _ (le→leb 4 (length xs) h)
       ∙ unless-true Parameters (good_parameters (get_or xs 0 0) (get_or xs 1 0) (get_or xs 2 0)) o t

@@ -19,7 +19,8 @@ use Rattle.table.specs.Formed.{good_next}
 use Rattle.joining.specs.Joined.{joined}
 use Rattle.joining.proofs.Joined.{joined-lawful}
 use Rattle.compile_job.specs.Jobs.{Job, good_parameters, bringing, fit, fitted, states_of, constraint_from, fronted}
-use Rattle.compile_job.specs.Jobs.{held_with, job_bringing, job_with, held_job, read_job, held_run_length, read_run_length}
+use Rattle.compile_job.specs.Jobs.{held_with, job_bringing, job_with, held_job, read_job, held_run_length}
+use Rattle.compile_job.specs.Jobs.{read_run_length}
 use Rattle.compile_job.specs.Jobs.{read_listed, read_joined, Allowed}
 use Rattle.compile_job.specs.declared.ConstraintAnswer.{ConstraintAnswer}
 use Rattle.compile_job.specs.JobValues.{Counted, Held, Sized, spare, constraint_outcome}

@@ -2,7 +2,8 @@
 -- In order: joins-lawful; joins-exact, joined-job; too-many-read; joined-from, where the second constraint starts.
 -- Assumes nothing.
 use Rattle.laws.proofs.All.{◌≡◌, refl, sym, ap, ◌∙◌, ◌↔◌, inl, inr, Bool, true, false, List, ℕ, ◌+◌, ◌*◌, ◌≤◌, ◌<◌}
-use Rattle.laws.proofs.All.{arith, min, T, leb, eqb, leb→le, leb-false, lt-leb, length, get_or, drop, drop_min, get_or-drop}
+use Rattle.laws.proofs.All.{arith, min, T, leb, eqb, leb→le, leb-false, lt-leb, length, get_or, drop, drop_min}
+use Rattle.laws.proofs.All.{get_or-drop}
 use Rattle.answer.specs.declared.Refusal.{Refusal}
 use Rattle.answer.specs.declared.Refusal.TheVariants.{Parameters, Length, TooManyPairs}
 use Rattle.answer.specs.Refusals.{number_of}

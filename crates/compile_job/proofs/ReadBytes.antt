@@ -70,7 +70,8 @@ bytes-bring size long xs h (inr e) = inr (e, bringing-some size xs (λ k. omega 
 -- ---- a job
 job_is : (xs : List ℕ) (j : Job) → read_job xs ≡ done j → let K = get_or xs 3 0 in (1 ≤ K)
     × ((length xs ≡ 4 + 2 * K) ⊎ (length xs ≡ 4 + 3 * K))
-    × (j ≡ held_with (get_or xs 0 0) (get_or xs 1 0) (get_or xs 2 0) (states_of K (drop 4 xs)) (bringing (4 + 2 * K) xs))
+    × (j ≡ held_with (get_or xs 0 0) (get_or xs 1 0) (get_or xs 2 0) (states_of K (drop 4 xs))
+    (bringing (4 + 2 * K) xs))
 unfolding read_job held_job
 job_is xs j e =
     let K = get_or xs 3 0 in

@@ -1,8 +1,10 @@
 -- The job that a value of the code's struct stands for, and what its reading comes to.
--- In order: job_in; JobReady, what compiling needs of a value; Counted, Held, Sized; job_outcome; state_at, good_state_at,
+-- In order: job_in; JobReady, what compiling needs of a value; Counted, Held, Sized; job_outcome; state_at,
+-- good_state_at,
 -- the next states in a constraint's bytes; spare, sized; constraint_outcome.
 -- Assumes nothing.
-use Rattle.std.specs.Prelude.{◌≡◌, ◌⊎◌, ℕ, ◌+◌, ◌*◌, ◌/◌, ◌≤◌, Bool, true, false, ◌||◌, List, T, leb, eqb, length, get_or, take}
+use Rattle.std.specs.Prelude.{◌≡◌, ◌⊎◌, ℕ, ◌+◌, ◌*◌, ◌/◌, ◌≤◌, Bool, true, false, ◌||◌, List, T, leb, eqb, length}
+use Rattle.std.specs.Prelude.{get_or, take}
 use Rattle.laws.specs.Lists.{if◌then◌else◌}
 use Rattle.answer.specs.Outcomes.{Outcome, verdict_on}
 use Rattle.constraint.specs.Walking.{NextStates, Constraint, Lawful}

@@ -5,7 +5,8 @@
 -- Assumes nothing.
 use Rattle.laws.proofs.All.{◌≡◌, refl, sym, ap, subst, ◌∙◌, Bool, true, false, ◌&&◌, List, [], ℕ, ◌≤◌, ◌<◌, zero-add}
 use Rattle.laws.proofs.All.{arith, dec_lt, T, T_not, T→true, eqb→eq, eq-eqb, length, get_or, take, length-map}
-use Rattle.laws.proofs.All.{length-take-le, get_or-take, get_or-map-lt, range, filter, first, any, elem, index_of, extend}
+use Rattle.laws.proofs.All.{length-take-le, get_or-take, get_or-map-lt, range, filter, first, any, elem, index_of}
+use Rattle.laws.proofs.All.{extend}
 use Rattle.laws.proofs.All.{length-extend, extend-at, Once, each_map, each-filter, each-range, each_at, each-elem}
 use Rattle.laws.proofs.All.{below_at, map-range-at, index_at, index-lt, at-index, and→, →and, first-place}
 use Rattle.laws.proofs.All.{first-filter}
@@ -82,7 +83,8 @@ module _ (n : ℕ) (t : Rows) (full : Full n t) (s : ℕ) (pos : 0 < s) (hs : s 
     abbrev fit : ℕ → ℕ → Bool
     fit u d = carries (words_of (edges new u)) w d && free (take k xs) d
 
-    asked-home : (u : ℕ) → u < s → has_word w (edges new u) ≡ true → ((v : ℕ) → v < u → has_word w (edges new v) ≡ false)
+    asked-home : (u : ℕ) → u < s → has_word w (edges new u) ≡ true
+        → ((v : ℕ) → v < u → has_word w (edges new v) ≡ false)
         → x ≡ first (fit u) n (range n)
     asked-home u h e f =
         asked-at
@@ -207,7 +209,8 @@ module _ (n : ℕ) (t : Rows) (full : Full n t) (s : ℕ) (pos : 0 < s) (hs : s 
               (
                 u,
                 hu,
-                sym (word_at u (get_or xs k 0) hu h) ∙ eqb→eq (get_or (words_of (edges new u)) (get_or xs k 0) 0) (w k hk) c,
+                sym (word_at u (get_or xs k 0) hu h) ∙ eqb→eq (get_or (words_of (edges new u)) (get_or xs k 0) 0)
+                    (w k hk) c,
                 λ v y m hy r. subst T (low v m) (→has (w k hk) v y (omega arith) hy r),
                 λ y m r. taken k hk y (λ g. b y m (fits k hk u y hu (omega arith) r g)),
               ),

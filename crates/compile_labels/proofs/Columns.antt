@@ -4,7 +4,8 @@
 -- Assumes nothing.
 use Rattle.laws.proofs.All.{◌≡◌, refl, sym, ap, ap₂, ◌∙◌, ◌⊎◌, inl, inr, List, [], map, ℕ, ◌+◌, ◌*◌, ◌≤◌, ◌<◌, arith}
 use Rattle.laws.proofs.All.{dec_lt, T, length, get_or, take, drop, set, length-take, length-take-le, length-drop}
-use Rattle.laws.proofs.All.{length-set, get_or-take, get_or-drop, get_or-set_same, get_or-set_other, ext_get_or, below_more}
+use Rattle.laws.proofs.All.{length-set, get_or-take, get_or-drop, get_or-set_same, get_or-set_other, ext_get_or}
+use Rattle.laws.proofs.All.{below_more}
 use Rattle.laws.proofs.All.{ℕ_discrete, range, elem, index_of, index-lt, Filled, map-range-at, map-range-same, map-map}
 use Rattle.laws.proofs.All.{is-map, min}
 use Rattle.table.specs.Rows.{edge, edges, at, words_of}

@@ -4,7 +4,8 @@
 -- Assumes nothing.
 use Rattle.laws.proofs.All.{◌≡◌, refl, sym, ap, subst, ◌∙◌, List, [], ◌∷◌, ℕ, zero, suc, ◌+◌, ◌<◌, zero-le, suc-le-suc}
 use Rattle.laws.proofs.All.{le_of_suc-le-suc, not-suc-le-zero, arith, T, length, get_or, take, drop, length-append}
-use Rattle.laws.proofs.All.{length-map, take-append-drop, get_or-take, range, elem, index_of, length-extend, extend-start}
+use Rattle.laws.proofs.All.{length-map, take-append-drop, get_or-take, range, elem, index_of, length-extend}
+use Rattle.laws.proofs.All.{extend-start}
 use Rattle.laws.proofs.All.{extend-at, length-map-range, map-range-at, range_at, length_from, below_at, each_below}
 use Rattle.laws.proofs.All.{each-range, range-once, index_at, index-lt, at-index, once-onto, Below, Once}
 use Rattle.table.specs.Rows.{Edge, edge, Rows, edges, at, words_of}

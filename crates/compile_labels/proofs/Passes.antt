@@ -3,7 +3,8 @@
 -- serve-put, one edge more is served.
 -- Assumes nothing.
 use Rattle.laws.proofs.All.{◌≡◌, sym, ap, ap₂, ◌∙◌, true, false, ◌&&◌, List, [], ◌∷◌, ◌++◌, ℕ, suc, ◌+◌, ◌≤◌, ◌<◌}
-use Rattle.laws.proofs.All.{add-one, arith, lt-ltb, le-ltb, length, get_or, take, drop, set, take-append-drop, take-take}
+use Rattle.laws.proofs.All.{add-one, arith, lt-ltb, le-ltb, length, get_or, take, drop, set, take-append-drop}
+use Rattle.laws.proofs.All.{take-take}
 use Rattle.laws.proofs.All.{take-suc, take-suc-set, take-set-lt, drop-set-lt, slice-cons, if◌then◌else◌, range, first}
 use Rattle.laws.proofs.All.{extend, extend-more, first-filter, first-least, first-range-none}
 use Rattle.compile_labels.specs.Labels.{carries, gave, free}

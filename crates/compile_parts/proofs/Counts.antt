@@ -76,7 +76,8 @@ module _ (n : ℕ) (g : Graph) where
   pub unfinished-yes : (s : ℕ) → s < g.states → length (out (arcs_in g) s) < n → unfinished n (work_in g) ≡ true
   unfinished-yes s h l =
       let b : s < length (weights_in g) = rw K h in
-      any-true (few_edges n (arcs_in g)) 0 (range (length (weights_in g))) s (rw (length_from 0 (length (weights_in g))) b)
+      any-true (few_edges n (arcs_in g)) 0 (range (length (weights_in g))) s
+      (rw (length_from 0 (length (weights_in g))) b)
       (rw (range_at (length (weights_in g)) s b) (lt-ltb (length (out (arcs_in g) s)) n l))
 
   pub unfinished-no : ((s : ℕ) → s < g.states → n ≤ length (out (arcs_in g) s)) → unfinished n (work_in g) ≡ false

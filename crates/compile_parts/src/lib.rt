@@ -24,7 +24,8 @@ fn moved_source(
     fresh: u8,
 ) -> u8
     requires { (list.count ≤ 16) × (from + count ≤ list.count) }
-    ensures answer { result ≡ source_after s fresh (take count (drop from (keys_in list))) source (word * 128 + target) }
+    ensures answer { result ≡ source_after s fresh (take count (drop from (keys_in list))) source
+        (word * 128 + target) }
 {
     if source as usize != s {
         return source;

@@ -20,7 +20,8 @@ module _ (E : List Bool) (k : ℕ) (few : k ≤ 16) where
   place-lt : (t s : ℕ) → t < k → s < k → t * 16 + s < k * 16
   place-lt t s h l = omega arith
 
-  pub rounds-start : (M : List Bool) → length M ≡ 256 → ((x : ℕ) → x < k * 16 → get_or M x false ≡ eqb (x / 16) (x % 16))
+  pub rounds-start : (M : List Bool) → length M ≡ 256
+      → ((x : ℕ) → x < k * 16 → get_or M x false ≡ eqb (x / 16) (x % 16))
       → Rounds 0 M
   rounds-start M l f = record {
     long = l;

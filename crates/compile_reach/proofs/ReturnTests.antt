@@ -15,5 +15,6 @@ module _ (M : List Bool) (v : List ℕ) (k : ℕ) (few : k ≤ 16) (long : lengt
       → returning (rows_of M k) (live (take k v)) s ≡ true
   fails-yes s h f = returning-yes M v k few long s h f
 
-  pub fails-no : (s t : ℕ) → s < k → t < k → fails_at M v s t ≡ true → returning (rows_of M k) (live (take k v)) s ≡ false
+  pub fails-no : (s t : ℕ) → s < k → t < k → fails_at M v s t ≡ true → returning (rows_of M k) (live (take k v)) s
+      ≡ false
   fails-no s t h l e = returning-no M v k few long s t h l e

@@ -1,5 +1,6 @@
 // "Component." Sets of states stand one beside the other: place t * 16 + s says whether s can reach t.
-ghost use Rattle.std.specs.Prelude.{◌≡◌, Bool, true, false, not, ◌&&◌, ◌||◌, List, ℕ, ◌+◌, ◌*◌, ◌/◌, ◌%◌, ◌≤◌, ◌<◌, eqb, ltb, length, get_or, take};
+ghost use Rattle.std.specs.Prelude.{◌≡◌, Bool, true, false, not, ◌&&◌, ◌||◌, List, ℕ, ◌+◌, ◌*◌, ◌/◌, ◌%◌, ◌≤◌, ◌<◌};
+ghost use Rattle.std.specs.Prelude.{eqb, ltb, length, get_or, take};
 ghost use Rattle.laws.specs.Lists.{range, any, first, filter};
 ghost use Rattle.compile_graph.specs.Arcs.{Arc};
 ghost use Rattle.compile_graph.specs.Component.{reachings, reaches, returns, returning, weighs, live};

@@ -51,7 +51,8 @@ put-more t keys index n i d r hd hi c = record {
 
 -- the same row by keys that agree
 pub put-keys : (t : TableRows) (keys keys' index : List ℕ) (n i : ℕ) (r : TableRows)
-    → ((d : ℕ) → d < n → get_or keys d 0 ≡ get_or keys' d 0) → RowPut t keys index n i n r → RowPut t keys' index n i n r
+    → ((d : ℕ) → d < n → get_or keys d 0 ≡ get_or keys' d 0) → RowPut t keys index n i n r → RowPut t keys' index n i n
+    r
 put-keys t keys keys' index n i r e c = record {
   states = c.states;
   long_w = c.long_w;

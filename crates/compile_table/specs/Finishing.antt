@@ -2,7 +2,8 @@
 -- In order: Finished; Open; entered_by; rank; row_edge, rows_of_table, the rows of a value of `TableRows`; TableIn;
 -- RowPut.
 -- Assumes nothing.
-use Rattle.std.specs.Prelude.{◌≡◌, Bool, true, false, not, ◌&&◌, List, map, ℕ, ◌+◌, ◌*◌, ◌/◌, ◌%◌, ◌≤◌, ◌<◌, eqb, length, get_or}
+use Rattle.std.specs.Prelude.{◌≡◌, Bool, true, false, not, ◌&&◌, List, map, ℕ, ◌+◌, ◌*◌, ◌/◌, ◌%◌, ◌≤◌, ◌<◌, eqb}
+use Rattle.std.specs.Prelude.{length, get_or}
 use Rattle.laws.specs.Lists.{range, filter}
 use Rattle.laws.specs.Sets.{member}
 use Rattle.table.specs.Rows.{Edge, edge, Rows}

@@ -1,7 +1,8 @@
 // "Table. Each state keeps its first n edges in order of word, then target; they carry data 0 to n − 1. States not
 // reachable from the start are removed, the others renumbered in order." The data are then given anew in
 // `compile_labels`.
-ghost use Rattle.std.specs.Prelude.{◌≡◌, Bool, true, false, not, ◌&&◌, ◌||◌, ℕ, ◌+◌, ◌*◌, ◌/◌, ◌%◌, ◌≤◌, ◌<◌, length, get_or, take};
+ghost use Rattle.std.specs.Prelude.{◌≡◌, Bool, true, false, not, ◌&&◌, ◌||◌, ℕ, ◌+◌, ◌*◌, ◌/◌, ◌%◌, ◌≤◌, ◌<◌, length};
+ghost use Rattle.std.specs.Prelude.{get_or, take};
 ghost use Rattle.laws.specs.Lists.{any};
 ghost use Rattle.laws.specs.Sets.{member};
 ghost use Rattle.compile_graph.specs.Component.{reachings, reaches};

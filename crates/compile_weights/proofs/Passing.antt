@@ -3,7 +3,8 @@
 -- Assumes nothing.
 use Rattle.laws.proofs.All.{◌≡◌, refl, sym, ap, ap₂, subst, ◌∙◌, Bool, true, false, not, ◌&&◌, List, ℕ, ◌*◌, ◌/◌, ◌%◌}
 use Rattle.laws.proofs.All.{◌≤◌, ◌<◌, le_of_eq, arith, ℕ_discrete, T, eqb, leb, ltb, leb→le, le-ltb, lt-ltb, length}
-use Rattle.laws.proofs.All.{get_or, take, length-take-le, get_or-take, range, all, any, first, any-range-same, all-below→}
+use Rattle.laws.proofs.All.{get_or, take, length-take-le, get_or-take, range, all, any, first, any-range-same}
+use Rattle.laws.proofs.All.{all-below→}
 use Rattle.compile_graph.specs.Arcs.{Arc}
 use Rattle.compile_graph.specs.Weights.{low, weighty, meets, lower, passing}
 use Rattle.compile_graph.proofs.Weights.{still-meets}

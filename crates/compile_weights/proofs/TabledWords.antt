@@ -26,7 +26,8 @@ module _ (P : List ℕ) (words : ℕ) where
         ∙ ap (filter leads_on) (pick-range (leaves s) (words_at P words) s (words-own s (range words))
         (λ j e. words-leave s j (range words) e) K h)
 
-    pub between-count : (s t : ℕ) → s < K → (t ≡ 255 → ⊥) → words_between (tabled P words K) s t ≡ word_count P words s t
+    pub between-count : (s t : ℕ) → s < K → (t ≡ 255 → ⊥) → words_between (tabled P words K) s t ≡ word_count P words s
+        t
     unfolding word_count
     between-count s t h d =
         ap (λ l. length (filter (enters t) l)) (out-tabled s h)

@@ -1,5 +1,6 @@
 -- The power table that the crate `constraint` gives: "one place for each state and word", 255 for none.
--- In order: entry_at, word_at, words_at, tabled; Powers, what it keeps to; word_leads, word_count; term_by, sum_by, lower_by,
+-- In order: entry_at, word_at, words_at, tabled; Powers, what it keeps to; word_leads, word_count; term_by, sum_by,
+-- lower_by,
 -- one weight of a round by the counts of words; same_at.
 -- Assumes nothing.
 use Rattle.std.specs.Prelude.{◌≡◌, Bool, List, map, ℕ, ◌+◌, ◌*◌, ◌/◌, ◌≤◌, ◌<◌, min, eqb, length, get_or}

@@ -19,7 +19,8 @@ read o j e =
     ap tracing p ∙ sym (passed-text i (T→true (fit i i.choice) t)) ∙ ap traced (done_inj i j s)
 
 -- a refusal other than 17
-other : (o : Outcome Job) (r : Refusal) → (r ≡ BadWeights → ⊥) → onward o fitted ≡ refused r → tracing o ≡ refusal_line r
+other : (o : Outcome Job) (r : Refusal) → (r ≡ BadWeights → ⊥) → onward o fitted ≡ refused r → tracing o ≡ refusal_line
+    r
 other (refused s) r h e = ap refusal_line (cc)
 other (done j) r h e = go (fit j j.choice) e
   where
@@ -35,7 +36,8 @@ module _ (xs : List ℕ) where
   traced_job-read j e = read (held_job xs) j e
 
   -- THEOREM: a refusal other than 17 is the whole trace
-  pub traced_job-refused : (r : Refusal) → (r ≡ BadWeights → ⊥) → read_job xs ≡ refused r → traced_job xs ≡ refusal_line r
+  pub traced_job-refused : (r : Refusal) → (r ≡ BadWeights → ⊥) → read_job xs ≡ refused r → traced_job xs ≡ refusal_line
+      r
   unfolding traced_job read_job
   traced_job-refused r h e = other (held_job xs) r h e
 

@@ -39,7 +39,8 @@ module _ {j : Job} {k : ℕ} {b : Beginning} (i : FoundOf j k b) {at m : ℕ} {B
     some = ne_eqb (sum (component_of j).weights) 0 (λ z. h (is ∙ z))
 
     -- it weighs too much, or has too many edges
-    stages-stop : (ltb 128 (sum (component_of j).weights) || crowded (component_of j)) ≡ true → Added (stages j) at B D r
+    stages-stop : (ltb 128 (sum (component_of j).weights) || crowded (component_of j)) ≡ true → Added (stages j) at B D
+        r
     unfolding stages
     stages-stop z =
         added-same (rw (some, z) (ap (λ l. weights_line (weights_of j) ++ l) (sym (append-nil _)))) front

@@ -41,7 +41,8 @@ traced j = stages j ++ ending (compile j)
 
 -- the weights that come with the job, why they fail, and "17 for weights that fail"
 unfoldable pub failing : Job → List ℕ
-failing j = weights_line (weights_of j) ++ fail_line (ways j) j.cap (graph_of j) (weights_of j) ++ refusal_line BadWeights
+failing j = weights_line (weights_of j) ++ fail_line (ways j) j.cap (graph_of j) (weights_of j) ++ refusal_line
+    BadWeights
 
 -- the trace of a job, its weights not yet checked, or the refusal of its bytes
 abbrev pub tracing : Outcome Job → List ℕ

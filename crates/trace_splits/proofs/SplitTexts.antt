@@ -143,7 +143,8 @@ module _ {n : ℕ} {g : Graph} {r : NextGraph} (s : SplitAllInto n g r) where
       (lines : Added (graph_line g.states g.edges ++ split_lines (sum (weights_in g)) q n (work_in g)) at B C m)
     where
       abbrev first : List ℕ
-      first = graph_line (length (weights_in g)) (length (arcs_in g)) ++ split_lines (sum (weights_in g)) q n (work_in g)
+      first = graph_line (length (weights_in g)) (length (arcs_in g)) ++ split_lines (sum (weights_in g)) q n
+          (work_in g)
 
       front : Added first at B C m
       front =

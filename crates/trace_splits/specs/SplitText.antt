@@ -1,5 +1,6 @@
 -- The lines of the splits of a graph: the graph, one line a split, the graph that they end with, and its table.
--- In order: graph_line; edge_text, arc_text, kept_text, part_line, split_line, split_lines; end_lines, end_text; split_text.
+-- In order: graph_line; edge_text, arc_text, kept_text, part_line, split_line, split_lines; end_lines, end_text;
+-- split_text.
 -- Assumes nothing.
 use Rattle.std.specs.Prelude.{true, false, List, [], ◌∷◌, ◌++◌, map, ℕ, zero, suc, ◌-◌, ◌/◌, length, get_or}
 use Rattle.laws.specs.Lists.{if◌then◌else◌, concat, sum}

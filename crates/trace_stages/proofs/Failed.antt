@@ -43,7 +43,8 @@ module _ (n cap K : ℕ) (g : List Arc) (v : List ℕ) (few : K ≤ 16) (long : 
       else over_line (get_or u s 0) s cap) (length-take-le K v (omega arith))
       ∙ ap₂ (λ a b. let s = first (over cap u) 0 (range K) in
       let t = first (unmet n g u) 0 (range K) in
-      if a then (if b then short_line t n (get_or u t 0) (product g u t) else zero_line) else over_line (get_or u s 0) s cap)
+      if a then (if b then short_line t n (get_or u t 0) (product g u t) else zero_line) else over_line (get_or u s 0) s
+      cap)
       (low-front K v cap) (weighty-front K v)
 
   -- ---- the first test
@@ -99,7 +100,8 @@ module _ (n cap K : ℕ) (g : List Arc) (v : List ℕ) (few : K ≤ 16) (long : 
 
 -- ---- the state that the code finds
 module _ (P A : List ℕ) (words K n : ℕ) (few : K ≤ 16) (hn : 0 < n)
-    (is : (x : ℕ) → x < K * 16 → get_or A x 0 ≡ word_count P words (x / 16) (x % 16)) (v : List ℕ) (long : length v ≡ 16)
+    (is : (x : ℕ) → x < K * 16 → get_or A x 0 ≡ word_count P words (x / 16) (x % 16)) (v : List ℕ)
+    (long : length v ≡ 16)
     (t : ℕ) (found : t ≡ first (unmet_by A v K n) K (range K)) where
   pub unmet-below : all (meets n (tabled P words K) (take K v)) (range K) ≡ false → t < K
   unmet-below e =

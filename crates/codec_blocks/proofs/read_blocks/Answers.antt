@@ -16,7 +16,7 @@ loop-i-preserved c =
       length-set l.out l.i c.read_block.result ∙ l.invariant.2,
       map_more ((let a = c.args in
           block (under (rows_of (arrays a.states a.n a.word.now a.next.now)) a.m a.a) a.words.now)) c.args.begin
-              c.args.out.now l.out l.i c.read_block.result l.invariant.3
+          c.args.out.now l.out l.i c.read_block.result l.invariant.3
           c.read_block.ensures.answer (omega arith),
     )
 
@@ -30,5 +30,5 @@ returns c =
     record {
       written = l.invariant.3 ∙ ap (λ k. map ((let a = c.args in
           block (under (rows_of (arrays a.states a.n a.word.now a.next.now)) a.m a.a) a.words.now))
-              (from c.args.begin k) ++ drop k c.args.out.now) e;
+          (from c.args.begin k) ++ drop k c.args.out.now) e;
     }

@@ -10,7 +10,7 @@ abbrev pub invariant-loop-i : goal.invariant-loop-i
 invariant-loop-i l =
     (l.i ≤ l.count) × (l.count ≤ length l.initial.out) × (length l.out ≡ length l.initial.out)
     × (l.out ≡ map (block (under (rows_of (arrays l.states l.n l.word l.next)) l.m l.a) l.words) (from l.begin l.i)
-        ++ drop l.i l.initial.out)
+    ++ drop l.i l.initial.out)
 
 abbrev pub decreases-loop-i : goal.decreases-loop-i
 decreases-loop-i l = l.count - l.i

@@ -27,7 +27,8 @@ loop-k-preserved c =
           (l.invariant.2 t W H)
           (c.asked_datum.ensures.answer.0
           ∙ ap (first (free (take l.k l.ds)) a.n)
-          (sym (given-home a.n t a.column.now few W (get_or a.words l.k 0) _ (H _ (word_small (goal.at.loop-k-preserved c).In-loop-k))))),
+          (sym (given-home a.n t a.column.now few W (get_or a.words l.k 0) _
+          (H _ (word_small (goal.at.loop-k-preserved c).In-loop-k))))),
     )
 
 pub returns : goal.returns
@@ -35,7 +36,10 @@ returns c =
     let l = c.loop-k in
     let a = c.args in
     let e : l.k ≡ a.n = omega arith in
-    record { answer = λ t W H. subst (λ k. take k l.ds ≡ extend (asked a.n t) [] (take k a.words)) e (l.invariant.2 t W H) }
+    record {
+      answer = λ t W H. subst (λ k. take k l.ds ≡ extend (asked a.n t) [] (take k a.words)) e
+          (l.invariant.2 t W H);
+    }
 
 pub overflow_cast-ds : goal.overflow_cast-ds
 overflow_cast-ds c = omega (arith, c.asked_datum.ensures.answer.1)

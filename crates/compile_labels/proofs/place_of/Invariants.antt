@@ -4,7 +4,8 @@ use Rattle.compile_labels.proofs.place_of.Given as goal
 
 abbrev pub invariant-loop-i : goal.invariant-loop-i
 invariant-loop-i l =
-    (l.i ≤ l.k) × (l.k ≤ 16) × (length (take l.k l.list) ≡ l.k) × (index_of l.d (take l.k l.list) ≡ l.i + index_of l.d (drop l.i (take l.k l.list)))
+    (l.i ≤ l.k) × (l.k ≤ 16) × (length (take l.k l.list) ≡ l.k)
+    × (index_of l.d (take l.k l.list) ≡ l.i + index_of l.d (drop l.i (take l.k l.list)))
 
 abbrev pub decreases-loop-i : goal.decreases-loop-i
 decreases-loop-i l = l.k - l.i

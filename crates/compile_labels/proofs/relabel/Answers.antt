@@ -54,7 +54,8 @@ loop-i-preserved c =
       l.invariant.1,
       l.invariant.2,
       relabels-more a.n a.rows.states a.rows.word a.rows.next l.invariant.1 l.invariant.2 l.i l.word
-          l.next l.home l.invariant.0 c.loop-i-test.true l.invariant.3 c.data_of-ds.result (data-given (goal.at.loop-i-preserved c).After-data_of-ds)
+          l.next l.home l.invariant.0 c.loop-i-test.true l.invariant.3 c.data_of-ds.result
+          (data-given (goal.at.loop-i-preserved c).After-data_of-ds)
           c.reorder-words.result c.reorder-nexts.result
           c.note-more.result c.reorder-words.ensures.answer
           c.reorder-nexts.ensures.answer

@@ -6,7 +6,8 @@ use Rattle.compile_labels.proofs.relabel.Given as goal
 
 abbrev pub invariant-loop-i : goal.invariant-loop-i
 invariant-loop-i l =
-    (1 ≤ l.i) × (l.n ≤ 16) × (l.count ≤ 128) × Relabels l.n l.count (rows_of (arrays l.count l.n l.initial.word l.initial.next)) l.i l.word l.next l.home
+    (1 ≤ l.i) × (l.n ≤ 16) × (l.count ≤ 128) × Relabels l.n l.count
+    (rows_of (arrays l.count l.n l.initial.word l.initial.next)) l.i l.word l.next l.home
 
 abbrev pub decreases-loop-i : goal.decreases-loop-i
 decreases-loop-i l = l.count - l.i

@@ -5,7 +5,8 @@ use Rattle.compile_labels.proofs.serve.Given as goal
 
 abbrev pub invariant-loop-k : goal.invariant-loop-k
 invariant-loop-k l =
-    (l.k ≤ l.n) × (l.n ≤ 16) × (length l.ds ≡ 16) × (served l.n (take l.k l.ds) (drop l.k (take l.n l.ds)) ≡ served l.n [] (take l.n l.initial.ds))
+    (l.k ≤ l.n) × (l.n ≤ 16) × (length l.ds ≡ 16) × (served l.n (take l.k l.ds) (drop l.k (take l.n l.ds)) ≡ served l.n
+    [] (take l.n l.initial.ds))
 
 abbrev pub decreases-loop-k : goal.decreases-loop-k
 decreases-loop-k l = l.n - l.k

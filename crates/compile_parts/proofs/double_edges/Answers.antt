@@ -50,7 +50,8 @@ loop-i-preserved c =
           (room-on (goal.at.loop-i-preserved c).At-loop-i more (sym t ∙ w.if-wide-s.true)) (sym t ∙ w.if-wide-s.true) in
           (omega arith, refl, go.0, refl, go.1)
       | else-wide-s w ↦
-          let go = here-no p.g p.s l.h l.m l.i l.invariant.4 more c.if-wide-s.h c.if-wide-s.m w.h-is w.m-is l.invariant.2
+          let go = here-no p.g p.s l.h l.m l.i l.invariant.4 more c.if-wide-s.h c.if-wide-s.m w.h-is w.m-is
+          l.invariant.2
           (λ z. w.if-wide-s.false (t ∙ z)) in
           (omega arith, refl, go.0, refl, go.1)
     ]

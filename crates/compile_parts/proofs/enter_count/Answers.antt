@@ -9,10 +9,12 @@ loop-i-preserved c =
     let p = c.args in
     elim c.if-g-i.branch [
       | then-g-i w ↦
-          let go = count-taken p.g p.s l.i l.count c.if-g-i.count l.invariant.3 l.invariant.4 w.count-is w.if-g-i.true in
+          let go = count-taken p.g p.s l.i l.count c.if-g-i.count l.invariant.3 l.invariant.4 w.count-is w.if-g-i.true
+          in
           (omega arith, refl, l.invariant.2, go.0, go.1)
       | else-g-i w ↦
-          let go = count_left p.g p.s l.i l.count c.if-g-i.count l.invariant.3 l.invariant.4 w.count-is w.if-g-i.false in
+          let go = count_left p.g p.s l.i l.count c.if-g-i.count l.invariant.3 l.invariant.4 w.count-is w.if-g-i.false
+          in
           (omega arith, refl, l.invariant.2, go.0, go.1)
     ]
 

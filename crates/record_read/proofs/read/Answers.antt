@@ -66,7 +66,7 @@ returns-then-bytes-size_of c =
       answer = c.declined-then-bytes-size_of.ensures.answer
           ∙ sym (checked-length xs c.front_of-f.result c.front_of-f.ensures.answer
           (le-leb header_bytes (length xs) (omega (arith, c.if-bytes-lt5.false)))
-              (fronted (goal.at.returns-then-bytes-size_of c).Else-not-good_front)
+          (fronted (goal.at.returns-then-bytes-size_of c).Else-not-good_front)
           (ne_eqb _ _ (λ e. c.if-bytes-size_of.true (e ∙ sym c.size_of.ensures.answer))));
       kept = λ e. absurd (c.declined-then-bytes-size_of.ensures.past e);
       empty = λ x e. c.declined-then-bytes-size_of.ensures.empty;
@@ -82,7 +82,7 @@ returns-then-not-good_rest c =
       answer = c.declined-then-not-good_rest.ensures.answer
           ∙ sym (checked-rest xs c.front_of-f.result c.front_of-f.ensures.answer
           (le-leb header_bytes (length xs) (omega (arith, c.if-bytes-lt5.false)))
-              (fronted (goal.at.returns-then-not-good_rest c).Else-not-good_front)
+          (fronted (goal.at.returns-then-not-good_rest c).Else-not-good_front)
           (eq-eqb _ _ (sized (goal.at.returns-then-not-good_rest c).Else-bytes-size_of))
           (sym c.good_rest.ensures.answer ∙ not-true c.good_rest.result (ap not c.if-not-good_rest.true)));
       kept = λ e. absurd (c.declined-then-not-good_rest.ensures.past e);
@@ -90,8 +90,11 @@ returns-then-not-good_rest c =
     }
 
 pub table_of-requires : goal.table_of-requires
-table_of-requires c = (small (goal.at.table_of-requires c).Else-not-good_front, sized
-    (goal.at.table_of-requires c).Else-bytes-size_of)
+table_of-requires c = (
+  small (goal.at.table_of-requires c).Else-not-good_front,
+  sized
+      (goal.at.table_of-requires c).Else-bytes-size_of,
+)
 
 pub returns : goal.returns
 returns c =
@@ -100,6 +103,6 @@ returns c =
     let good = sym c.good_rest.ensures.answer ∙ not-false c.good_rest.result (ap not c.if-not-good_rest.false) in
     let same = ap done c.table_of.ensures.answer ∙ sym (checked-good xs h c.front_of-f.ensures.answer
     (le-leb header_bytes (length xs) (omega (arith, c.if-bytes-lt5.false)))
-        (fronted (goal.at.returns c).Else-not-good_front)
+    (fronted (goal.at.returns c).Else-not-good_front)
     (eq-eqb _ _ (sized (goal.at.returns c).Else-bytes-size_of)) good) in
     record { answer = same; kept = λ e. read-ready xs c.table_of.result same; empty = good-not }

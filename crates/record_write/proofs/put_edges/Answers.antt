@@ -103,8 +103,14 @@ put_low-requires c = (
 
 pub overflow_add-at-in-loop-e-2 : goal.overflow_add-at-in-loop-e-2
 overflow_add-at-in-loop-e-2 c =
-    record { fits = omega (arith, small (goal.at.overflow_add-at-in-loop-e-2 c).In-loop-e, c.requires.1,
-        c.requires.0.short) }
+    record {
+      fits = omega (
+        arith,
+        small (goal.at.overflow_add-at-in-loop-e-2 c).In-loop-e,
+        c.requires.1,
+        c.requires.0.short,
+      );
+    }
 
 pub bounds-t-i-in-loop-e : goal.bounds-t-i-in-loop-e
 bounds-t-i-in-loop-e c = within (goal.at.bounds-t-i-in-loop-e c).In-loop-e

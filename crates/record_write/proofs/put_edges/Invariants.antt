@@ -10,7 +10,7 @@ use Rattle.record_write.proofs.put_edges.Given as goal
 abbrev pub invariant-loop-e : goal.invariant-loop-e
 invariant-loop-e l =
     (l.e ≤ l.edges) × (length l.out ≡ length l.initial.out)
-        × (bits_of l.out ≡ spliced l.first (edges_bits l.t l.n l.e) (bits_of l.initial.out))
+    × (bits_of l.out ≡ spliced l.first (edges_bits l.t l.n l.e) (bits_of l.initial.out))
 
 abbrev pub decreases-loop-e : goal.decreases-loop-e
 decreases-loop-e l = l.edges - l.e

@@ -7,8 +7,11 @@ use Rattle.record_write.proofs.put_next.Goals as goal
 pub returns-then-next-eq255 : goal.returns-then-next-eq255
 returns-then-next-eq255 c =
     let a = c.args in
-    record { written = c.put.ensures.written ∙ put-absent (bits_of a.out.now) a.at a.next c.if-next-eq255.true; kept =
-        c.put.ensures.kept }
+    record {
+      written = c.put.ensures.written ∙ put-absent (bits_of a.out.now) a.at a.next c.if-next-eq255.true;
+      kept =
+          c.put.ensures.kept;
+    }
 
 pub returns : goal.returns
 returns c =

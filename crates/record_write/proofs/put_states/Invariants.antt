@@ -12,7 +12,7 @@ abbrev pub invariant-loop-s : goal.invariant-loop-s
 invariant-loop-s l =
     (l.s ≤ l.count) × (length l.out ≡ length l.initial.out)
     × (bits_of l.out ≡ spliced header_bits (states_bits (map (next_states_at l.constraint) (range l.s)))
-        (bits_of l.initial.out))
+    (bits_of l.initial.out))
 
 abbrev pub decreases-loop-s : goal.decreases-loop-s
 decreases-loop-s l = l.count - l.s

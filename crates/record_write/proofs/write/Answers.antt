@@ -28,7 +28,7 @@ good c = ready→ c.args.t (subst T (sym (tested c)) tt)
 pub size_of-long-requires : goal.size_of-long-requires
 size_of-long-requires c =
     subst Small (sym c.head_of-f.ensures.answer)
-        (small-in c.args.t (good (goal.at.size_of-long-requires c).Else-not-is_ready))
+    (small-in c.args.t (good (goal.at.size_of-long-requires c).Else-not-is_ready))
 
 -- the length is that of the table's record
 sized : (c : After-size_of-long)
@@ -39,22 +39,29 @@ pub returns-then-out-long : goal.returns-then-out-long
 returns-then-out-long c =
     let s = c.args in
     let k = pack-short s.t c.size_of-long.result (length s.out.now)
-        (sized (goal.at.returns-then-out-long c).After-size_of-long)
-            (tested (goal.at.returns-then-out-long c).Else-not-is_ready)
+    (sized (goal.at.returns-then-out-long c).After-size_of-long)
+    (tested (goal.at.returns-then-out-long c).Else-not-is_ready)
     c.if-out-long.true in
     record { answer = ap answer_of (sym k); written = ap (λ x. output_of x s.out.now) (sym k) }
 
 pub put_record-requires : goal.put_record-requires
-put_record-requires c =
-    (good (goal.at.put_record-requires c).Else-not-is_ready, c.head_of-f.ensures.answer, sized
-        (goal.at.put_record-requires c).After-size_of-long, c.if-out-long.false)
+put_record-requires c = (
+  good (goal.at.put_record-requires c).Else-not-is_ready,
+  c.head_of-f.ensures.answer,
+  sized
+      (goal.at.put_record-requires c).After-size_of-long,
+  c.if-out-long.false,
+)
 
 pub returns : goal.returns
 returns c =
     let s = c.args in
     let k = pack-fits s.t c.size_of-long.result (length s.out.now) (sized (goal.at.returns c).After-size_of-long)
-        (tested (goal.at.returns c).Else-not-is_ready)
+    (tested (goal.at.returns c).Else-not-is_ready)
     c.if-out-long.false in
-    record { answer = ap Done
-        (pack-long s.t c.size_of-long.result (length s.out.now) (sized (goal.at.returns c).After-size_of-long))
-            ∙ ap answer_of (sym k); written = c.put_record.ensures.written ∙ ap (λ x. output_of x s.out.now) (sym k) }
+    record {
+      answer = ap Done
+          (pack-long s.t c.size_of-long.result (length s.out.now) (sized (goal.at.returns c).After-size_of-long))
+          ∙ ap answer_of (sym k);
+      written = c.put_record.ensures.written ∙ ap (λ x. output_of x s.out.now) (sym k);
+    }

@@ -7,7 +7,8 @@ use Rattle.trace_splits.proofs.put_kept.Given as goal
 
 abbrev pub invariant-loop-i : goal.invariant-loop-i
 invariant-loop-i l =
-    (l.i ≤ l.count) × (length l.keys ≡ 16) × Added (keys_text l.q l.keys l.from l.i) l.initial.end l.initial.out l.out l.end
+    (l.i ≤ l.count) × (length l.keys ≡ 16) × Added (keys_text l.q l.keys l.from l.i) l.initial.end l.initial.out l.out
+    l.end
 
 abbrev pub decreases-loop-i : goal.decreases-loop-i
 decreases-loop-i l = l.count - l.i

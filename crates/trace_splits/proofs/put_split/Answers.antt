@@ -6,4 +6,7 @@ use Rattle.trace_splits.proofs.put_split.Goals as goal
 
 pub returns : goal.returns
 unfolding part_line
-returns c = record { written = chosen-line _ c.next_choice-c.ensures.answer (c.put_kept-rest.ensures.written then c.put_sentence.ensures.written) }
+returns c = record {
+  written = chosen-line _ c.next_choice-c.ensures.answer
+      (c.put_kept-rest.ensures.written then c.put_sentence.ensures.written);
+}

@@ -9,5 +9,5 @@ returns c =
           let a = c.args in
           past-set t g.fits a.m 0 a.words.now a.i c.past_start.result c.less.result
           c.past_start.ensures.answer.0 c.past_start.ensures.answer.1 c.less.ensures.answer _
-              (c.step_all.ensures.answer t g);
+          (c.step_all.ensures.answer t g);
     }

@@ -15,14 +15,14 @@ within : (c : Then-k-lt2048)
 within c =
     let a = c.args in
     found_within (arrays c.requires.0 c.args.n c.args.word.now c.args.next.now) a.start.now a.first.now c.requires.1
-        c.requires.2 c.requires.3 a.past a.ahead
+    c.requires.2 c.requires.3 a.past a.ahead
     a.w (omega arith) a.k c.requires.4 c.if-k-lt2048.true
 
 edge-inside : (c : Then-k-lt2048) → get_or c.args.first.now c.args.k 0 < 2048
 edge-inside c =
     let a = c.args in
     edge-small (arrays c.requires.0 c.args.n c.args.word.now c.args.next.now) a.start.now a.first.now c.requires.1
-        c.requires.2 c.requires.3 a.w _ (within c)
+    c.requires.2 c.requires.3 a.w _ (within c)
 
 pub first_into-requires : goal.first_into-requires
 first_into-requires c =
@@ -67,5 +67,9 @@ pub overflow_add-e : goal.overflow_add-e
 overflow_add-e c = omega (arith, edge-inside (goal.at.overflow_add-e c).Then-k-lt2048, c.requires.3.fits.narrow)
 
 pub mark_for-requires : goal.mark_for-requires
-mark_for-requires c = ((arrays c.requires.0 c.args.n c.args.word.now c.args.next.now), c.requires.1, c.requires.2,
-    c.requires.3)
+mark_for-requires c = (
+  (arrays c.requires.0 c.args.n c.args.word.now c.args.next.now),
+  c.requires.1,
+  c.requires.2,
+  c.requires.3,
+)

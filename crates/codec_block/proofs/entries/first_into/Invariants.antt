@@ -7,7 +7,7 @@ use Rattle.codec_block.proofs.entries.first_into.Given as goal
 abbrev pub invariant-loop-j : goal.invariant-loop-j
 invariant-loop-j l =
     (l.e ≤ l.j) × (scan (enters_at l.word l.next l.w l.ahead) no_place l.e l.end
-        ≡ scan (enters_at l.word l.next l.w l.ahead) no_place l.j l.end)
+    ≡ scan (enters_at l.word l.next l.w l.ahead) no_place l.j l.end)
 
 abbrev pub decreases-loop-j : goal.decreases-loop-j
 decreases-loop-j l = l.end - l.j

@@ -48,7 +48,7 @@ loop-s-smaller c =
 pub loop-s-preserved : goal.loop-s-preserved
 loop-s-preserved c =
     sought-no 128 _ _ _ _ _ _ _ c.loop-s.invariant _ _ c.loop-s-test.true _ c.group_of-k.ensures.answer _
-        (into (goal.at.loop-s-preserved c).After-meets)
+    (into (goal.at.loop-s-preserved c).After-meets)
     c.if-meets.false c.rest-others.ensures.answer c.lowest-s-in-loop-s.ensures.answer
 
 pub returns : goal.returns

@@ -9,7 +9,7 @@ use Rattle.codec_block.proofs.shorter.first_member.Given as goal
 abbrev pub invariant-loop-s : goal.invariant-loop-s
 invariant-loop-s l =
     Sought 128 no_place (λ i. T (holds l.initial.left i)) (into_at l.low l.high l.ahead) (group_of l.at l.have)
-        (members_of l.initial.left)
+    (members_of l.initial.left)
     (members_of l.left) l.s
 
 abbrev pub decreases-loop-s : goal.decreases-loop-s

@@ -6,7 +6,7 @@ use Rattle.laws.proofs.All.{ap, not}
 use Rattle.compile_job.proofs.front.front_verdict.Goals.{Else-bytes-lt4}
 use Rattle.compile_job.proofs.front.front_verdict.Goals as goal
 
-long : (c : Else-bytes-lt4) → 4 ≤ length ((c.args.bytes.now))
+long : (c : Else-bytes-lt4) → 4 ≤ length c.args.bytes.now
 long c = omega (arith, c.if-bytes-lt4.false)
 
 pub returns-then-bytes-lt4 : goal.returns-then-bytes-lt4
@@ -17,15 +17,19 @@ returns-then-bytes-lt4 c =
 pub returns-then-not-good_parameters : goal.returns-then-not-good_parameters
 returns-then-not-good_parameters c =
     record {
-      answer = sym (front-parameters ((c.args.bytes.now)) (done ((c.args.bytes.now))) (long (goal.at.returns-then-not-good_parameters c).Else-bytes-lt4)
-          (sym c.good_parameters.ensures.answer ∙ not-true c.good_parameters.result (ap not c.if-not-good_parameters.true)));
+      answer = sym (front-parameters c.args.bytes.now (done c.args.bytes.now)
+          (long (goal.at.returns-then-not-good_parameters c).Else-bytes-lt4)
+          (sym c.good_parameters.ensures.answer ∙ not-true c.good_parameters.result
+          (ap not c.if-not-good_parameters.true)));
     }
 
 pub returns : goal.returns
 returns c =
     record {
-      answer = sym (front-passed ((c.args.bytes.now)) (done ((c.args.bytes.now))) (long (goal.at.returns c).Else-bytes-lt4)
-          (subst T (sym (sym c.good_parameters.ensures.answer ∙ not-false c.good_parameters.result (ap not c.if-not-good_parameters.false))) tt));
+      answer = sym (front-passed c.args.bytes.now (done c.args.bytes.now)
+          (long (goal.at.returns c).Else-bytes-lt4)
+          (subst T (sym (sym c.good_parameters.ensures.answer ∙ not-false c.good_parameters.result
+          (ap not c.if-not-good_parameters.false))) tt));
     }
 
 pub overflow_cast-bytes : goal.overflow_cast-bytes

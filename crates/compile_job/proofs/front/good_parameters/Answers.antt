@@ -4,7 +4,13 @@ use Rattle.laws.proofs.All.{ap, not}
 use Rattle.compile_job.proofs.front.good_parameters.Goals as goal
 
 pub returns-then-not-between : goal.returns-then-not-between
-returns-then-not-between c = record { answer = rw (← c.between.ensures.answer, not-true c.between.result (ap not c.if-not-between.true)) }
+returns-then-not-between c = record {
+  answer = rw (
+    ← c.between.ensures.answer,
+    not-true c.between.result
+        (ap not c.if-not-between.true),
+  );
+}
 
 pub returns-then-not-between-2 : goal.returns-then-not-between-2
 returns-then-not-between-2 c =

@@ -30,8 +30,11 @@ slice_bounds-read_constraint-start c = omega (arith, long c)
 
 pub job_of-requires : goal.job_of-requires
 job_of-requires c =
-    let xs = c.args.bytes.now in
-    (long (goal.at.job_of-requires c).In-Good, held-sized xs (long (goal.at.job_of-requires c).In-Good) c.read_constraint.result (read c))
+    let xs = c.args.bytes.now in (
+      long (goal.at.job_of-requires c).In-Good,
+      held-sized xs (long (goal.at.job_of-requires c).In-Good)
+          c.read_constraint.result (read c),
+    )
 
 pub returns-in-Bad : goal.returns-in-Bad
 returns-in-Bad c =
@@ -48,6 +51,7 @@ returns-in-Good c =
     let xs = c.args.bytes.now in
     let f = c.front_verdict in
     let w = held_kept c.job_of.result (held_job xs)
-    (c.job_of.ensures.answer ∙ ap (λ o. onward o (λ k. done (job_bringing xs k))) (read (goal.at.returns-in-Good c).After-read_constraint)
+    (c.job_of.ensures.answer ∙ ap (λ o. onward o (λ k. done (job_bringing xs k)))
+    (read (goal.at.returns-in-Good c).After-read_constraint)
     ∙ sym (held_job-from xs ∙ front-good xs f.result f.ensures.answer _ c.in-Good.is)) (held_job-held xs) in
     record { answer = w.0; kept = w.1 }

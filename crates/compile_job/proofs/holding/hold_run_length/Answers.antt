@@ -10,23 +10,27 @@ use Rattle.compile_job.proofs.Jobs.{held_run_length-held}
 use Rattle.compile_job.proofs.JobSteps.{in-range, run-length-size, run-length-parameters, run-length-range}
 use Rattle.compile_job.proofs.JobSteps.{run-length-count, run-length-good, held_kept}
 use Rattle.laws.proofs.All.{not}
-use Rattle.compile_job.proofs.holding.hold_run_length.Goals.{Else-bytes-lt5, Else-not-between, Else-not-good_parameters, Else-not-is_counted}
+use Rattle.compile_job.proofs.holding.hold_run_length.Goals.{Else-bytes-lt5, Else-not-between, Else-not-good_parameters}
+use Rattle.compile_job.proofs.holding.hold_run_length.Goals.{Else-not-is_counted}
 use Rattle.compile_job.proofs.holding.hold_run_length.Goals as goal
 
-five : (c : Else-bytes-lt5) → leb 5 (length ((c.args.bytes.now))) ≡ true
-five c = let h : 5 ≤ length ((c.args.bytes.now)) = omega (arith, c.if-bytes-lt5.false) in le-leb 5 _ h
+five : (c : Else-bytes-lt5) → leb 5 (length c.args.bytes.now) ≡ true
+five c = let h : 5 ≤ length c.args.bytes.now = omega (arith, c.if-bytes-lt5.false) in le-leb 5 _ h
 
-good : (c : Else-not-good_parameters) → good_parameters (get_or (((c.args.bytes.now))) 2 0) (get_or (((c.args.bytes.now))) 3 0) (get_or (((c.args.bytes.now))) 4 0) ≡ true
-good c = sym c.good_parameters.ensures.answer ∙ not-false c.good_parameters.result (ap not c.if-not-good_parameters.false)
+good : (c : Else-not-good_parameters) → good_parameters (get_or c.args.bytes.now 2 0)
+    (get_or c.args.bytes.now 3 0) (get_or c.args.bytes.now 4 0) ≡ true
+good c = sym c.good_parameters.ensures.answer ∙ not-false c.good_parameters.result
+    (ap not c.if-not-good_parameters.false)
 
-ranged : (c : Else-not-between) → (leb (get_or ((((c.args.bytes.now)))) 0 0) (get_or ((((c.args.bytes.now)))) 1 0) && leb (get_or ((((c.args.bytes.now)))) 1 0) 15) ≡ true
+ranged : (c : Else-not-between) → (leb (get_or c.args.bytes.now 0 0) (get_or c.args.bytes.now 1 0)
+    && leb (get_or c.args.bytes.now 1 0) 15) ≡ true
 ranged c = sym c.between.ensures.answer ∙ not-false c.between.result (ap not c.if-not-between.false)
 
-small : (c : Else-not-between) → get_or ((((c.args.bytes.now)))) 1 0 ≤ 15
+small : (c : Else-not-between) → get_or c.args.bytes.now 1 0 ≤ 15
 small c = (in-range _ _ 15 (ranged c)).1
 
 -- the length fits
-counted : (c : Else-not-is_counted) → let xs = (((c.args.bytes.now))) in
+counted : (c : Else-not-is_counted) → let xs = c.args.bytes.now in
     (eqb (length xs) 5 || eqb (length xs) (5 + (get_or xs 1 0 + 1))) ≡ true
 counted c = sym c.is_counted.ensures.answer ∙ not-false c.is_counted.result (ap not c.if-not-is_counted.false)
 
@@ -39,34 +43,37 @@ returns-then-bytes-lt5 c =
 
 pub returns-then-not-good_parameters : goal.returns-then-not-good_parameters
 returns-then-not-good_parameters c =
-    let w = held_kept c.declined-then-not-good_parameters.result (held_run_length ((c.args.bytes.now)))
+    let w = held_kept c.declined-then-not-good_parameters.result (held_run_length c.args.bytes.now)
     (c.declined-then-not-good_parameters.ensures.answer
-    ∙ sym (run-length-parameters ((c.args.bytes.now)) (five (goal.at.returns-then-not-good_parameters c).Else-bytes-lt5)
+    ∙ sym (run-length-parameters c.args.bytes.now (five (goal.at.returns-then-not-good_parameters c).Else-bytes-lt5)
     (sym c.good_parameters.ensures.answer ∙ not-true c.good_parameters.result (ap not c.if-not-good_parameters.true))))
-    (held_run_length-held ((c.args.bytes.now))) in
+    (held_run_length-held c.args.bytes.now) in
     record { answer = w.0; kept = w.1 }
 
 pub returns-then-not-between : goal.returns-then-not-between
 returns-then-not-between c =
-    let w = held_kept c.declined-then-not-between.result (held_run_length (((c.args.bytes.now))))
+    let w = held_kept c.declined-then-not-between.result (held_run_length c.args.bytes.now)
     (c.declined-then-not-between.ensures.answer
-    ∙ sym (run-length-range (((c.args.bytes.now))) (five (goal.at.returns-then-not-between c).Else-bytes-lt5) (good (goal.at.returns-then-not-between c).Else-not-good_parameters)
+    ∙ sym (run-length-range c.args.bytes.now (five (goal.at.returns-then-not-between c).Else-bytes-lt5)
+    (good (goal.at.returns-then-not-between c).Else-not-good_parameters)
     (sym c.between.ensures.answer ∙ not-true c.between.result (ap not c.if-not-between.true))))
-    (held_run_length-held (((c.args.bytes.now)))) in
+    (held_run_length-held c.args.bytes.now) in
     record { answer = w.0; kept = w.1 }
 
 pub returns-then-not-is_counted : goal.returns-then-not-is_counted
 returns-then-not-is_counted c =
-    let w = held_kept c.declined-then-not-is_counted.result (held_run_length ((((c.args.bytes.now)))))
+    let w = held_kept c.declined-then-not-is_counted.result (held_run_length c.args.bytes.now)
     (c.declined-then-not-is_counted.ensures.answer
-    ∙ sym (run-length-count ((((c.args.bytes.now)))) (five (goal.at.returns-then-not-is_counted c).Else-bytes-lt5) (good (goal.at.returns-then-not-is_counted c).Else-not-good_parameters) (ranged (goal.at.returns-then-not-is_counted c).Else-not-between)
+    ∙ sym (run-length-count c.args.bytes.now (five (goal.at.returns-then-not-is_counted c).Else-bytes-lt5)
+    (good (goal.at.returns-then-not-is_counted c).Else-not-good_parameters)
+    (ranged (goal.at.returns-then-not-is_counted c).Else-not-between)
     (sym c.is_counted.ensures.answer ∙ not-true c.is_counted.result (ap not c.if-not-is_counted.true))))
-    (held_run_length-held ((((c.args.bytes.now))))) in
+    (held_run_length-held c.args.bytes.now) in
     record { answer = w.0; kept = w.1 }
 
 pub bring-job-requires : goal.bring-job-requires
 bring-job-requires c =
-    let xs = (((c.args.bytes.now))) in
+    let xs = c.args.bytes.now in
     let l = length-constraint_of c.run_length.result in
     let q : length (constraint_of c.run_length.result) ≡ get_or xs 1 0 + 1 =
     ap length c.run_length.ensures.answer ∙ length-run_length (get_or xs 0 0) (get_or xs 1 0) in
@@ -74,7 +81,8 @@ bring-job-requires c =
       omega (arith, small (goal.at.bring-job-requires c).Else-not-between),
       omega arith,
       subst (λ k. Sized 5 k (length xs)) e
-          (elim (or→ (eqb (length xs) 5) (eqb (length xs) (5 + (get_or xs 1 0 + 1))) (subst T (sym (counted (goal.at.bring-job-requires c).Else-not-is_counted)) tt)) [
+          (elim (or→ (eqb (length xs) 5) (eqb (length xs) (5 + (get_or xs 1 0 + 1)))
+          (subst T (sym (counted (goal.at.bring-job-requires c).Else-not-is_counted)) tt)) [
             | inl u ↦ inl (eqb→eq (length xs) 5 u)
             | inr u ↦ inr (eqb→eq (length xs) (5 + (get_or xs 1 0 + 1)) u)
           ]),
@@ -82,9 +90,11 @@ bring-job-requires c =
 
 pub returns : goal.returns
 returns c =
-    let e = run-length-good ((((c.args.bytes.now)))) (five (goal.at.returns c).Else-bytes-lt5) (good (goal.at.returns c).Else-not-good_parameters) (ranged (goal.at.returns c).Else-not-between) (counted (goal.at.returns c).Else-not-is_counted)
+    let e = run-length-good c.args.bytes.now (five (goal.at.returns c).Else-bytes-lt5)
+    (good (goal.at.returns c).Else-not-good_parameters) (ranged (goal.at.returns c).Else-not-between)
+    (counted (goal.at.returns c).Else-not-is_counted)
     c.bring-job.result c.run_length.result c.run_length.ensures.answer c.bring-job.ensures.answer in
-    record { answer = sym e; kept = λ g. held_run_length-held ((((c.args.bytes.now)))) (job_in c.bring-job.result) e }
+    record { answer = sym e; kept = λ g. held_run_length-held c.args.bytes.now (job_in c.bring-job.result) e }
 
 pub overflow_cast-p : goal.overflow_cast-p
 overflow_cast-p c = omega (arith, c.type_inv.bytes 2)

@@ -15,8 +15,11 @@ fits : (c : In-Good) → let a = c.args in
 fits c = c.requires.1 c.in-Good.is
 
 pub bring-job-requires : goal.bring-job-requires
-bring-job-requires c =
-    ((fits (goal.at.bring-job-requires c).In-Good).0, omega (arith, (fits (goal.at.bring-job-requires c).In-Good).0), (fits (goal.at.bring-job-requires c).In-Good).1)
+bring-job-requires c = (
+  (fits (goal.at.bring-job-requires c).In-Good).0,
+  omega (arith, (fits (goal.at.bring-job-requires c).In-Good).0),
+  (fits (goal.at.bring-job-requires c).In-Good).1,
+)
 
 pub returns-in-Bad : goal.returns-in-Bad
 returns-in-Bad c =

@@ -9,7 +9,13 @@ returns-then-not-whole c = record { answer = rw (not-true c.args.whole (ap not c
 pub returns-then-not-weights : goal.returns-then-not-weights
 returns-then-not-weights c =
     let a = c.args in
-    record { answer = rw (not-false a.whole (ap not c.if-not-whole.false), not-true a.weights (ap not c.if-not-weights.true)) }
+    record {
+      answer = rw (
+        not-false a.whole (ap not c.if-not-whole.false),
+        not-true a.weights
+            (ap not c.if-not-weights.true),
+      );
+    }
 
 pub returns-then-size-bytes : goal.returns-then-size-bytes
 returns-then-size-bytes c =

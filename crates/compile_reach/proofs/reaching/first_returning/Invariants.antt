@@ -6,7 +6,8 @@ use Rattle.compile_reach.proofs.reaching.first_returning.Given as goal
 
 abbrev pub invariant-loop-s : goal.invariant-loop-s
 invariant-loop-s l =
-    ((j : ℕ) → j < l.s → (weighs (take l.k l.v) j && returning (rows_of l.m l.k) (live (take l.k l.v)) j) ≡ false) × (l.s ≤ l.k)
+    ((j : ℕ) → j < l.s → (weighs (take l.k l.v) j && returning (rows_of l.m l.k) (live (take l.k l.v)) j) ≡ false)
+    × (l.s ≤ l.k)
 
 abbrev pub decreases-loop-s : goal.decreases-loop-s
 decreases-loop-s l = l.k - l.s

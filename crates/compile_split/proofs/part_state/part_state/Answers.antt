@@ -28,10 +28,12 @@ keyed c = record {
 
 pub first_run-run-requires : goal.first_run-run-requires
 first_run-run-requires c =
-    let a : length c.candidate_keys-list.result.key ≡ 16 = keys-long (goal.at.first_run-run-requires c).After-candidate_keys-list in (
+    let a : length c.candidate_keys-list.result.key ≡ 16 = keys-long
+    (goal.at.first_run-run-requires c).After-candidate_keys-list in (
       omega arith,
       omega (arith, c.candidate_keys-list.ensures.answer.1),
-      weights-low (keyed (goal.at.first_run-run-requires c).After-candidate_keys-list) c.key_weights.result c.key_weights.ensures.answer,
+      weights-low (keyed (goal.at.first_run-run-requires c).After-candidate_keys-list) c.key_weights.result
+          c.key_weights.ensures.answer,
     )
 
 pub overflow_cast-w : goal.overflow_cast-w
@@ -46,11 +48,13 @@ overflow_cast-w c =
 
 pub move_edges-moved-requires : goal.move_edges-moved-requires
 move_edges-moved-requires c =
-    let a : length c.candidate_keys-list.result.key ≡ 16 = keys-long (goal.at.move_edges-moved-requires c).After-candidate_keys-list in (
+    let a : length c.candidate_keys-list.result.key ≡ 16 = keys-long
+    (goal.at.move_edges-moved-requires c).After-candidate_keys-list in (
       c.requires.0,
       omega arith,
       omega (arith, c.candidate_keys-list.ensures.answer.1),
-      inside-run (keyed (goal.at.move_edges-moved-requires c).After-candidate_keys-list) c.key_weights.result c.key_weights.ensures.answer
+      inside-run (keyed (goal.at.move_edges-moved-requires c).After-candidate_keys-list) c.key_weights.result
+          c.key_weights.ensures.answer
           c.first_run-run.result c.first_run-run.ensures.answer,
     )
 
@@ -67,7 +71,8 @@ weigh-requires c =
     let e = c.double_edges-grown.ensures.answer.states in
     let f = c.move_edges-moved.ensures.answer.states in
     let w : get_or c.double_edges-grown.result.weight c.args.s 0 ≡ c.args.m =
-    ap (λ l. get_or l c.args.s 0) (c.double_edges-grown.ensures.answer.weight ∙ c.move_edges-moved.ensures.answer.weight)
+    ap (λ l. get_or l c.args.s 0) (c.double_edges-grown.ensures.answer.weight
+    ∙ c.move_edges-moved.ensures.answer.weight)
     ∙ sym (c.requires.3 ∙ map-range-at (weight_at c.args.g) c.args.g.states c.args.s 0 c.requires.1) in
     let share = share-le (keyed (goal.at.weigh-requires c).After-candidate_keys-list) c.key_weights.result
     c.key_weights.ensures.answer c.first_run-run.result c.first_run-run.ensures.answer in
@@ -76,7 +81,8 @@ weigh-requires c =
 pub returns : goal.returns
 returns c =
     record {
-      answer = parted-is (keyed (goal.at.returns c).After-candidate_keys-list) c.key_weights.result c.key_weights.ensures.answer
+      answer = parted-is (keyed (goal.at.returns c).After-candidate_keys-list) c.key_weights.result
+          c.key_weights.ensures.answer
           c.first_run-run.result c.first_run-run.ensures.answer c.move_edges-moved.result
           c.move_edges-moved.ensures.answer c.double_edges-grown.result c.double_edges-grown.ensures.answer
           c.weigh.result c.weigh.ensures.answer;

@@ -41,5 +41,6 @@ returns c =
           c.args.g
           c.choose-s.result
           c.choose-s.ensures.answer.0 c.part_state-h.result
-          (omega (arith, c.enter_count.ensures.answer.0, c.if-g-enter_count-gt2048.false)) c.part_state-h.ensures.answer;
+          (omega (arith, c.enter_count.ensures.answer.0, c.if-g-enter_count-gt2048.false))
+          c.part_state-h.ensures.answer;
     }

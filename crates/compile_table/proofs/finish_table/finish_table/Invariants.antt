@@ -10,7 +10,8 @@ use Rattle.compile_table.proofs.finish_table.finish_table.Given as goal
 abbrev pub invariant-loop-t : goal.invariant-loop-t
 invariant-loop-t l =
     (f : Finished l.n l.g)
-    × (reach : (x : ℕ) → x < l.g.states → member l.set x ≡ reaches (reachings l.g.states (first_edges l.n (work_in l.g))) 0 x)
+    × (reach : (x : ℕ) → x < l.g.states → member l.set x ≡ reaches
+    (reachings l.g.states (first_edges l.n (work_in l.g))) 0 x)
     × (ranked : (x : ℕ) → x < l.g.states → get_or l.index x 0 ≡ rank l.set x) × (l.t ≤ l.k) × (l.k ≡ l.g.states)
     × Laid l.n l.g f l.set reach l.index ranked l.t l.count l.rows
 

@@ -10,8 +10,20 @@ loop-t-preserved c =
     let p = c.args in
     let f = fill_more 0 (rank p.set) 128 l.t l.r l.count (omega arith) l.invariant.2 l.invariant.3 in
     elim c.if-set-t.branch [
-      | then-set-t w ↦ (omega arith, omega (arith, w.count-is), omega (arith, w.count-is, rank-yes p.set l.t w.if-set-t.true), f)
-      | else-set-t w ↦ (omega arith, omega (arith, w.count-is), omega (arith, w.count-is, rank-no p.set l.t w.if-set-t.false), f)
+      | then-set-t w ↦ (
+        omega arith,
+        omega (arith, w.count-is),
+        omega
+            (arith, w.count-is, rank-yes p.set l.t w.if-set-t.true),
+        f,
+      )
+      | else-set-t w ↦ (
+        omega arith,
+        omega (arith, w.count-is),
+        omega
+            (arith, w.count-is, rank-no p.set l.t w.if-set-t.false),
+        f,
+      )
     ]
 
 pub loop-t-init : goal.loop-t-init

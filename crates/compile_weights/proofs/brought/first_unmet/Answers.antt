@@ -14,13 +14,15 @@ returns-then-lower_weight-v c =
     let a = c.args in
     record {
       answer = sym (first-least (unmet_by a.count.now a.v a.k a.n) a.k a.k c.loop-s.s c.loop-s.invariant.1
-          c.loop-s-test.true (tested (goal.at.returns-then-lower_weight-v c).After-lower_weight ∙ lt-ltb _ _ c.if-lower_weight-v.true));
+          c.loop-s-test.true (tested (goal.at.returns-then-lower_weight-v c).After-lower_weight ∙ lt-ltb _ _
+          c.if-lower_weight-v.true));
     }
 
 pub loop-s-preserved : goal.loop-s-preserved
 loop-s-preserved c = (
   omega arith,
-  below_more _ _ c.loop-s.invariant.1 (tested (goal.at.loop-s-preserved c).After-lower_weight ∙ le-ltb _ _ c.if-lower_weight-v.false),
+  below_more _ _ c.loop-s.invariant.1 (tested (goal.at.loop-s-preserved c).After-lower_weight ∙ le-ltb _ _
+      c.if-lower_weight-v.false),
 )
 
 pub returns : goal.returns

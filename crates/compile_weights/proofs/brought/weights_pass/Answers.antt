@@ -22,8 +22,10 @@ pub returns-then-first_over-k : goal.returns-then-first_over-k
 returns-then-first_over-k c =
     let a = c.args in
     record {
-      answer = sym (passing-parts a.n a.cap a.k ((tabled c.args.power.now c.args.words c.args.k)) a.v c.requires.0.states (wide (goal.at.returns-then-first_over-k c).Start)
-          ∙ ap (λ b. b && (any (weighty a.v) (range a.k) && all (meets a.n ((tabled c.args.power.now c.args.words c.args.k)) (take a.k a.v))
+      answer = sym (passing-parts a.n a.cap a.k (tabled c.args.power.now c.args.words c.args.k) a.v
+          c.requires.0.states (wide (goal.at.returns-then-first_over-k c).Start)
+          ∙ ap (λ b. b && (any (weighty a.v) (range a.k) && all
+          (meets a.n (tabled c.args.power.now c.args.words c.args.k) (take a.k a.v))
           (range a.k)))
           (low-found a.cap a.k a.v _ c.first_over.ensures.answer ∙ ne_eqb _ _ c.if-first_over-k.true));
     }
@@ -32,8 +34,10 @@ pub returns-then-not-is_some : goal.returns-then-not-is_some
 returns-then-not-is_some c =
     let a = c.args in
     record {
-      answer = sym (passing-parts a.n a.cap a.k ((tabled c.args.power.now c.args.words c.args.k)) a.v c.requires.0.states (wide (goal.at.returns-then-not-is_some c).Start)
-          ∙ ap₂ (λ b d. b && (d && all (meets a.n ((tabled c.args.power.now c.args.words c.args.k)) (take a.k a.v)) (range a.k))) (lows (goal.at.returns-then-not-is_some c).Else-first_over-k)
+      answer = sym (passing-parts a.n a.cap a.k (tabled c.args.power.now c.args.words c.args.k) a.v
+          c.requires.0.states (wide (goal.at.returns-then-not-is_some c).Start)
+          ∙ ap₂ (λ b d. b && (d && all (meets a.n (tabled c.args.power.now c.args.words c.args.k) (take a.k a.v))
+          (range a.k))) (lows (goal.at.returns-then-not-is_some c).Else-first_over-k)
           (sym c.is_some.ensures.answer ∙ not-true c.is_some.result (ap not c.if-not-is_some.true)));
     }
 
@@ -51,9 +55,12 @@ pub returns : goal.returns
 returns c =
     let a = c.args in
     record {
-      answer = sym (passing-parts a.n a.cap a.k ((tabled c.args.power.now c.args.words c.args.k)) a.v c.requires.0.states (wide (goal.at.returns c).Start)
-          ∙ ap₂ (λ b d. b && (d && all (meets a.n ((tabled c.args.power.now c.args.words c.args.k)) (take a.k a.v)) (range a.k))) (lows (goal.at.returns c).Else-first_over-k)
+      answer = sym (passing-parts a.n a.cap a.k (tabled c.args.power.now c.args.words c.args.k) a.v
+          c.requires.0.states (wide (goal.at.returns c).Start)
+          ∙ ap₂ (λ b d. b && (d && all (meets a.n (tabled c.args.power.now c.args.words c.args.k) (take a.k a.v))
+          (range a.k))) (lows (goal.at.returns c).Else-first_over-k)
           (sym c.is_some.ensures.answer ∙ not-false c.is_some.result (ap not c.if-not-is_some.false))
           ∙ met-found a.power.now c.word_counts-count.result a.words a.k a.n c.requires.0.states c.requires.1
-          (λ x h. (c.word_counts-count.ensures.answer x h).0) a.v (wide (goal.at.returns c).Start) _ c.first_unmet.ensures.answer);
+          (λ x h. (c.word_counts-count.ensures.answer x h).0) a.v (wide (goal.at.returns c).Start) _
+          c.first_unmet.ensures.answer);
     }

@@ -21,7 +21,8 @@ first_run-run-requires c =
 pub returns : goal.returns
 returns c =
     record {
-      answer = chosen-in (keyed (goal.at.returns c).After-candidate_keys-list) _ c.key_weights.ensures.answer _ c.first_run-run.ensures.answer
+      answer = chosen-in (keyed (goal.at.returns c).After-candidate_keys-list) _ c.key_weights.ensures.answer _
+          c.first_run-run.ensures.answer
           c.choose-s.ensures.answer.0;
     }
 

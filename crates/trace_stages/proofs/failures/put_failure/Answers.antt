@@ -47,7 +47,8 @@ unfolding over_line
 returns-then-s-k c =
     let a = c.args in
     record {
-      written = added-same (fail-over a.n a.cap a.k (tabled a.power.now a.words a.k) a.v c.requires.0.states (wide (goal.at.returns-then-s-k c).Start) _
+      written = added-same (fail-over a.n a.cap a.k (tabled a.power.now a.words a.k) a.v c.requires.0.states
+          (wide (goal.at.returns-then-s-k c).Start) _
           c.first_over-s.ensures.answer c.if-s-k.true) c.put_sentence.ensures.written;
     }
 
@@ -56,7 +57,8 @@ unfolding zero_line
 returns-then-not-is_some c =
     let a = c.args in
     record {
-      written = added-same (fail-zero a.n a.cap a.k (tabled a.power.now a.words a.k) a.v c.requires.0.states (wide (goal.at.returns-then-not-is_some c).Start) (lows (goal.at.returns-then-not-is_some c).Else-s-k)
+      written = added-same (fail-zero a.n a.cap a.k (tabled a.power.now a.words a.k) a.v c.requires.0.states
+          (wide (goal.at.returns-then-not-is_some c).Start) (lows (goal.at.returns-then-not-is_some c).Else-s-k)
           (sym c.is_some.ensures.answer ∙ c.if-not-is_some.true)) c.put.ensures.written;
     }
 
@@ -85,9 +87,14 @@ pub returns : goal.returns
 returns c =
     let a = c.args in
     record {
-      written = added-same (fail-short a.n a.cap a.k (tabled a.power.now a.words a.k) a.v c.requires.0.states (wide (goal.at.returns c).Start) (lows (goal.at.returns c).Else-s-k) (some (goal.at.returns c).Else-not-is_some) _ _
-          (below (goal.at.returns c).After-first_unmet-t) (unmet-first a.power.now c.word_counts-count.result a.words a.k a.n c.requires.0.states
-          c.requires.1 (λ x h. (c.word_counts-count.ensures.answer x h).0) a.v (wide (goal.at.returns c).Start) _ c.first_unmet-t.ensures.answer (below (goal.at.returns c).After-first_unmet-t))
+      written = added-same (fail-short a.n a.cap a.k (tabled a.power.now a.words a.k) a.v c.requires.0.states
+          (wide (goal.at.returns c).Start) (lows (goal.at.returns c).Else-s-k)
+          (some (goal.at.returns c).Else-not-is_some) _ _
+          (below (goal.at.returns c).After-first_unmet-t)
+          (unmet-first a.power.now c.word_counts-count.result a.words a.k a.n c.requires.0.states
+          c.requires.1 (λ x h. (c.word_counts-count.ensures.answer x h).0) a.v (wide (goal.at.returns c).Start) _
+          c.first_unmet-t.ensures.answer (below (goal.at.returns c).After-first_unmet-t))
           (sum_is a.power.now c.word_counts-count.result a.words a.k c.requires.0.states
-          (λ x h. (c.word_counts-count.ensures.answer x h).0) a.v (wide (goal.at.returns c).Start) _ (below (goal.at.returns c).After-first_unmet-t))) c.put_short.ensures.written;
+          (λ x h. (c.word_counts-count.ensures.answer x h).0) a.v (wide (goal.at.returns c).Start) _
+          (below (goal.at.returns c).After-first_unmet-t))) c.put_short.ensures.written;
     }

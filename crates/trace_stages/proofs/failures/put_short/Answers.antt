@@ -6,4 +6,7 @@ use Rattle.trace_stages.proofs.failures.put_short.Goals as goal
 pub returns : goal.returns
 returns c =
     let a = c.args in
-    record { written = short-told a.s a.n (get_or a.v a.s 0) _ _ c.led_weight-sum.ensures.answer c.put_sentence.ensures.written }
+    record {
+      written = short-told a.s a.n (get_or a.v a.s 0) _ _ c.led_weight-sum.ensures.answer
+          c.put_sentence.ensures.written;
+    }
