@@ -1,7 +1,8 @@
 -- An outcome as the code answers it, with the lent bytes after the call.
 -- In order: declined, finished, handed; ends-onward, goes-onward; output-bytes.
 -- Assumes nothing.
-use Rattle.laws.proofs.All.{◌≡◌, refl, sym, ap, ◌∙◌, List, ◌++◌, ℕ, length, take, drop, take-append_seam, drop_at}
+use Rattle.std.proofs.Common.{◌≡◌, ◌++◌}
+use Rattle.laws.proofs.All.{refl, sym, ap, ◌∙◌, List, ℕ, length, take, drop, take-append_seam, drop_at}
 use Rattle.answer.specs.declared.Refusal.{Refusal}
 use Rattle.answer.specs.declared.Answer.{Answer}
 use Rattle.answer.specs.declared.Answer.TheVariants.{Done, Refused}

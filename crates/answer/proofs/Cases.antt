@@ -1,7 +1,8 @@
 -- The cases of `Refusal`, by where they stand in the code's list of them.
 -- In order: tag; number-tag, number-some, number-most, place_none; refusal-numbers; named, same-refusal; place-unless.
 -- Assumes nothing.
-use Rattle.laws.proofs.All.{◌≡◌, refl, sym, ap₂, subst, ◌∙◌, [], ◌∷◌, ℕ, suc, ◌≤◌, arith, get_or}
+use Rattle.std.proofs.Common.{◌≡◌, ◌∷◌, ◌≤◌}
+use Rattle.laws.proofs.All.{refl, sym, ap₂, subst, ◌∙◌, [], ℕ, suc, arith, get_or}
 use denote.Enum.Declared.{tag_of}
 use borrow.Enum.Match.{tag_small}
 use Rattle.answer.specs.declared.Refusal.{Refusal}

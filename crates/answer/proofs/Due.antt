@@ -5,10 +5,11 @@
 -- never_done; bad-place, place-bad, below-exact, bad-exact, never-bad, the check of 11; done-onward, refused-onward,
 -- refused-first, what goes on.
 -- Assumes nothing.
-use Rattle.laws.proofs.All.{◌≡◌, refl, sym, ap, subst, ◌∙◌, ◌↔◌, ◌⊎◌, inl, inr, Bool, true, false, ◌&&◌, List, [], ◌∷◌}
-use Rattle.laws.proofs.All.{ℕ, zero, suc, ◌≤◌, ◌<◌, arith, T, leb, ltb, eqb, leb→le, le→leb, ltb→lt, lt→ltb, eqb→eq}
+use Rattle.std.proofs.Common.{◌≡◌, ◌↔◌, ◌⊎◌, ◌&&◌, ◌∷◌, ◌≤◌, ◌<◌, if◌then◌else◌}
+use Rattle.laws.proofs.All.{refl, sym, ap, subst, ◌∙◌, inl, inr, Bool, true, false, List, []}
+use Rattle.laws.proofs.All.{ℕ, zero, suc, arith, T, leb, ltb, eqb, leb→le, le→leb, ltb→lt, lt→ltb, eqb→eq}
 use Rattle.laws.proofs.All.{leb-false, lt-leb, ltb-false, le-ltb, lt-ltb, eqb-false, ne_eqb, eq-eqb, length}
-use Rattle.laws.proofs.All.{dec_lt, take, get_or, if◌then◌else◌, Below}
+use Rattle.laws.proofs.All.{dec_lt, take, get_or, Below}
 use Rattle.answer.specs.declared.Refusal.{Refusal}
 use Rattle.answer.specs.declared.Refusal.TheVariants.{BadByte}
 use Rattle.answer.specs.Refusals.{number_of, place_of}

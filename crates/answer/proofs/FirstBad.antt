@@ -2,9 +2,10 @@
 -- In order: bad-here, bad-later, bad-end, the first bad byte from a place on; bad-le; first_bad-below, below-first_bad;
 -- all-below; below-bad, below-done, bad-found, none-bad, all_below-true, all_below→.
 -- Assumes nothing.
-use Rattle.laws.proofs.All.{◌≡◌, refl, sym, ap, ◌∙◌, Bool, true, false, List, [], ◌∷◌, ℕ, suc, ◌+◌, ◌≤◌, ◌<◌, add-one}
+use Rattle.std.proofs.Common.{◌≡◌, ◌∷◌, ◌+◌, ◌≤◌, ◌<◌, if◌then◌else◌}
+use Rattle.laws.proofs.All.{refl, sym, ap, ◌∙◌, Bool, true, false, List, [], ℕ, suc, add-one}
 use Rattle.laws.proofs.All.{arith, lt-ltb, le-ltb, eq-eqb, ne_eqb, ltb, eqb, ltb→lt, eqb→eq, eqb_refl, length, drop}
-use Rattle.laws.proofs.All.{get_or, drop-cons, drop-length, if◌then◌else◌, Below}
+use Rattle.laws.proofs.All.{get_or, drop-cons, drop-length, Below}
 use Rattle.answer.specs.declared.Refusal.TheVariants.{BadByte}
 use Rattle.answer.specs.Outcomes.{done, refused, unless}
 use Rattle.answer.specs.FirstBad.{first_bad, all_below}

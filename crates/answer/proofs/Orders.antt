@@ -1,7 +1,8 @@
 -- A row of checks is refused with r exactly when r is the refusal of the first that fails.
 -- In order: first-none, first-unless, first-onward; onward-exact; fitting-exact, fitting-done.
 -- Assumes nothing.
-use Rattle.laws.proofs.All.{◌≡◌, sym, ap, ◌∙◌, ◌⊎◌, inl, inr, ◌↔◌, Bool, true, false, List, [], ℕ, ◌≤◌, ◌<◌, leb}
+use Rattle.std.proofs.Common.{◌≡◌, ◌⊎◌, ◌↔◌, ◌≤◌, ◌<◌}
+use Rattle.laws.proofs.All.{sym, ap, ◌∙◌, inl, inr, Bool, true, false, List, [], ℕ, leb}
 use Rattle.laws.proofs.All.{lt-leb, length}
 use Rattle.answer.specs.declared.Refusal.{Refusal}
 use Rattle.answer.specs.declared.Refusal.TheVariants.{ShortOutput}

@@ -2,7 +2,8 @@
 -- In order: done_inj, refused-not; unless-true, unless-false, unless→; onward→; said-good, said-bad; fitting-true,
 -- fitting→.
 -- Assumes nothing.
-use Rattle.laws.proofs.All.{◌≡◌, refl, sym, ap, subst, ◌∙◌, Bool, true, false, List, ℕ, ◌≤◌, T, leb, leb→le, le→leb}
+use Rattle.std.proofs.Common.{◌≡◌, ◌≤◌}
+use Rattle.laws.proofs.All.{refl, sym, ap, subst, ◌∙◌, Bool, true, false, List, ℕ, T, leb, leb→le, le→leb}
 use Rattle.laws.proofs.All.{length}
 use Rattle.answer.specs.declared.Refusal.{Refusal}
 use Rattle.answer.specs.declared.Refusal.TheVariants.{ShortOutput}

@@ -1,7 +1,8 @@
 -- Laws of refused outcomes: which check the refusal comes from.
 -- In order: refused-inj; onward-refused; fitting-refused; Refuses, refuses-done, refuses-unless, refuses-onward.
 -- Assumes nothing.
-use Rattle.laws.proofs.All.{◌≡◌, refl, sym, ap, subst, ◌⊎◌, inl, inr, Bool, true, false, List, ℕ, ◌<◌, leb, length}
+use Rattle.std.proofs.Common.{◌≡◌, ◌⊎◌, ◌<◌}
+use Rattle.laws.proofs.All.{refl, sym, ap, subst, inl, inr, Bool, true, false, List, ℕ, leb, length}
 use Rattle.laws.proofs.All.{leb-false}
 use Rattle.answer.specs.declared.Refusal.{Refusal}
 use Rattle.answer.specs.declared.Refusal.TheVariants.{ShortOutput}

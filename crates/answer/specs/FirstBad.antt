@@ -1,8 +1,7 @@
 -- The check of refusal 11, the same for blocks and for words.
 -- In order: first_bad; all_below.
 -- Assumes nothing.
-use Rattle.std.specs.Prelude.{List, [], ◌∷◌, ℕ, suc, ltb, eqb, length}
-use Rattle.laws.specs.Lists.{if◌then◌else◌}
+use Rattle.std.specs.Prelude.{if◌then◌else◌, List, [], ◌∷◌, ℕ, suc, ltb, eqb, length}
 use Rattle.answer.specs.declared.Refusal.TheVariants.{BadByte}
 use Rattle.answer.specs.Outcomes.{Outcome, done, unless}
 

@@ -1,7 +1,8 @@
 -- Parts put one after the other among lent bits, and the bytes that they make.
 -- In order: spliced-next, run-next; same_bytes, bytes-in-front; size_holds.
 -- Assumes nothing.
-use Rattle.laws.proofs.All.{◌≡◌, sym, ap, ap₂, ◌∙◌, List, ◌++◌, map, ℕ, ◌+◌, ◌*◌, ◌/◌, ◌≤◌, arith, length, drop}
+use Rattle.std.proofs.Common.{◌≡◌, ◌++◌, ◌+◌, ◌*◌, ◌/◌, ◌≤◌}
+use Rattle.laws.proofs.All.{sym, ap, ap₂, ◌∙◌, List, map, ℕ, arith, length, drop}
 use Rattle.laws.proofs.All.{replicate, length-append, length-drop, concat, range, Below, below-append, below-drop}
 use Rattle.laws.proofs.All.{concat-more, length_run}
 use Rattle.bits.specs.Fields.{read, bits_of}

@@ -1,8 +1,9 @@
 -- Single bits: of a number of two words, of a union, of a meeting, of one bit and of a row of ones.
 -- In order: bit; bit-low, bit_high; or-bit, and-bit; zero_bit, pow-bit, ones_bit.
 -- Assumes nothing.
-use Rattle.laws.proofs.All.{◌≡◌, refl, sym, ap, ◌∙◌, ◌⊎◌, inl, inr, false, ◌||◌, ◌&&◌, ℕ, zero, suc, ◌+◌, ◌-◌, ◌*◌, ◌/◌}
-use Rattle.laws.proofs.All.{◌%◌, ◌^◌, ◌<◌, add_comm, mul_assoc, mod-lt, add-mul-div_right, mul-add-mod_self_right}
+use Rattle.std.proofs.Common.{◌≡◌, ◌⊎◌, ◌||◌, ◌&&◌, ◌+◌, ◌-◌, ◌*◌, ◌/◌, ◌%◌, ◌^◌, ◌<◌}
+use Rattle.laws.proofs.All.{refl, sym, ap, ◌∙◌, inl, inr, false, ℕ, zero, suc}
+use Rattle.laws.proofs.All.{add_comm, mul_assoc, mod-lt, add-mul-div_right, mul-add-mod_self_right}
 use Rattle.laws.proofs.All.{div-eq_of_lt, pow-suc, arith, digits_div, digits_mod, bit_and, bit_or, eqb, ltb, lit<}
 use Rattle.laws.proofs.All.{pow-add, pow_pos, high, shr-shr}
 use native.Mathlib.Nat.{zero-lt-suc, div-one, mul-mod_left, mul-div_cancel, zero-div}

@@ -1,7 +1,8 @@
 -- A loop over the members of a set from the lowest on: what it has collected, and what is left.
 -- In order: Walked, walk_start, walk-cons, walk-in, walk-some, walk-less, walk-next, walk-done; head-lt.
 -- Assumes nothing.
-use Rattle.laws.proofs.All.{◌≡◌, sym, ap, subst, ◌∙◌, Bool, false, ◌||◌, or_assoc, or-false, List, [], ◌∷◌, ℕ, ◌≤◌, ◌<◌}
+use Rattle.std.proofs.Common.{◌≡◌, ◌||◌, ◌∷◌, ◌≤◌, ◌<◌}
+use Rattle.laws.proofs.All.{sym, ap, subst, ◌∙◌, Bool, false, or_assoc, or-false, List, [], ℕ}
 use Rattle.laws.proofs.All.{arith, length, get_or, drop, any, Each}
 use Rattle.bitsets.proofs.Places.{head-cons, head-none}
 

@@ -2,10 +2,11 @@
 -- In order: places-ones, places-le; places-first; places-rest; any-places, →any-places, any-places→, places-some; In,
 -- places-each, places-below; head-cons, head-none.
 -- Assumes nothing.
-use Rattle.laws.proofs.All.{◌≡◌, refl, sym, ap, ap₂, ◌∙◌, ◌⊎◌, inl, inr, Bool, true, false, not, ◌&&◌, ◌||◌, List, []}
-use Rattle.laws.proofs.All.{◌∷◌, ℕ, zero, suc, ◌+◌, ◌-◌, ◌*◌, ◌/◌, ◌%◌, ◌^◌, ◌≤◌, ◌<◌, add-zero, zero-add, mod-lt}
+use Rattle.std.proofs.Common.{◌≡◌, ◌⊎◌, ◌&&◌, ◌||◌, ◌∷◌, ◌+◌, ◌-◌, ◌*◌, ◌/◌, ◌%◌, ◌^◌, ◌≤◌, ◌<◌, if◌then◌else◌}
+use Rattle.laws.proofs.All.{refl, sym, ap, ap₂, ◌∙◌, inl, inr, Bool, true, false, not, List, []}
+use Rattle.laws.proofs.All.{ℕ, zero, suc, add-zero, zero-add, mod-lt}
 use Rattle.laws.proofs.All.{mod-one, arith, bit_and, T, eqb, lit<, length, get_or, drop, shr-shr, mod-pow-add}
-use Rattle.laws.proofs.All.{if◌then◌else◌, from, range, filter, any, Each, any-below→, →any-below, and→, →and, each_map}
+use Rattle.laws.proofs.All.{from, range, filter, any, Each, any-below→, →any-below, and→, →and, each_map}
 use Rattle.laws.proofs.All.{each-filter, any-filter, each-range, filter-interval}
 use native.Mathlib.Nat.{div-one, lt_irrefl}
 use lib.Bits.{and_step, and_self}

@@ -1,7 +1,8 @@
 -- Sets written into an array of sets, two words each.
 -- In order: put-made.
 -- Assumes nothing.
-use Rattle.laws.proofs.All.{◌≡◌, ap₂, ◌∙◌, List, ℕ, ◌+◌, ◌*◌, ◌<◌, arith, length, get_or, set, length-set, get_or-set_same}
+use Rattle.std.proofs.Common.{◌≡◌, ◌+◌, ◌*◌, ◌<◌}
+use Rattle.laws.proofs.All.{ap₂, ◌∙◌, List, ℕ, arith, length, get_or, set, length-set, get_or-set_same}
 use Rattle.laws.proofs.All.{get_or-set_other}
 use Rattle.bitsets.specs.BitSets.{set_of, Put}
 

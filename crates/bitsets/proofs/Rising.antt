@@ -1,8 +1,9 @@
 -- The places of the set bits of a number stand in rising order, and each of them stands in the list.
 -- In order: places-rising, places-find, places-hold.
 -- Assumes nothing.
-use Rattle.laws.proofs.All.{◌≡◌, Bool, true, false, ◌∷◌, ℕ, zero, suc, ◌≤◌, ◌<◌, le_refl, le_of_suc-le-suc}
-use Rattle.laws.proofs.All.{not-suc-le-zero, arith, T, length, get_or, if◌then◌else◌, from, range, filter, index_of}
+use Rattle.std.proofs.Common.{◌≡◌, ◌∷◌, ◌≤◌, ◌<◌, if◌then◌else◌}
+use Rattle.laws.proofs.All.{Bool, true, false, ℕ, zero, suc, le_refl, le_of_suc-le-suc}
+use Rattle.laws.proofs.All.{not-suc-le-zero, arith, T, length, get_or, from, range, filter, index_of}
 use Rattle.laws.proofs.All.{elem-range, →elem-filter, index-lt, at-index, each_at}
 use Rattle.bitsets.specs.BitSets.{bit_at, places_of}
 use Rattle.bitsets.proofs.Places.{In, places-each}

@@ -2,7 +2,8 @@
 -- In order: any-members→, →any-members, meeting→, →meeting, tests over sets; yes-member, yes-length, yes-same;
 -- set-none; members-rising, members-find, members-hold.
 -- Assumes nothing.
-use Rattle.laws.proofs.All.{◌≡◌, Bool, false, ◌&&◌, map, ℕ, ◌<◌, T, length, get_or, range, any, member, any-below→}
+use Rattle.std.proofs.Common.{◌≡◌, ◌&&◌, ◌<◌}
+use Rattle.laws.proofs.All.{Bool, false, map, ℕ, T, length, get_or, range, any, member, any-below→}
 use Rattle.laws.proofs.All.{→any-below, and→, →and, map-range-at, length-map-range, map-range-same}
 use Rattle.bitsets.specs.declared.BitSet.{BitSet}
 use Rattle.bitsets.specs.BitSets.{value_of, holds, members_of, yes_no, meeting, set_of}

@@ -2,8 +2,9 @@
 -- In order: filter-head, places-head, lowest-of; count_yes, first-yes, either-map, yes-count, yes-first, yes-some,
 -- yes-either, members-count, the list of yes and no; not-not; state_sets.
 -- Assumes nothing.
-use Rattle.laws.proofs.All.{◌≡◌, refl, sym, ap, ◌∙◌, ◌⊎◌, inl, inr, Bool, true, false, not, ◌||◌, List, [], ◌∷◌, map}
-use Rattle.laws.proofs.All.{ℕ, zero, suc, ◌+◌, ◌<◌, arith, eq-eqb, ne_eqb, eqb, length, get_or, if◌then◌else◌, from}
+use Rattle.std.proofs.Common.{◌≡◌, ◌⊎◌, ◌||◌, ◌∷◌, ◌+◌, ◌<◌, if◌then◌else◌}
+use Rattle.laws.proofs.All.{refl, sym, ap, ◌∙◌, inl, inr, Bool, true, false, not, List, [], map}
+use Rattle.laws.proofs.All.{ℕ, zero, suc, arith, eq-eqb, ne_eqb, eqb, length, get_or, from}
 use Rattle.laws.proofs.All.{range, filter, any, first, any-map}
 use native.Mathlib.Nat.{eq-zero-or-pos}
 use lib.Bits.{or_block}

@@ -1,8 +1,9 @@
 -- Sets of two words: laws of the number that the words make.
 -- In order: words_count, words-empty; first-low, first-high; rest-low, rest-high, some-high; with-low, with-high.
 -- Assumes nothing.
-use Rattle.laws.proofs.All.{◌≡◌, refl, sym, ap, ap₂, ◌∙◌, subst, ◌⊎◌, inl, inr, ◌&&◌, ℕ, zero, suc, ◌+◌, ◌-◌, ◌*◌, ◌/◌}
-use Rattle.laws.proofs.All.{◌%◌, ◌^◌, ◌<◌, add-zero, zero-add, suc-add, add_comm, mul_comm, one-mul, mod-eq_of_lt}
+use Rattle.std.proofs.Common.{◌≡◌, ◌⊎◌, ◌&&◌, ◌+◌, ◌-◌, ◌*◌, ◌/◌, ◌%◌, ◌^◌, ◌<◌}
+use Rattle.laws.proofs.All.{refl, sym, ap, ap₂, ◌∙◌, subst, inl, inr, ℕ, zero, suc}
+use Rattle.laws.proofs.All.{add-zero, zero-add, suc-add, add_comm, mul_comm, one-mul, mod-eq_of_lt}
 use Rattle.laws.proofs.All.{arith, eq-eqb, ne_eqb, digits_lt, bit_and, bit_or, T, eqb, eqb→eq, lit<, length, get_or, drop}
 use Rattle.laws.proofs.All.{pow-add, pow_pos, shl_exact, shr_lt, bool_eq}
 use native.Mathlib.Nat.{eq-zero-or-pos, mul-one}

@@ -1,10 +1,10 @@
 -- A set in two machine words is the list of yes and no that it stands for: members, lowest, emptiness, joining.
 -- In order: Words, joined; yeses, first_yes, some_yes, either, of lists of yes and no; StateSets.
 -- Assumes nothing.
-use Rattle.std.specs.Prelude.{◌≡◌, Bool, not, ◌&&◌, ◌||◌, List, [], ◌∷◌, ℕ, suc, ◌+◌, ◌^◌, ◌<◌, eqb}
+use Rattle.std.specs.Prelude.{if◌then◌else◌, ◌≡◌, Bool, not, ◌&&◌, ◌||◌, List, [], ◌∷◌, ℕ, suc, ◌+◌, ◌^◌, ◌<◌, eqb}
 use Rattle.std.specs.Int.Bits.{bit_or}
 use Rattle.std.specs.Int.Count.{ones, count_trailing_zeros}
-use Rattle.laws.specs.Lists.{if◌then◌else◌, any}
+use Rattle.laws.specs.Lists.{any}
 use Rattle.bitsets.specs.declared.BitSet.{BitSet}
 use Rattle.bitsets.specs.BitSets.{yes_no, set_of}
 

@@ -1,7 +1,8 @@
 -- Demand 2, second half, of the outcomes of encoding and decoding under a code: round trip, and recordings recognised.
 -- In order: →encoded, encoded→, →decoded, decoded→; words-below; returns; recognised-answers.
 -- Assumes nothing.
-use Rattle.laws.proofs.All.{◌≡◌, sym, ap, subst, ◌∙◌, ◌↔◌, List, ◌++◌, ℕ, ◌+◌, ◌-◌, ◌^◌, ◌≤◌, arith, leb, leb→le}
+use Rattle.std.proofs.Common.{◌≡◌, ◌↔◌, ◌++◌, ◌+◌, ◌-◌, ◌^◌, ◌≤◌}
+use Rattle.laws.proofs.All.{sym, ap, subst, ◌∙◌, List, ℕ, arith, leb, leb→le}
 use Rattle.laws.proofs.All.{le-leb, length, Below}
 use Rattle.answer.specs.declared.Refusal.TheVariants.{TooFewWords, ShortOutput}
 use Rattle.answer.specs.Outcomes.{done, unless}

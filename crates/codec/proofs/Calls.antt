@@ -2,7 +2,8 @@
 -- In order: in_row, in-row-4, in-row-2-2, in-row-5; Encodes, encoded-exact, encode-calls; Decodes, decoded-exact,
 -- decode-calls; judged-late, fields-packed, fields-refused, checked-calls.
 -- Assumes nothing.
-use Rattle.laws.proofs.All.{◌≡◌, refl, sym, ap, subst, ◌∙◌, ◌↔◌, List, ℕ, ◌+◌, ◌-◌, ◌^◌, ◌≤◌, ◌<◌, arith, leb, length}
+use Rattle.std.proofs.Common.{◌≡◌, ◌↔◌, ◌+◌, ◌-◌, ◌^◌, ◌≤◌, ◌<◌}
+use Rattle.laws.proofs.All.{refl, sym, ap, subst, ◌∙◌, List, ℕ, arith, leb, length}
 use Rattle.laws.proofs.All.{get_or, take, Below}
 use Rattle.answer.specs.declared.Refusal.{Refusal}
 use Rattle.answer.specs.declared.Refusal.TheVariants.{Disobeys, WindowFails, BadByte, TooFewWords, ShortOutput}

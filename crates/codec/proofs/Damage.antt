@@ -1,7 +1,8 @@
 -- A block that stands clear is read as it was recorded, whatever the rest of the list holds.
 -- In order: recovered.
 -- Assumes nothing.
-use Rattle.laws.proofs.All.{◌≡◌, refl, sym, ap, ◌∙◌, inl, inr, List, ◌++◌, ℕ, ◌-◌, ◌^◌, ◌<◌, zero-le, arith}
+use Rattle.std.proofs.Common.{◌≡◌, ◌++◌, ◌-◌, ◌^◌, ◌<◌}
+use Rattle.laws.proofs.All.{refl, sym, ap, ◌∙◌, inl, inr, List, ℕ, zero-le, arith}
 use Rattle.laws.proofs.All.{length, get_or, get_or-append, map-range-at, Below, take_all}
 use Rattle.table.specs.Rows.{Code}
 use Rattle.table.specs.Paths.{recording, closing}

@@ -1,7 +1,8 @@
 -- Decoding under a table by value, with the number of data that the code has computed.
 -- In order: length-decode, decoded-in.
 -- Assumes nothing.
-use Rattle.laws.proofs.All.{◌≡◌, sym, List, ◌++◌, map, ℕ, ◌-◌, ◌^◌, length, range, length-map-range}
+use Rattle.std.proofs.Common.{◌≡◌, ◌++◌, ◌-◌, ◌^◌}
+use Rattle.laws.proofs.All.{sym, List, map, ℕ, length, range, length-map-range}
 use Rattle.table.specs.declared.Table.{Table}
 use Rattle.table.specs.Rows.{Code}
 use Rattle.table.specs.Value.{code_in}

@@ -1,7 +1,8 @@
 -- How many blocks differ from the data written where one word is overwritten.
 -- In order: same_block; one_word.
 -- Assumes nothing.
-use Rattle.laws.proofs.All.{◌≡◌, ap, ◌⊎◌, inl, inr, false, not, List, ℕ, ◌+◌, ◌-◌, ◌^◌, ◌≤◌, ◌<◌, arith, eq-eqb}
+use Rattle.std.proofs.Common.{◌≡◌, ◌⊎◌, ◌+◌, ◌-◌, ◌^◌, ◌≤◌, ◌<◌}
+use Rattle.laws.proofs.All.{ap, inl, inr, false, not, List, ℕ, arith, eq-eqb}
 use Rattle.laws.proofs.All.{length, get_or, filter-interval, Below}
 use Rattle.answer.specs.Outcomes.{done}
 use Rattle.table.specs.Rows.{Code}

@@ -2,7 +2,8 @@
 -- the calls that do not look at 9 and 10 answer as those that do.
 -- In order: encodes, decodes, decoded-blocks; loaded; fields-too, checked.
 -- Assumes nothing.
-use Rattle.laws.proofs.All.{◌≡◌, sym, ap, ◌∙◌, List, [], ℕ, ◌+◌, ◌-◌, ◌^◌, ◌≤◌, ◌<◌, arith, T, length, get_or, Below}
+use Rattle.std.proofs.Common.{◌≡◌, ◌+◌, ◌-◌, ◌^◌, ◌≤◌, ◌<◌}
+use Rattle.laws.proofs.All.{sym, ap, ◌∙◌, List, [], ℕ, arith, T, length, get_or, Below}
 use Rattle.laws.proofs.All.{map-range-at}
 use Rattle.answer.specs.declared.Refusal.TheVariants.{Field, Disobeys, WindowFails}
 use Rattle.answer.specs.Outcomes.{done, unless}

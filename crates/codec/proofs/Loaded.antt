@@ -1,7 +1,8 @@
 -- Encoding and decoding under the record in some bytes, once the record is read or loaded: o is what that came to.
 -- In order: under-bad, under-read, under-good; encode-read, decode-read.
 -- Assumes nothing.
-use Rattle.laws.proofs.All.{◌≡◌, List, ℕ, T, T→true}
+use Rattle.std.proofs.Common.{◌≡◌}
+use Rattle.laws.proofs.All.{List, ℕ, T, T→true}
 use Rattle.answer.specs.declared.Refusal.{Refusal}
 use Rattle.answer.specs.declared.Refusal.TheVariants.{Field}
 use Rattle.answer.specs.Outcomes.{Outcome, done, refused, unless, onward}

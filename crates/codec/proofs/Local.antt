@@ -2,7 +2,8 @@
 -- In order: read_behind, read_window; cut-window; past-later, past-early; block-later, block-early; block-local,
 -- block-local-start; block-part.
 -- Assumes nothing.
-use Rattle.laws.proofs.All.{◌≡◌, sym, ap, ◌∙◌, ◌⊎◌, inl, inr, Bool, List, ℕ, suc, ◌+◌, ◌-◌, ◌≤◌, ◌<◌, arith, dec_le}
+use Rattle.std.proofs.Common.{◌≡◌, ◌⊎◌, ◌+◌, ◌-◌, ◌≤◌, ◌<◌}
+use Rattle.laws.proofs.All.{sym, ap, ◌∙◌, inl, inr, Bool, List, ℕ, suc, arith, dec_le}
 use Rattle.laws.proofs.All.{get_or, take, drop, lt-ltb, le-ltb, take-take, get_or-take, get_or-drop, drop-take, drop-drop}
 use Rattle.table.specs.Rows.{Rows, Code}
 use Rattle.codec_steps.specs.StateSets.{every_state, one_state, along_all}

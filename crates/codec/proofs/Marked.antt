@@ -3,10 +3,11 @@
 -- In order: window-parts; Begun, begun; follows→, →follows; carried; Shows, settled, shows; marks, read-datum,
 -- no-mark-ahead, clear-unmarked.
 -- Assumes nothing.
-use Rattle.laws.proofs.All.{◌≡◌, refl, sym, ap, subst, ◌∙◌, ◌↔◌, ◌⊎◌, inl, inr, Bool, true, false, List, [], ◌∷◌}
-use Rattle.laws.proofs.All.{◌++◌, ℕ, min, min-eq_left, min-eq_right}
-use Rattle.laws.proofs.All.{suc, ◌+◌, ◌-◌, ◌^◌, ◌≤◌, ◌<◌, arith, dec_lt, lt-ltb, le-ltb, T, length, get_or, take, drop}
-use Rattle.laws.proofs.All.{length-drop, length-take-le, split_at, if◌then◌else◌, elem, member, tab→, →tab, Below}
+use Rattle.std.proofs.Common.{◌≡◌, ◌↔◌, ◌⊎◌, ◌∷◌, ◌++◌, ◌+◌, ◌-◌, ◌^◌, ◌≤◌, ◌<◌, if◌then◌else◌}
+use Rattle.laws.proofs.All.{refl, sym, ap, subst, ◌∙◌, inl, inr, Bool, true, false, List, []}
+use Rattle.laws.proofs.All.{ℕ, min, min-eq_left, min-eq_right}
+use Rattle.laws.proofs.All.{suc, arith, dec_lt, lt-ltb, le-ltb, T, length, get_or, take, drop}
+use Rattle.laws.proofs.All.{length-drop, length-take-le, split_at, elem, member, tab→, →tab, Below}
 use Rattle.laws.proofs.All.{below_at}
 use Rattle.answer.specs.Outcomes.{done}
 use Rattle.table.specs.Rows.{Rows, Code}

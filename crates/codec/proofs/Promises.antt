@@ -1,7 +1,8 @@
 -- Demands 2 and 3 from bytes to bytes: of the record's bytes, the blocks and the words.
 -- In order: facts; demand-2-returns; demand-2-recognised; demand-3; different-data.
 -- Assumes nothing.
-use Rattle.laws.proofs.All.{◌≡◌, sym, ◌∙◌, ◌↔◌, List, ℕ, ◌-◌, ◌^◌, ◌≤◌, ◌<◌, length, get_or, Below}
+use Rattle.std.proofs.Common.{◌≡◌, ◌↔◌, ◌-◌, ◌^◌, ◌≤◌, ◌<◌}
+use Rattle.laws.proofs.All.{sym, ◌∙◌, List, ℕ, length, get_or, Below}
 use Rattle.answer.specs.Outcomes.{done}
 use Rattle.answer.proofs.Outcomes.{onward→}
 use Rattle.table.specs.Rows.{Code}

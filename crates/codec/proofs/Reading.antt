@@ -3,8 +3,9 @@
 -- →along_all, reads_end, able→, →able, one→, →one, reading→, →reading, first_or_none; reading→path, path→reading;
 -- stretch, at_place, one-reading.
 -- Assumes nothing.
-use Rattle.laws.proofs.All.{◌≡◌, refl, sym, ap, ap₂, subst, subst₂, ◌∙◌, ◌⊎◌, inl, inr, Bool, true, ◌&&◌, List, []}
-use Rattle.laws.proofs.All.{◌∷◌, ◌++◌, ℕ, zero, suc, ◌-◌, ◌<◌, arith, T, eqb, eqb→eq, eqb_refl, length, get_or, take}
+use Rattle.std.proofs.Common.{◌≡◌, ◌⊎◌, ◌&&◌, ◌∷◌, ◌++◌, ◌-◌, ◌<◌}
+use Rattle.laws.proofs.All.{refl, sym, ap, ap₂, subst, subst₂, ◌∙◌, inl, inr, Bool, true, List, []}
+use Rattle.laws.proofs.All.{ℕ, zero, suc, arith, T, eqb, eqb→eq, eqb_refl, length, get_or, take}
 use Rattle.laws.proofs.All.{drop, length-drop, drop-cons, drop_at, length-take-le, take-append_seam, range, any, elem}
 use Rattle.laws.proofs.All.{and→, →and, →any, any→, any-below→, →any-below, →or_l, tab→, →tab, member}
 use Rattle.table.specs.Rows.{edge, Rows, edges, at}

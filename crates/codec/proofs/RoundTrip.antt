@@ -1,7 +1,8 @@
 -- Under a sound table decoding a recording gives its data, and the lists that are recordings are recognised.
 -- In order: clear_self; decode-recording; recognised; recording-inj.
 -- Assumes nothing.
-use Rattle.laws.proofs.All.{◌≡◌, refl, sym, ap, ◌∙◌, inl, inr, ◌↔◌, List, ℕ, ◌+◌, ◌≤◌, ◌<◌, arith, dec_lt}
+use Rattle.std.proofs.Common.{◌≡◌, ◌↔◌, ◌+◌, ◌≤◌, ◌<◌}
+use Rattle.laws.proofs.All.{refl, sym, ap, ◌∙◌, inl, inr, List, ℕ, arith, dec_lt}
 use Rattle.laws.proofs.All.{length, ext_get_or}
 use Rattle.table.specs.Rows.{Code}
 use Rattle.table.specs.Paths.{Blocks, recording}

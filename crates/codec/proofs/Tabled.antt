@@ -1,7 +1,8 @@
 -- Encoding and decoding under a table by value, check by check.
 -- In order: encode-7 to encode-done; decode-7, decode-ready; under a code decode-12 to decode-done, decode-within.
 -- Assumes nothing.
-use Rattle.laws.proofs.All.{◌≡◌, ◌∙◌, true, false, List, ℕ, ◌+◌, ◌-◌, ◌^◌, ◌≤◌, ◌<◌, lt-leb, le-leb, leb, leb→le}
+use Rattle.std.proofs.Common.{◌≡◌, ◌+◌, ◌-◌, ◌^◌, ◌≤◌, ◌<◌}
+use Rattle.laws.proofs.All.{◌∙◌, true, false, List, ℕ, lt-leb, le-leb, leb, leb→le}
 use Rattle.laws.proofs.All.{length}
 use Rattle.answer.specs.declared.Refusal.TheVariants.{Field, BadByte, TooFewWords, ShortOutput}
 use Rattle.answer.specs.Outcomes.{Outcome, done, refused, unless}

@@ -1,8 +1,7 @@
 -- What the marks say of paths: "whether a block is dark because of what went before".
 -- In order: window_words, the words about a block; Follows, a path that reads them.
 -- Assumes nothing.
-use Rattle.std.specs.Prelude.{◌≡◌, List, ℕ, ◌+◌, ◌-◌, ◌<◌, ltb, length, take, drop}
-use Rattle.laws.specs.Lists.{if◌then◌else◌}
+use Rattle.std.specs.Prelude.{if◌then◌else◌, ◌≡◌, List, ℕ, ◌+◌, ◌-◌, ◌<◌, ltb, length, take, drop}
 use Rattle.table.specs.Rows.{Code}
 use Rattle.table.specs.Paths.{Path, spells}
 

@@ -1,8 +1,9 @@
 -- The first edge from one set into another by its place, and the readings of a block.
 -- In order: reads_at; no-reading, first-reading.
 -- Assumes nothing.
-use Rattle.laws.proofs.All.{◌≡◌, refl, sym, ap, ap₂, ◌∙◌, Bool, true, false, ◌&&◌, and-false, List, [], ◌∷◌, ℕ, ◌+◌}
-use Rattle.laws.proofs.All.{◌*◌, ◌/◌, ◌%◌, ◌<◌, arith, ltb-true, eqb, length, get_or, filter_none, filter-first}
+use Rattle.std.proofs.Common.{◌≡◌, ◌&&◌, ◌∷◌, ◌+◌, ◌*◌, ◌/◌, ◌%◌, ◌<◌}
+use Rattle.laws.proofs.All.{refl, sym, ap, ap₂, ◌∙◌, Bool, true, false, and-false, List, [], ℕ}
+use Rattle.laws.proofs.All.{arith, ltb-true, eqb, length, get_or, filter_none, filter-first}
 use Rattle.laws.proofs.All.{concat-none, concat-first, member}
 use Rattle.table.specs.Rows.{edges, at}
 use Rattle.table.specs.Edges.{Arrays, rows_of, places, word_of, next_of, Fits, bears}

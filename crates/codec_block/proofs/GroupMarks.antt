@@ -1,8 +1,9 @@
 -- The groups of a word by their states, and the mark of a block that no edge reads.
 -- In order: some→, edge-from, →some, some-group; mark-is.
 -- Assumes nothing.
-use Rattle.laws.proofs.All.{◌≡◌, sym, ap, subst, ◌∙◌, Bool, true, List, ℕ, ◌+◌, ◌*◌, ◌/◌, ◌<◌, arith, T, eqb, eqb→eq}
-use Rattle.laws.proofs.All.{eqb_refl, length, get_or, if◌then◌else◌, member, and→, →and, T→true, bool_eq, any-below→}
+use Rattle.std.proofs.Common.{◌≡◌, ◌+◌, ◌*◌, ◌/◌, ◌<◌, if◌then◌else◌}
+use Rattle.laws.proofs.All.{sym, ap, subst, ◌∙◌, Bool, true, List, ℕ, arith, T, eqb, eqb→eq}
+use Rattle.laws.proofs.All.{eqb_refl, length, get_or, member, and→, →and, T→true, bool_eq, any-below→}
 use Rattle.laws.proofs.All.{→any-below, any-map}
 use Rattle.table.specs.Rows.{Edge, edges, has_word}
 use Rattle.table.specs.Edges.{Arrays, rows_of, places, is_edge, word_of, bears}

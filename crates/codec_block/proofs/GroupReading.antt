@@ -2,8 +2,9 @@
 -- In order: from_first, reads-group, none_reads, an edge and its group; end-small, entry_next, goes-reads, reads-goes,
 -- some-goes, the entries of a group's state; least-reads, group-datum; found_within, found-datum, found_none.
 -- Assumes nothing.
-use Rattle.laws.proofs.All.{◌≡◌, refl, sym, ap, subst, ◌∙◌, inl, inr, Bool, true, false, ◌&&◌, List, [], ℕ, ◌+◌}
-use Rattle.laws.proofs.All.{◌*◌, ◌/◌, ◌%◌, ◌≤◌, ◌<◌, arith, dec_lt, ℕ_discrete, ltb-true, lt-ltb, T, eqb, get_or, and→}
+use Rattle.std.proofs.Common.{◌≡◌, ◌&&◌, ◌+◌, ◌*◌, ◌/◌, ◌%◌, ◌≤◌, ◌<◌}
+use Rattle.laws.proofs.All.{refl, sym, ap, subst, ◌∙◌, inl, inr, Bool, true, false, List, [], ℕ}
+use Rattle.laws.proofs.All.{arith, dec_lt, ℕ_discrete, ltb-true, lt-ltb, T, eqb, get_or, and→}
 use Rattle.laws.proofs.All.{→and, T→true}
 use Rattle.table.specs.Edges.{Arrays, rows_of, places, is_edge, word_of, next_of, bears}
 use Rattle.table.proofs.Edges.{bears-edge}

@@ -2,8 +2,9 @@
 -- In order: Sought, with sought-start, sought-in, sought-some, sought-less, sought-yes, sought-no, sought-none;
 -- member-sought; member-first.
 -- Assumes nothing.
-use Rattle.laws.proofs.All.{◌≡◌, refl, sym, ap, ap₂, subst, ◌∙◌, Bool, true, false, ◌&&◌, List, ◌∷◌, map, ℕ, ◌+◌, ◌-◌}
-use Rattle.laws.proofs.All.{◌≤◌, ◌<◌, arith, length, get_or, drop, if◌then◌else◌, from, first, first-filter, Each}
+use Rattle.std.proofs.Common.{◌≡◌, ◌&&◌, ◌∷◌, ◌+◌, ◌-◌, ◌≤◌, ◌<◌, if◌then◌else◌}
+use Rattle.laws.proofs.All.{refl, sym, ap, ap₂, subst, ◌∙◌, Bool, true, false, List, map, ℕ}
+use Rattle.laws.proofs.All.{arith, length, get_or, drop, from, first, first-filter, Each}
 use Rattle.bitsets.specs.declared.BitSet.{BitSet}
 use Rattle.bitsets.specs.BitSets.{holds, members_of}
 use Rattle.bitsets.proofs.Places.{head-cons, head-none}

@@ -1,8 +1,9 @@
 -- The first number from i on and below j that passes, or d where none does.
 -- In order: scan with scan-yes, scan-no, scan-end; Scanned, scanned; group-scan, into-scan.
 -- Assumes nothing.
-use Rattle.laws.proofs.All.{◌≡◌, refl, sym, ap, subst, ◌∙◌, ◌⊎◌, inl, inr, Bool, true, false, List, ℕ, zero, suc}
-use Rattle.laws.proofs.All.{◌+◌, ◌-◌, ◌≤◌, ◌<◌, add-one, arith, ℕ_discrete, get_or, if◌then◌else◌, from, first}
+use Rattle.std.proofs.Common.{◌≡◌, ◌⊎◌, ◌+◌, ◌-◌, ◌≤◌, ◌<◌, if◌then◌else◌}
+use Rattle.laws.proofs.All.{refl, sym, ap, subst, ◌∙◌, inl, inr, Bool, true, false, List, ℕ, zero, suc}
+use Rattle.laws.proofs.All.{add-one, arith, ℕ_discrete, get_or, from, first}
 use Rattle.bitsets.specs.declared.BitSet.{BitSet}
 use Rattle.codec_steps.specs.BlockParts.{no_place, joins_at, first_group, enters_at, first_into}
 

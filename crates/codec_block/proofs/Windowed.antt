@@ -1,8 +1,9 @@
 -- The window of a block as the code cuts it.
 -- In order: past-start, past-later, past-set, past-none; block_read, the block by its readings.
 -- Assumes nothing.
-use Rattle.laws.proofs.All.{◌≡◌, sym, ap, ap₂, ◌∙◌, Bool, List, ℕ, ◌+◌, ◌-◌, ◌≤◌, ◌<◌, arith, dec_lt, lt-ltb}
-use Rattle.laws.proofs.All.{le-ltb, eqb, ltb, get_or, take, drop, slice, if◌then◌else◌, drop-take}
+use Rattle.std.proofs.Common.{◌≡◌, ◌+◌, ◌-◌, ◌≤◌, ◌<◌, if◌then◌else◌}
+use Rattle.laws.proofs.All.{sym, ap, ap₂, ◌∙◌, Bool, List, ℕ, arith, dec_lt, lt-ltb}
+use Rattle.laws.proofs.All.{le-ltb, eqb, ltb, get_or, take, drop, slice, drop-take}
 use Rattle.table.specs.Rows.{Rows}
 use Rattle.table.specs.Edges.{Arrays, rows_of, Fits}
 use Rattle.table.proofs.RowsOf.{length-rows}

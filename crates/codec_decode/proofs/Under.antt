@@ -1,7 +1,8 @@
 -- Decoding under a table by value, from what the check of its words said.
 -- In order: room-good; under-bad, under-good.
 -- Assumes nothing.
-use Rattle.laws.proofs.All.{◌≡◌, refl, ◌∙◌, ap, true, List, ℕ, ◌-◌, ◌≤◌, length}
+use Rattle.std.proofs.Common.{◌≡◌, ◌-◌, ◌≤◌}
+use Rattle.laws.proofs.All.{refl, ◌∙◌, ap, true, List, ℕ, length}
 use Rattle.answer.specs.declared.Refusal.{Refusal}
 use Rattle.answer.specs.declared.Verdict.{Verdict}
 use Rattle.answer.specs.declared.Verdict.TheVariants.{Good, Bad}

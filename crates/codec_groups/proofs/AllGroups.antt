@@ -1,7 +1,8 @@
 -- The groups of all words below a bound, word by word.
 -- In order: Laying, with laying-start, laying-room, laying-more; laid.
 -- Assumes nothing.
-use Rattle.laws.proofs.All.{◌≡◌, refl, sym, ap, subst, subst₂, ◌∙◌, List, ℕ, zero, suc, ◌+◌, ◌%◌, ◌≤◌, ◌<◌, arith}
+use Rattle.std.proofs.Common.{◌≡◌, ◌+◌, ◌%◌, ◌≤◌, ◌<◌}
+use Rattle.laws.proofs.All.{refl, sym, ap, subst, subst₂, ◌∙◌, List, ℕ, zero, suc, arith}
 use Rattle.laws.proofs.All.{ℕ_discrete, dec_lt, ltb-true, length, get_or, set, length-set, get_or-set_same}
 use Rattle.laws.proofs.All.{get_or-set_other, replicate, length-replicate}
 use Rattle.table.specs.Edges.{Arrays, Fits, places, word_of}

@@ -1,7 +1,8 @@
 -- Laws of tests over the numbers from one bound on and below another.
 -- In order: between_none, between-empty, between_more; between→, →between.
 -- Assumes nothing.
-use Rattle.laws.proofs.All.{◌≡◌, ap, subst, ◌∙◌, Bool, false, ◌||◌, or-false, ℕ, ◌+◌, ◌-◌, ◌≤◌, ◌<◌, arith, T, any}
+use Rattle.std.proofs.Common.{◌≡◌, ◌||◌, ◌+◌, ◌-◌, ◌≤◌, ◌<◌}
+use Rattle.laws.proofs.All.{ap, subst, ◌∙◌, Bool, false, or-false, ℕ, arith, T, any}
 use Rattle.laws.proofs.All.{from, any→, →any, any_append, length_from}
 use Rattle.laws.proofs.Tests.{get_or-from}
 use Rattle.laws.proofs.Ranges.{from-append}

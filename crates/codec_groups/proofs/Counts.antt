@@ -1,9 +1,10 @@
 -- Numbers of edges with a word, and with a word below another; no more states than edges.
 -- In order: count-rise, count-hit; before_more, before-zero, before-le; states-count, members-count.
 -- Assumes nothing.
-use Rattle.laws.proofs.All.{◌≡◌, refl, sym, ap, ◌∙◌, ◌⊎◌, inl, inr, Bool, true, false, ◌∷◌, [], ℕ, zero, suc, ◌+◌}
-use Rattle.laws.proofs.All.{◌-◌, ◌*◌, ◌/◌, ◌≤◌, ◌<◌, add-zero, add-one, le_refl, arith, length, length-append}
-use Rattle.laws.proofs.All.{◌++◌, append-nil, if◌then◌else◌, filter, range, filter-append, range-more}
+use Rattle.std.proofs.Common.{◌≡◌, ◌⊎◌, ◌∷◌, ◌+◌, ◌-◌, ◌*◌, ◌/◌, ◌≤◌, ◌<◌, ◌++◌, if◌then◌else◌}
+use Rattle.laws.proofs.All.{refl, sym, ap, ◌∙◌, inl, inr, Bool, true, false, [], ℕ, zero, suc}
+use Rattle.laws.proofs.All.{add-zero, add-one, le_refl, arith, length, length-append}
+use Rattle.laws.proofs.All.{append-nil, filter, range, filter-append, range-more}
 use native.Mathlib.Nat.{add-suc}
 use Rattle.table.specs.Edges.{Arrays, word_of, bears}
 use Rattle.table.proofs.Edges.{bears-word}

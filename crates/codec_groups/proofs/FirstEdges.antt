@@ -1,8 +1,9 @@
 -- The first edge of a state with a word: the search for it, and what it is.
 -- In order: sought_from, sought-start, sought-here, sought-next, sought-end; Least, edge-least.
 -- Assumes nothing.
-use Rattle.laws.proofs.All.{◌≡◌, refl, sym, ap, subst, ◌∙◌, Bool, true, false, List, ℕ, zero, suc, ◌+◌, ◌-◌, ◌*◌, ◌≤◌}
-use Rattle.laws.proofs.All.{◌<◌, le_refl, arith, ℕ_discrete, T, if◌then◌else◌, from, first}
+use Rattle.std.proofs.Common.{◌≡◌, ◌+◌, ◌-◌, ◌*◌, ◌≤◌, ◌<◌, if◌then◌else◌}
+use Rattle.laws.proofs.All.{refl, sym, ap, subst, ◌∙◌, Bool, true, false, List, ℕ, zero, suc}
+use Rattle.laws.proofs.All.{le_refl, arith, ℕ_discrete, T, from, first}
 use Rattle.codec_groups.specs.Groups.{has_at, first_edge}
 
 -- ---- the search: what is found from place e on

@@ -2,7 +2,8 @@
 -- In order: put-made, one group; Putting, those of the first members of a set, with putting-start, putting-at,
 -- putting-some, putting-more, putting-done.
 -- Assumes nothing.
-use Rattle.laws.proofs.All.{◌≡◌, refl, sym, ap, ap₂, ◌∙◌, List, ℕ, ◌+◌, ◌-◌, ◌≤◌, ◌<◌, add-zero, arith, ℕ_discrete}
+use Rattle.std.proofs.Common.{◌≡◌, ◌+◌, ◌-◌, ◌≤◌, ◌<◌}
+use Rattle.laws.proofs.All.{refl, sym, ap, ap₂, ◌∙◌, List, ℕ, add-zero, arith, ℕ_discrete}
 use Rattle.laws.proofs.All.{dec_lt, length, get_or, set, drop, length-set, get_or-set_same, get_or-set_other}
 use Rattle.laws.proofs.All.{get_or-drop}
 use Rattle.laws.proofs.All.{drop-drop, get_d_any, length-drop, get_or-eq_default}

@@ -3,10 +3,11 @@
 -- In order: below-members, group-counted; places-up, groups-members; group-source, group-below; groups_of, the groups
 -- of the states of a set.
 -- Assumes nothing.
-use Rattle.laws.proofs.All.{◌≡◌, refl, sym, ap, ap₂, ◌∙◌, Bool, true, false, ◌&&◌, and-true, and-false, List, []}
-use Rattle.laws.proofs.All.{◌∷◌, ◌++◌, append-nil, map, ℕ, zero, suc, ◌+◌, ◌-◌, ◌≤◌, ◌<◌, add-one, add-zero}
+use Rattle.std.proofs.Common.{◌≡◌, ◌&&◌, ◌∷◌, ◌++◌, ◌+◌, ◌-◌, ◌≤◌, ◌<◌, if◌then◌else◌}
+use Rattle.laws.proofs.All.{refl, sym, ap, ap₂, ◌∙◌, Bool, true, false, and-true, and-false, List, []}
+use Rattle.laws.proofs.All.{append-nil, map, ℕ, zero, suc, add-one, add-zero}
 use Rattle.laws.proofs.All.{arith, lt-ltb, le-ltb, T, ltb, length, get_or}
-use Rattle.laws.proofs.All.{length-append, if◌then◌else◌, from, range, filter, Each, each-range, each_map}
+use Rattle.laws.proofs.All.{length-append, from, range, filter, Each, each-range, each_map}
 use Rattle.laws.proofs.All.{each-always, filter-append, filter_same, filter_map, filter-never, filter-fuse}
 use Rattle.laws.proofs.All.{range-more, get_or-map-lt}
 use Rattle.laws.proofs.Tests.{get_or-from}

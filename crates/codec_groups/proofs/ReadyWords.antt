@@ -1,7 +1,8 @@
 -- The words of a table that is ready have q bits.
 -- In order: words-lent, of the arrays that the code lends, with the number of data that it has computed.
 -- Assumes nothing.
-use Rattle.laws.proofs.All.{◌≡◌, subst, ℕ, ◌*◌, ◌/◌, ◌%◌, ◌^◌, ◌<◌, arith, get_or}
+use Rattle.std.proofs.Common.{◌≡◌, ◌*◌, ◌/◌, ◌%◌, ◌^◌, ◌<◌}
+use Rattle.laws.proofs.All.{subst, ℕ, arith, get_or}
 use Rattle.table.specs.declared.Table.{Table}
 use Rattle.table.specs.Value.{Ready}
 use Rattle.table.proofs.RowsOf.{place}

@@ -2,9 +2,10 @@
 -- In order: GroupOf, one group; targets-same, member-source, member-group, the group of one state; states-few, no more
 -- states than edges; OfWord, word-laid, word-sources, word_same, sources-same, the groups of one word.
 -- Assumes nothing.
-use Rattle.laws.proofs.All.{◌≡◌, refl, sym, ap, ap₂, subst, subst₂, ◌∙◌, Bool, true, false, not, ◌&&◌, and-false}
+use Rattle.std.proofs.Common.{◌≡◌, ◌&&◌, ◌+◌, ◌-◌, ◌*◌, ◌/◌, ◌%◌, ◌≤◌, ◌<◌}
+use Rattle.laws.proofs.All.{refl, sym, ap, ap₂, subst, subst₂, ◌∙◌, Bool, true, false, not, and-false}
 use Rattle.laws.proofs.All.{List, ℕ}
-use Rattle.laws.proofs.All.{◌+◌, ◌-◌, ◌*◌, ◌/◌, ◌%◌, ◌≤◌, ◌<◌, arith, T, eqb, eqb→eq, eqb_refl, ne_eqb, lt-ltb}
+use Rattle.laws.proofs.All.{arith, T, eqb, eqb→eq, eqb_refl, ne_eqb, lt-ltb}
 use Rattle.laws.proofs.All.{ltb-true, length, get_or, any-range-same, and→, →and, T→true}
 use Rattle.table.specs.Marks.{some}
 use Rattle.table.specs.Edges.{Arrays, places, is_edge, next_of, Fits, bears}

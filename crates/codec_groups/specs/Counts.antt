@@ -1,8 +1,7 @@
 -- Numbers of edges, so that all groups have room.
 -- In order: count, before.
 -- Assumes nothing.
-use Rattle.std.specs.Prelude.{ℕ, zero, suc, ◌+◌}
-use Rattle.laws.specs.Lists.{if◌then◌else◌}
+use Rattle.std.specs.Prelude.{if◌then◌else◌, ℕ, zero, suc, ◌+◌}
 use Rattle.table.specs.Edges.{Arrays, bears}
 
 -- the number of edges below b with the word w

@@ -2,8 +2,9 @@
 -- In order: Writes, the words of a path written so far, with writes_start, writes_more, writes_end; recorded,
 -- recorded-in, blocks and closing words.
 -- Assumes nothing.
-use Rattle.laws.proofs.All.{◌≡◌, refl, sym, ap, ap₂, ◌∙◌, List, [], ◌∷◌, ◌++◌, append_assoc, append-nil, ℕ, ◌+◌}
-use Rattle.laws.proofs.All.{◌-◌, ◌*◌, ◌^◌, ◌≤◌, ◌<◌, arith, length, take, drop, get_or, set, length-set}
+use Rattle.std.proofs.Common.{◌≡◌, ◌∷◌, ◌++◌, ◌+◌, ◌-◌, ◌*◌, ◌^◌, ◌≤◌, ◌<◌}
+use Rattle.laws.proofs.All.{refl, sym, ap, ap₂, ◌∙◌, List, [], append_assoc, append-nil, ℕ}
+use Rattle.laws.proofs.All.{arith, length, take, drop, get_or, set, length-set}
 use Rattle.laws.proofs.All.{length-append, take_all, take_at, drop_at, drop-drop, length-take-le}
 use Rattle.laws.proofs.All.{put-more, replicate}
 use Rattle.table.specs.declared.Table.{Table}

@@ -1,8 +1,9 @@
 -- A loop over the groups of a word that joins what each gives.
 -- In order: between_first; Joining with join-start, join-next, join-done; edge-small, group-small.
 -- Assumes nothing.
-use Rattle.laws.proofs.All.{◌≡◌, sym, ap, ap₂, ◌∙◌, Bool, false, ◌||◌, or_assoc, or-false, List, ℕ, suc, ◌+◌, ◌-◌}
-use Rattle.laws.proofs.All.{◌≤◌, ◌<◌, add-one, arith, length, get_or, from, any}
+use Rattle.std.proofs.Common.{◌≡◌, ◌||◌, ◌+◌, ◌-◌, ◌≤◌, ◌<◌}
+use Rattle.laws.proofs.All.{sym, ap, ap₂, ◌∙◌, Bool, false, or_assoc, or-false, List, ℕ, suc}
+use Rattle.laws.proofs.All.{add-one, arith, length, get_or, from, any}
 use Rattle.table.specs.Edges.{Arrays}
 use Rattle.bitsets.specs.declared.BitSet.{BitSet}
 use Rattle.bitsets.specs.BitSets.{holds}

@@ -1,7 +1,8 @@
 -- The readings of a block, edge by edge.
 -- In order: readings→, →readings; some→, a block with no words ahead, →some.
 -- Assumes nothing.
-use Rattle.laws.proofs.All.{subst, Bool, true, ◌&&◌, List, ℕ, ◌<◌, arith, T, eqb, eqb→eq, eqb_refl, length}
+use Rattle.std.proofs.Common.{◌&&◌, ◌<◌}
+use Rattle.laws.proofs.All.{subst, Bool, true, List, ℕ, arith, T, eqb, eqb→eq, eqb_refl, length}
 use Rattle.laws.proofs.All.{range, elem, and→, →and, any→, →any, any-below→, →any-below, →tab, member, any-map}
 use Rattle.laws.proofs.All.{any-concat, elem-filter, →elem-filter, elem-range}
 use Rattle.table.specs.Rows.{edge, Rows, edges, at, has_word}

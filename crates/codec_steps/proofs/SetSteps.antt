@@ -1,7 +1,8 @@
 -- A set of states stepped by a word along the groups of the word, forward and back.
 -- In order: group-edge, edge-group, a group and its edges; step→ to →back; step-bits, step-members, back-bits.
 -- Assumes nothing.
-use Rattle.laws.proofs.All.{◌≡◌, sym, ap, subst, ◌∙◌, true, ◌&&◌, List, ℕ, ◌+◌, ◌-◌, ◌/◌, ◌<◌, arith, T, eqb}
+use Rattle.std.proofs.Common.{◌≡◌, ◌&&◌, ◌+◌, ◌-◌, ◌/◌, ◌<◌}
+use Rattle.laws.proofs.All.{sym, ap, subst, ◌∙◌, true, List, ℕ, arith, T, eqb}
 use Rattle.laws.proofs.All.{eqb→eq, eqb_refl, get_or, from, any, any-filter, any-map, and→, →and, T→true, bool_eq}
 use Rattle.table.specs.Marks.{some}
 use Rattle.table.specs.Edges.{Arrays, rows_of, places, next_of, bears}

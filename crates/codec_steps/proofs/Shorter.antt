@@ -1,7 +1,8 @@
 -- What holds where the code walks the members of a set that have a word, and not the groups of the word.
 -- In order: short-sources, short-room, short-inside, short-step.
 -- Assumes nothing.
-use Rattle.laws.proofs.All.{◌≡◌, sym, ap, subst, subst₂, ◌∙◌, ◌&&◌, List, ℕ, ◌+◌, ◌≤◌, ◌<◌, arith, T, length, get_or}
+use Rattle.std.proofs.Common.{◌≡◌, ◌&&◌, ◌+◌, ◌≤◌, ◌<◌}
+use Rattle.laws.proofs.All.{sym, ap, subst, subst₂, ◌∙◌, List, ℕ, arith, T, length, get_or}
 use Rattle.laws.proofs.All.{any, and→}
 use Rattle.table.specs.Edges.{Arrays, rows_of}
 use Rattle.bitsets.specs.declared.BitSet.{BitSet}

@@ -2,7 +2,8 @@
 -- In order: states-every, states-one; test-place, place-test, a test over the edges of a state; leads_at, along-places;
 -- enters_at, back-places.
 -- Assumes nothing.
-use Rattle.laws.proofs.All.{◌≡◌, sym, ap, subst, ◌∙◌, Bool, true, ◌&&◌, map, ℕ, ◌+◌, ◌*◌, ◌/◌, ◌%◌, ◌<◌, arith}
+use Rattle.std.proofs.Common.{◌≡◌, ◌&&◌, ◌+◌, ◌*◌, ◌/◌, ◌%◌, ◌<◌}
+use Rattle.laws.proofs.All.{sym, ap, subst, ◌∙◌, Bool, true, map, ℕ, arith}
 use Rattle.laws.proofs.All.{ltb-true, T, eqb, eqb→eq, eqb_refl, length, range, any, member, and→, →and, T→true}
 use Rattle.laws.proofs.All.{bool_eq, any→, →any, any-below→, →any-below}
 use Rattle.table.specs.Rows.{Edge, edge, Rows, edges}

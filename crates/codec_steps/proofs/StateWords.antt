@@ -1,7 +1,8 @@
 -- The words that step a set of states, one by one.
 -- In order: along-first, along-end; able-first, able-end.
 -- Assumes nothing.
-use Rattle.laws.proofs.All.{◌≡◌, sym, ap, ◌∙◌, Bool, List, ◌∷◌, ℕ, ◌+◌, ◌≤◌, ◌<◌, add-one, length, get_or}
+use Rattle.std.proofs.Common.{◌≡◌, ◌∷◌, ◌+◌, ◌≤◌, ◌<◌}
+use Rattle.laws.proofs.All.{sym, ap, ◌∙◌, Bool, List, ℕ, add-one, length, get_or}
 use Rattle.laws.proofs.All.{slice, slice-cons, slice_empty}
 use Rattle.table.specs.Rows.{Rows}
 use Rattle.codec_steps.specs.StateSets.{every_state, along, along_all, back, able}

@@ -2,8 +2,8 @@
 -- In order: readings_of, readings, the data that the rule can read; some_edge, mark_before, mark_ahead, mark_for, the
 -- marks; reading; past, block, decode.
 -- Assumes nothing.
-use Rattle.std.specs.Prelude.{Bool, ◌&&◌, List, map, ℕ, ◌+◌, ◌-◌, ltb, length, get_or, take, drop}
-use Rattle.laws.specs.Lists.{if◌then◌else◌, range, filter, concat, any}
+use Rattle.std.specs.Prelude.{if◌then◌else◌, Bool, ◌&&◌, List, map, ℕ, ◌+◌, ◌-◌, ltb, length, get_or, take, drop}
+use Rattle.laws.specs.Lists.{range, filter, concat, any}
 use Rattle.laws.specs.Sets.{member}
 use Rattle.table.specs.Rows.{Rows, edges, at, has_word, Code}
 use Rattle.codec_steps.specs.StateSets.{every_state, one_state, along_all, enters, able}

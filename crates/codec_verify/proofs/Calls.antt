@@ -2,7 +2,8 @@
 -- each of its refusals comes.
 -- In order: verified-exact, verify-calls; streamed-exact, verify-stream-calls.
 -- Assumes nothing.
-use Rattle.laws.proofs.All.{◌≡◌, ap, ◌↔◌, ◌⊎◌, List, ℕ, ◌+◌, ◌*◌, ◌-◌, ◌/◌, ◌^◌, ◌≤◌, ◌<◌, arith, leb, length, take}
+use Rattle.std.proofs.Common.{◌≡◌, ◌↔◌, ◌⊎◌, ◌+◌, ◌*◌, ◌-◌, ◌/◌, ◌^◌, ◌≤◌, ◌<◌}
+use Rattle.laws.proofs.All.{ap, List, ℕ, arith, leb, length, take}
 use Rattle.laws.proofs.All.{get_or, Below}
 use Rattle.answer.specs.declared.Refusal.{Refusal}
 use Rattle.answer.specs.declared.Refusal.TheVariants.{BadByte, TooFewWords, Stream}

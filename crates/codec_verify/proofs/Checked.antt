@@ -1,7 +1,8 @@
 -- Verifying under a table by value, check by check, and under a record that was loaded.
 -- In order: verify-7 to verify-done; counted, what the count asks for; verify-read.
 -- Assumes nothing.
-use Rattle.laws.proofs.All.{◌≡◌, refl, sym, ap, ◌∙◌, true, false, List, ℕ, ◌*◌, ◌%◌, ◌^◌, ◌≤◌, ◌<◌, lt-leb, le-leb}
+use Rattle.std.proofs.Common.{◌≡◌, ◌*◌, ◌%◌, ◌^◌, ◌≤◌, ◌<◌}
+use Rattle.laws.proofs.All.{refl, sym, ap, ◌∙◌, true, false, List, ℕ, lt-leb, le-leb}
 use Rattle.laws.proofs.All.{T, length, get_or}
 use Rattle.answer.specs.declared.Answer.TheVariants.{Done}
 use Rattle.answer.specs.declared.Refusal.TheVariants.{Field, BadByte, TooFewWords}

@@ -2,9 +2,10 @@
 -- In order: front_self, front-here, front-left, front-right, front-differs, front-whole, front-least; length_before,
 -- before-all, before-whole, bad-least, below-front, bad-front, before-front.
 -- Assumes nothing.
-use Rattle.laws.proofs.All.{◌≡◌, refl, sym, ap, subst, ◌∙◌, Bool, true, false, List, [], ◌∷◌, ℕ, zero, suc, ◌≤◌, ◌<◌}
+use Rattle.std.proofs.Common.{◌≡◌, ◌∷◌, ◌≤◌, ◌<◌, ◌++◌, if◌then◌else◌}
+use Rattle.laws.proofs.All.{refl, sym, ap, subst, ◌∙◌, Bool, true, false, List, [], ℕ, zero, suc}
 use Rattle.laws.proofs.All.{arith, T, eqb, eqb→eq, eq-eqb, eqb-false, length, get_or, take, drop, take_all}
-use Rattle.laws.proofs.All.{length-take-le, ◌++◌, ltb, lt-ltb, if◌then◌else◌, take-append-le, Below}
+use Rattle.laws.proofs.All.{length-take-le, ltb, lt-ltb, take-append-le, Below}
 use Rattle.answer.specs.FirstBad.{first_bad}
 use Rattle.answer.proofs.FirstBad.{first_bad-below, below-first_bad, bad-le}
 use Rattle.codec_verify.specs.Fronts.{same_front, before_bad}

@@ -2,8 +2,9 @@
 -- x − a come back. So if k of them come back and not all, the first word that was changed stands at k + a or before.
 -- In order: take-spells; near; verify-near; verify-words, of a stream.
 -- Assumes nothing.
-use Rattle.laws.proofs.All.{◌≡◌, refl, sym, ap, subst, ◌∙◌, inl, inr, List, [], ◌∷◌, ◌++◌, ℕ, zero, suc, ◌+◌, ◌-◌}
-use Rattle.laws.proofs.All.{◌^◌, ◌≤◌, ◌<◌, arith, dec_lt, T, T→true, leb, length, take, drop, take-take}
+use Rattle.std.proofs.Common.{◌≡◌, ◌∷◌, ◌++◌, ◌+◌, ◌-◌, ◌^◌, ◌≤◌, ◌<◌}
+use Rattle.laws.proofs.All.{refl, sym, ap, subst, ◌∙◌, inl, inr, List, [], ℕ, zero, suc}
+use Rattle.laws.proofs.All.{arith, dec_lt, T, T→true, leb, length, take, drop, take-take}
 use Rattle.laws.proofs.All.{drop-take, get_or-take, ext_get_or, length-take-le, length-append, take-append-le, Below}
 use Rattle.laws.proofs.All.{below-take}
 use Rattle.answer.specs.declared.Refusal.TheVariants.{TooFewWords}

@@ -2,7 +2,8 @@
 -- In order: agreed-bad, agreed-other, agreed-more, agreed-end; other_word, same_word, in arrays; length-followed,
 -- followed-block, followed-tail.
 -- Assumes nothing.
-use Rattle.laws.proofs.All.{◌≡◌, sym, ap, ◌∙◌, List, [], ◌++◌, map, ℕ, suc, ◌+◌, ◌-◌, ◌*◌, ◌≤◌, ◌<◌, arith}
+use Rattle.std.proofs.Common.{◌≡◌, ◌++◌, ◌+◌, ◌-◌, ◌*◌, ◌≤◌, ◌<◌}
+use Rattle.laws.proofs.All.{sym, ap, ◌∙◌, List, [], map, ℕ, suc, arith}
 use Rattle.laws.proofs.All.{add-one, eq-eqb, ne_eqb, lt-ltb, le-ltb, length, get_or, drop, drop-cons, drop-length}
 use Rattle.laws.proofs.All.{range, length-append, length-map-range, length-replicate, replicate, map-range-at}
 use Rattle.laws.proofs.All.{get_or-replicate, get_or-append-add, get_or-append}

@@ -3,7 +3,8 @@
 -- In order: rebuilt-recording, rebuilt-blocks; verified→, →verified; recording-exact; given-front, given-place,
 -- given-mark; verify-exact, verify-answer, verify-front, verify-place, verify-mark, verifies.
 -- Assumes nothing.
-use Rattle.laws.proofs.All.{◌≡◌, refl, sym, ap, subst, ◌∙◌, ◌↔◌, List, ◌++◌, ℕ, ◌+◌, ◌-◌, ◌^◌, ◌≤◌, ◌<◌, arith, leb}
+use Rattle.std.proofs.Common.{◌≡◌, ◌↔◌, ◌++◌, ◌+◌, ◌-◌, ◌^◌, ◌≤◌, ◌<◌}
+use Rattle.laws.proofs.All.{refl, sym, ap, subst, ◌∙◌, List, ℕ, arith, leb}
 use Rattle.laws.proofs.All.{leb→le, le-leb, length, length-append, length-replicate, get_or, take, take_all, Below, T}
 use Rattle.laws.proofs.All.{length-take-le, Bool, true, false}
 use Rattle.answer.specs.declared.Answer.{Answer}

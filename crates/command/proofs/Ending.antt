@@ -2,7 +2,8 @@
 -- In order: end_refused, end-done, done-gives; number-ends, number-misused, same-action, misused-most, asked-ends;
 -- acted, acted-short, action_tags, unknown-named, fits_not; way-by-decoding.
 -- Assumes nothing.
-use Rattle.laws.proofs.All.{◌≡◌, refl, sym, ap, subst, ◌∙◌, Bool, true, false, T, List, [], ◌∷◌, ℕ, ◌≤◌, arith}
+use Rattle.std.proofs.Common.{◌≡◌, ◌∷◌, ◌≤◌}
+use Rattle.laws.proofs.All.{refl, sym, ap, subst, ◌∙◌, Bool, true, false, T, List, [], ℕ, arith}
 use denote.Enum.Declared.{tag_of}
 use types.Run.{OneOf, miss}
 use Rattle.answer.specs.declared.Refusal.{Refusal}

@@ -1,9 +1,10 @@
 -- Numbers read digit by digit.
 -- In order: worth-grows; number-held; number-on, number-off, number-end, digit by digit; parsed-none, parsed-some.
 -- Assumes nothing.
-use Rattle.laws.proofs.All.{◌≡◌, refl, sym, ap, ◌∙◌, Bool, true, false, List, [], ◌∷◌, ℕ, ◌+◌, ◌*◌, ◌≤◌, ◌<◌, min}
+use Rattle.std.proofs.Common.{◌≡◌, ◌∷◌, ◌+◌, ◌*◌, ◌≤◌, ◌<◌, if◌then◌else◌}
+use Rattle.laws.proofs.All.{refl, sym, ap, ◌∙◌, Bool, true, false, List, [], ℕ, min}
 use Rattle.laws.proofs.All.{min-eq_left, min-eq_right, add-one, arith, lt-ltb, le-ltb, lt-leb, ltb-true, ltb-false, ltb}
-use Rattle.laws.proofs.All.{length, get_or, drop, drop-cons, drop-length, if◌then◌else◌, all}
+use Rattle.laws.proofs.All.{length, get_or, drop, drop-cons, drop-length, all}
 use Rattle.command_arguments.specs.declared.Parsed.TheVariants.{Number, Above, Wrong}
 use Rattle.command_arguments.specs.Parsing.{greatest, digit_of, is_digit, worth, up_to_greatest, number_in, parsed}
 

@@ -1,8 +1,7 @@
 -- Which action a word names.
 -- In order: asked_action, verify_action, recordings_action, stream_action, record_action, action_of.
 -- Assumes nothing.
-use Rattle.std.specs.Prelude.{List, ℕ}
-use Rattle.laws.specs.Lists.{if◌then◌else◌}
+use Rattle.std.specs.Prelude.{if◌then◌else◌, List, ℕ}
 use Rattle.text.specs.Texts.{bytes}
 use Rattle.text.specs.Words.{same}
 use Rattle.command_arguments.specs.declared.Action.{Action}

@@ -2,8 +2,8 @@
 -- bit number takes, is not read.
 -- In order: greatest; digit_of, is_digit; worth; up_to_greatest, number_in, parsed.
 -- Assumes nothing.
-use Rattle.std.specs.Prelude.{Bool, List, [], ◌∷◌, ℕ, ◌+◌, ◌*◌, ◌-◌, min, leb, ltb}
-use Rattle.laws.specs.Lists.{if◌then◌else◌, all}
+use Rattle.std.specs.Prelude.{if◌then◌else◌, Bool, List, [], ◌∷◌, ℕ, ◌+◌, ◌*◌, ◌-◌, min, leb, ltb}
+use Rattle.laws.specs.Lists.{all}
 use Rattle.command_arguments.specs.declared.Parsed.{Parsed}
 use Rattle.command_arguments.specs.declared.Parsed.TheVariants.{Number, Above, Wrong}
 

@@ -2,8 +2,7 @@
 -- of a status.
 -- In order: shaped, written_after, stream_shape, verify_shape, shape_of, fits; status_of.
 -- Assumes nothing.
-use Rattle.std.specs.Prelude.{Bool, ◌&&◌, ℕ, ◌+◌, min, leb, eqb}
-use Rattle.laws.specs.Lists.{if◌then◌else◌}
+use Rattle.std.specs.Prelude.{if◌then◌else◌, Bool, ◌&&◌, ℕ, ◌+◌, min, leb, eqb}
 use Rattle.command_arguments.specs.declared.Shape.{Shape}
 use Rattle.command_arguments.specs.declared.Action.{Action}
 use Rattle.command_arguments.specs.declared.Action.TheVariants.{Compile, CompileJob, CompileJoined, Trace}

@@ -1,7 +1,8 @@
 -- How a run ends that encodes or decodes.
 -- In order: ends-whole, ends-coded.
 -- Assumes nothing.
-use Rattle.laws.proofs.All.{◌≡◌, ◌⊎◌, List, ℕ, length}
+use Rattle.std.proofs.Common.{◌≡◌, ◌⊎◌}
+use Rattle.laws.proofs.All.{List, ℕ, length}
 use Rattle.answer.specs.declared.Answer.{Answer}
 use Rattle.answer.specs.Outcomes.{answer_of}
 use Rattle.codec_verify.specs.Verify.{verify_under}

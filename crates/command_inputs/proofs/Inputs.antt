@@ -1,8 +1,9 @@
 -- What reading an argument says, by what its word or its file is.
 -- In order: number-taken, number-above; counted-kept, job-within; input-counts.
 -- Assumes nothing.
-use Rattle.laws.proofs.All.{◌≡◌, refl, sym, ap, subst, ◌∙◌, true, List, ℕ, ◌≤◌, ◌<◌, arith, le-leb, lt-leb, length}
-use Rattle.laws.proofs.All.{length-take-le, ◌+◌, get_or, take, get_or-take, inr}
+use Rattle.std.proofs.Common.{◌≡◌, ◌≤◌, ◌<◌, ◌+◌}
+use Rattle.laws.proofs.All.{refl, sym, ap, subst, ◌∙◌, true, List, ℕ, arith, le-leb, lt-leb, length}
+use Rattle.laws.proofs.All.{length-take-le, get_or, take, get_or-take, inr}
 use Rattle.io.specs.Counts.{IsPrefixLen}
 use Rattle.files.specs.declared.Loaded.{Loaded}
 use Rattle.files.specs.declared.Loaded.TheVariants.{Whole, Unreadable, TooLong}

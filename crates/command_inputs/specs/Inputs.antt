@@ -1,8 +1,7 @@
 -- What reading an argument says: the number in its word, or how many bytes its file gave; and which argument it was.
 -- In order: no_number, number_of; nothing_from, input_of; Said; JobFrom, Counted, SaidAll; From, FromWhole.
 -- Assumes nothing.
-use Rattle.std.specs.Prelude.{◌≡◌, true, false, List, ◌⊎◌, ℕ, ◌+◌, ◌≤◌, leb, length, get_or}
-use Rattle.laws.specs.Lists.{if◌then◌else◌}
+use Rattle.std.specs.Prelude.{if◌then◌else◌, ◌≡◌, true, false, List, ◌⊎◌, ℕ, ◌+◌, ◌≤◌, leb, length, get_or}
 use Rattle.files.specs.declared.Loaded.{Loaded}
 use Rattle.files.specs.declared.Loaded.TheVariants.{Whole, Unreadable, TooLong}
 use Rattle.command_arguments.specs.declared.Parsed.{Parsed}

@@ -3,7 +3,8 @@
 -- In order: result-within, front_long; fails-refused, fails-done, fails-outcome; failed-most, ended-most; well-holds;
 -- failed-by, by-well, by-ends, fails_by, fails-well.
 -- Assumes nothing.
-use Rattle.laws.proofs.All.{◌≡◌, sym, ap, subst, ◌∙◌, List, ℕ, ◌≤◌, arith, length, drop, length-append}
+use Rattle.std.proofs.Common.{◌≡◌, ◌≤◌}
+use Rattle.laws.proofs.All.{sym, ap, subst, ◌∙◌, List, ℕ, arith, length, drop, length-append}
 use Rattle.answer.specs.declared.Answer.{Answer}
 use Rattle.answer.specs.declared.Answer.TheVariants.{Done, Refused}
 use Rattle.answer.specs.declared.Refusal.{Refusal}

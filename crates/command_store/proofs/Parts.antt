@@ -1,8 +1,9 @@
 -- How long the rest of a list is; the folder of a path, byte by byte from its end.
 -- In order: rest-long; folder-here, folder-back.
 -- Assumes nothing.
-use Rattle.laws.proofs.All.{◌≡◌, sym, ap, subst, ◌∙◌, List, ℕ, zero, suc, ◌-◌, ◌<◌, arith, length, get_or, take, drop}
-use Rattle.laws.proofs.All.{length-drop, length-take-le, eq-eqb, ne_eqb, if◌then◌else◌}
+use Rattle.std.proofs.Common.{◌≡◌, ◌-◌, ◌<◌, if◌then◌else◌}
+use Rattle.laws.proofs.All.{sym, ap, subst, ◌∙◌, List, ℕ, zero, suc, arith, length, get_or, take, drop}
+use Rattle.laws.proofs.All.{length-drop, length-take-le, eq-eqb, ne_eqb}
 use Rattle.command_store.specs.Storing.{folder_in}
 
 pub rest-long : (n : ℕ) (xs : List ℕ) → length (take (length xs - n) (drop n xs)) ≡ length xs - n

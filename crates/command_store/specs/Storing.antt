@@ -1,8 +1,7 @@
 -- What writing a file says of the bytes, and the name of the new file beside it.
 -- In order: Held; folder_in, folder_of; aside_name.
 -- Assumes nothing.
-use Rattle.std.specs.Prelude.{◌≡◌, List, ◌++◌, ℕ, zero, suc, eqb, length, get_or, take}
-use Rattle.laws.specs.Lists.{if◌then◌else◌}
+use Rattle.std.specs.Prelude.{if◌then◌else◌, ◌≡◌, List, ◌++◌, ℕ, zero, suc, eqb, length, get_or, take}
 use Rattle.text.specs.Texts.{bytes}
 use Rattle.command_store.specs.declared.Stored.{Stored}
 use Rattle.command_store.specs.declared.Stored.TheVariants.{Whole, Unwritten, Source}

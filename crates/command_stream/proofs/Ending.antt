@@ -1,7 +1,8 @@
 -- How a run ends that decodes the words of a stream.
 -- In order: ends-decoded.
 -- Assumes nothing.
-use Rattle.laws.proofs.All.{◌≡◌, ◌⊎◌, List, ℕ}
+use Rattle.std.proofs.Common.{◌≡◌, ◌⊎◌}
+use Rattle.laws.proofs.All.{List, ℕ}
 use Rattle.answer.specs.declared.Answer.{Answer}
 use Rattle.answer.specs.declared.Answer.TheVariants.{Done}
 use Rattle.answer.specs.Outcomes.{answer_of}

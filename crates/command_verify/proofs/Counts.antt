@@ -2,9 +2,9 @@
 -- In order: done-of; verify-most, stream-most; end_refused, end_short, end_whole, ends_by, end-well, fails-failed;
 -- after-done, after-failed, after-either, after_kept, ends-either, ends-both; blocks-read, blocks-bad.
 -- Assumes nothing.
-use Rattle.laws.proofs.All.{◌≡◌, refl, sym, ap, subst, ◌∙◌, ◌⊎◌, inl, inr, Bool, true, false, List, [], ◌∷◌, ℕ}
-use Rattle.laws.proofs.All.{◌-◌, ◌≤◌, ◌<◌, arith, T, leb, ltb, lt-ltb, le-ltb, ltb-true, ltb-false, length}
-use Rattle.laws.specs.Lists.{if◌then◌else◌}
+use Rattle.std.proofs.Common.{◌≡◌, ◌⊎◌, ◌∷◌, ◌-◌, ◌≤◌, ◌<◌, if◌then◌else◌}
+use Rattle.laws.proofs.All.{refl, sym, ap, subst, ◌∙◌, inl, inr, Bool, true, false, List, [], ℕ}
+use Rattle.laws.proofs.All.{arith, T, leb, ltb, lt-ltb, le-ltb, ltb-true, ltb-false, length}
 use denote.Enum.Declared.{tag_of}
 use types.Run.{OneOf, miss}
 use Rattle.answer.specs.declared.Answer.{Answer}

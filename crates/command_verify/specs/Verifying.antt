@@ -1,8 +1,7 @@
 -- What is said of words that were verified, and how a run ends by how many of them come back.
 -- In order: recording_line, short_line; blocks_under; end_by, after_by, Fewer; VerifiedWords, VerifiedStream.
 -- Assumes nothing.
-use Rattle.std.specs.Prelude.{◌≡◌, List, [], ◌∷◌, ℕ, ◌-◌, ◌<◌, ltb, length}
-use Rattle.laws.specs.Lists.{if◌then◌else◌}
+use Rattle.std.specs.Prelude.{if◌then◌else◌, ◌≡◌, List, [], ◌∷◌, ℕ, ◌-◌, ◌<◌, ltb, length}
 use Rattle.answer.specs.declared.Answer.{Answer}
 use Rattle.answer.specs.declared.Answer.TheVariants.{Done, Refused}
 use Rattle.answer.specs.Outcomes.{Outcome, done, refused, answer_of}

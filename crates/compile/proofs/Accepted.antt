@@ -2,7 +2,8 @@
 -- In order: labelled-full; Made, made; made-obeys; Passes, compiled-passes; compiled-tail; compile-parses;
 -- compiled-ready.
 -- Assumes nothing.
-use Rattle.laws.proofs.All.{◌≡◌, sym, ap, subst, ◌∙◌, inl, inr, [], ℕ, zero, ◌^◌, ◌≤◌, ◌<◌, le_trans, le_of_eq, arith}
+use Rattle.std.proofs.Common.{◌≡◌, ◌^◌, ◌≤◌, ◌<◌}
+use Rattle.laws.proofs.All.{sym, ap, subst, ◌∙◌, inl, inr, [], ℕ, zero, le_trans, le_of_eq, arith}
 use Rattle.laws.proofs.All.{T, ltb, eqb, lt→ltb, le→leb, eqb_refl, length, get_or, sum, all, Each, →and, →or_l}
 use Rattle.laws.proofs.All.{→or_r, →all, each_at, refl}
 use Rattle.answer.specs.Outcomes.{done}

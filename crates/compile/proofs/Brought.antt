@@ -1,7 +1,8 @@
 -- What is promised of a job that brings its weights: 17 exactly where they fail, and otherwise a record or 4, 5, 6, 13.
 -- In order: as-fitted, as_before; bad-weights; brought-ends; brought-alike.
 -- Assumes nothing.
-use Rattle.laws.proofs.All.{◌≡◌, refl, sym, ap, ap₂, subst, ◌∙◌, ◌⊎◌, inl, inr, ◌↔◌, false, List, ℕ, ◌≤◌, ◌<◌}
+use Rattle.std.proofs.Common.{◌≡◌, ◌⊎◌, ◌↔◌, ◌≤◌, ◌<◌}
+use Rattle.laws.proofs.All.{refl, sym, ap, ap₂, subst, ◌∙◌, inl, inr, false, List, ℕ}
 use Rattle.laws.proofs.All.{arith, sum, bool_eq}
 use Rattle.answer.specs.declared.Refusal.{Refusal}
 use Rattle.answer.specs.declared.Refusal.TheVariants.{ShortOutput, BadWeights}

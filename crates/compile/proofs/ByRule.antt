@@ -1,7 +1,8 @@
 -- The component that compiling takes, every split that it makes and the table of the last graph go by the rule.
 -- In order: component; each-split, last-split, splits-by-rule; split-list; table-rule.
 -- Assumes nothing.
-use Rattle.laws.proofs.All.{◌≡◌, sym, subst, ◌↔◌, ◌⊎◌, false, List, [], ◌∷◌, map, ℕ, suc, ◌+◌, ◌≤◌, ◌<◌, zero-le}
+use Rattle.std.proofs.Common.{◌≡◌, ◌↔◌, ◌⊎◌, ◌∷◌, ◌+◌, ◌≤◌, ◌<◌}
+use Rattle.laws.proofs.All.{sym, subst, false, List, [], map, ℕ, suc, zero-le}
 use Rattle.laws.proofs.All.{suc-le-suc, le_trans, not-suc-le-zero, T, length, get_or, take, range, concat, any, sum}
 use Rattle.laws.proofs.All.{elem, one, T→true, bool_eq}
 use Rattle.table.specs.Rows.{at}

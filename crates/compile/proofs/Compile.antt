@@ -3,7 +3,8 @@
 -- job-inside, job-live, job-inv; weighs-nothing, nothing-weighs; compile-none, no-code-exact; brought-used,
 -- computed-used, computed-greatest, brought-weigh.
 -- Assumes nothing.
-use Rattle.laws.proofs.All.{le-ltb, lt-ltb, lt-leb, le-leb, ◌≡◌, sym, ap, subst, ◌∙◌, ◌↔◌, List, ℕ, ◌≤◌, ◌<◌, arith}
+use Rattle.std.proofs.Common.{◌≡◌, ◌↔◌, ◌≤◌, ◌<◌}
+use Rattle.laws.proofs.All.{le-ltb, lt-ltb, lt-leb, le-leb, sym, ap, subst, ◌∙◌, List, ℕ, arith}
 use Rattle.laws.proofs.All.{dec_lt, ltb, pow_pos, le_of_eq, length, get_or, get_or-eq_default, sum, tot-zero, tot-eq}
 use Rattle.laws.proofs.All.{each-always, T, elem, Each}
 use Rattle.answer.specs.declared.Refusal.TheVariants.{NoCode, TooHeavy, TooManyEdges, NoWindow}

@@ -3,8 +3,9 @@
 -- held-powers, held-tabled, held-component, held-weights, held-computed, held-brought, held_low; begun-splits,
 -- begun-crowded, begun-room, begun-short, begun-work, begun-finished.
 -- Assumes nothing.
-use Rattle.laws.proofs.All.{◌≡◌, sym, ap, ap₂, subst, ◌∙◌, Bool, true, false, not, ◌&&◌, List, ℕ, zero, suc, ◌+◌}
-use Rattle.laws.proofs.All.{◌*◌, ◌^◌, ◌≤◌, ◌<◌, arith, lt-ltb, le-leb, lt-leb, ltb-false, leb, length, get_or}
+use Rattle.std.proofs.Common.{◌≡◌, ◌&&◌, ◌+◌, ◌*◌, ◌^◌, ◌≤◌, ◌<◌}
+use Rattle.laws.proofs.All.{sym, ap, ap₂, subst, ◌∙◌, Bool, true, false, not, List, ℕ, zero, suc}
+use Rattle.laws.proofs.All.{arith, lt-ltb, le-leb, lt-leb, ltb-false, leb, length, get_or}
 use Rattle.laws.proofs.All.{pow_mono, sum, take, get_or-take}
 use Rattle.answer.specs.declared.Refusal.{Refusal}
 use Rattle.answer.specs.declared.Refusal.TheVariants.{NoCode, TooHeavy, TooManyEdges, NoWindow}

@@ -1,7 +1,8 @@
 -- The table that compiling in code makes.
 -- In order: table_by, table-rows, table-ready, table-code.
 -- Assumes nothing.
-use Rattle.laws.proofs.All.{◌≡◌, sym, ap, ap₂, subst, ◌∙◌, false, ℕ, ◌^◌, ◌≤◌, ◌<◌, leb, length}
+use Rattle.std.proofs.Common.{◌≡◌, ◌^◌, ◌≤◌, ◌<◌}
+use Rattle.laws.proofs.All.{sym, ap, ap₂, subst, ◌∙◌, false, ℕ, leb, length}
 use Rattle.answer.specs.declared.Refusal.TheVariants.{NoWindow}
 use Rattle.answer.specs.Outcomes.{done, unless}
 use Rattle.table.specs.declared.Table.{Table}

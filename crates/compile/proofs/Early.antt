@@ -2,8 +2,9 @@
 -- In order: Before, Early, before-early; held-before, run-length-before; constraint-before, joined-before; read-early,
 -- run-length-early, joined-early, listed-early.
 -- Assumes nothing.
-use Rattle.laws.proofs.All.{◌≡◌, refl, ◌⊎◌, inl, inr, Bool, ◌&&◌, ◌||◌, List, ℕ, ◌+◌, ◌*◌, ◌≤◌}
-use Rattle.laws.proofs.All.{◌<◌, arith, leb, eqb, length, get_or, drop, all}
+use Rattle.std.proofs.Common.{◌≡◌, ◌⊎◌, ◌&&◌, ◌||◌, ◌+◌, ◌*◌, ◌≤◌, ◌<◌}
+use Rattle.laws.proofs.All.{refl, inl, inr, Bool, List, ℕ}
+use Rattle.laws.proofs.All.{arith, leb, eqb, length, get_or, drop, all}
 use Rattle.answer.specs.declared.Refusal.{Refusal}
 use Rattle.answer.specs.declared.Refusal.TheVariants.{Parameters, States, Length, TooManyPairs, BadWeights}
 use Rattle.answer.specs.Refusals.{number_of}

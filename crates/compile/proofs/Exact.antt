@@ -2,7 +2,8 @@
 -- In order: weighs-some; window-small, compile-done; compiled-code; not_none; heavy-exact, crowded-exact,
 -- window-exact; compile-refused; refusals.
 -- Assumes nothing.
-use Rattle.laws.proofs.All.{◌≡◌, refl, sym, ap, subst, ◌∙◌, inl, inr, ◌↔◌, List, ℕ, ◌≤◌, ◌<◌, arith, dec_lt, le-leb}
+use Rattle.std.proofs.Common.{◌≡◌, ◌↔◌, ◌≤◌, ◌<◌}
+use Rattle.laws.proofs.All.{refl, sym, ap, subst, ◌∙◌, inl, inr, List, ℕ, arith, dec_lt, le-leb}
 use Rattle.laws.proofs.All.{le-ltb, lt-ltb, length, get_or, sum}
 use Rattle.answer.specs.declared.Refusal.{Refusal}
 use Rattle.answer.specs.declared.Refusal.TheVariants.{NoCode, TooHeavy, TooManyEdges, NoWindow}

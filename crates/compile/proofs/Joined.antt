@@ -1,7 +1,8 @@
 -- What is promised of a job with two constraints beside what is promised of every job.
 -- In order: too-many-pairs; compiled-constraint; both-obeyed.
 -- Assumes nothing.
-use Rattle.laws.proofs.All.{◌≡◌, refl, sym, ap, subst, ◌∙◌, ◌↔◌, List, ℕ, ◌/◌, ◌%◌, ◌<◌, length, get_or, Each}
+use Rattle.std.proofs.Common.{◌≡◌, ◌↔◌, ◌/◌, ◌%◌, ◌<◌}
+use Rattle.laws.proofs.All.{refl, sym, ap, subst, ◌∙◌, List, ℕ, length, get_or, Each}
 use Rattle.laws.proofs.All.{Once, each_at, arith}
 use Rattle.answer.specs.declared.Refusal.TheVariants.{TooManyPairs}
 use Rattle.answer.specs.Outcomes.{done, refused}

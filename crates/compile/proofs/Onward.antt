@@ -1,7 +1,8 @@
 -- A reading that goes on: what the next stage comes to after a verdict.
 -- In order: read-bad, read_done; ends-bad, goes_on, goes-packed.
 -- Assumes nothing.
-use Rattle.laws.proofs.All.{◌≡◌, List, ℕ, T, length}
+use Rattle.std.proofs.Common.{◌≡◌}
+use Rattle.laws.proofs.All.{List, ℕ, T, length}
 use Rattle.answer.specs.declared.Refusal.{Refusal}
 use Rattle.answer.specs.declared.Answer.{Answer}
 use Rattle.answer.specs.declared.Answer.TheVariants.{Refused}

@@ -1,7 +1,8 @@
 -- From bytes, 1, 2, 8, 14 and 17 come exactly as the first check that a job's bytes do not meet says.
 -- In order: job-order, run-length-order, joined-order.
 -- Assumes nothing.
-use Rattle.laws.proofs.All.{◌≡◌, ◌⊎◌, ◌↔◌, List, [], ◌∷◌, ℕ, ◌+◌, ◌*◌, ◌^◌, ◌≤◌, length, get_or, drop}
+use Rattle.std.proofs.Common.{◌≡◌, ◌⊎◌, ◌↔◌, ◌∷◌, ◌+◌, ◌*◌, ◌^◌, ◌≤◌}
+use Rattle.laws.proofs.All.{List, [], ℕ, length, get_or, drop}
 use Rattle.answer.specs.declared.Refusal.{Refusal}
 use Rattle.answer.specs.declared.Refusal.TheVariants.{Parameters, States, Length, TooManyPairs, BadWeights}
 use Rattle.answer.specs.Outcomes.{refused}

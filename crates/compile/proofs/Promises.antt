@@ -1,7 +1,8 @@
 -- What compiling promises of its outcomes: where splitting ends, the least window, and records from bytes to bytes.
 -- In order: split-ends; made-closed; least-window; no-window-exact; packed.
 -- Assumes nothing.
-use Rattle.laws.proofs.All.{◌≡◌, refl, sym, ap, subst, ◌∙◌, inl, inr, ◌↔◌, List, [], ℕ, ◌≤◌, ◌<◌, arith, dec_lt}
+use Rattle.std.proofs.Common.{◌≡◌, ◌↔◌, ◌≤◌, ◌<◌}
+use Rattle.laws.proofs.All.{refl, sym, ap, subst, ◌∙◌, inl, inr, List, [], ℕ, arith, dec_lt}
 use Rattle.laws.proofs.All.{length, get_or-eq_default, sum}
 use Rattle.answer.specs.declared.Refusal.TheVariants.{NoWindow}
 use Rattle.answer.specs.Outcomes.{Outcome, done, refused}

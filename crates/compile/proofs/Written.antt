@@ -3,7 +3,8 @@
 -- In order: written_from, refused-from, short-from, early_from, none_from; kinds, as-onward, as-early,
 -- as-allowed; written, calls, none, short, read-refused, never-short; passes.
 -- Assumes nothing.
-use Rattle.laws.proofs.All.{◌≡◌, refl, sym, ap, ◌∙◌, ◌⊎◌, inl, inr, ◌↔◌, List, ℕ, ◌≤◌, ◌<◌, arith, lt-leb, length}
+use Rattle.std.proofs.Common.{◌≡◌, ◌⊎◌, ◌↔◌, ◌≤◌, ◌<◌}
+use Rattle.laws.proofs.All.{refl, sym, ap, ◌∙◌, inl, inr, List, ℕ, arith, lt-leb, length}
 use Rattle.laws.proofs.All.{get_or, sum}
 use Rattle.answer.specs.declared.Refusal.{Refusal}
 use Rattle.answer.specs.declared.Refusal.TheVariants.{NoCode, ShortOutput}

@@ -1,8 +1,9 @@
 -- The candidates of a split, as keys.
 -- In order: first-filter; light-at; others-keys; candidates-keys.
 -- Assumes nothing.
-use Rattle.laws.proofs.All.{◌≡◌, refl, sym, ap, ◌∙◌, Bool, true, false, not, ◌||◌, List, [], ◌∷◌, map, ℕ, ◌-◌, ◌%◌}
-use Rattle.laws.proofs.All.{◌≤◌, ◌<◌, arith, lt-ltb, ne_eqb, T, length, get_or, take, get_or-take, filter, any, first}
+use Rattle.std.proofs.Common.{◌≡◌, ◌||◌, ◌∷◌, ◌-◌, ◌%◌, ◌≤◌, ◌<◌}
+use Rattle.laws.proofs.All.{refl, sym, ap, ◌∙◌, Bool, true, false, not, List, [], map, ℕ}
+use Rattle.laws.proofs.All.{arith, lt-ltb, ne_eqb, T, length, get_or, take, get_or-take, filter, any, first}
 use Rattle.laws.proofs.All.{each_map, each-always, T→true, any-map, first-yes, first-no, and-true, length-take}
 use Rattle.laws.proofs.All.{map-take, filter_same, filter_map}
 use Rattle.compile_graph.specs.declared.Graph.{Graph}

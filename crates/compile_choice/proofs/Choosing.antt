@@ -1,9 +1,10 @@
 -- The greatest weight and the state to split, each by one loop.
 -- In order: greatest-more; Lowest, the lowest source of an edge that passes; lowest-none, lowest-more; choose-is.
 -- Assumes nothing.
-use Rattle.laws.proofs.All.{◌≡◌, refl, sym, ap, subst, ◌∙◌, ◌⊎◌, inl, inr, Bool, true, false, ◌&&◌, List, [], ◌∷◌}
-use Rattle.laws.proofs.All.{◌++◌, map, ℕ, ◌+◌, ◌≤◌, ◌<◌, max, min, arith, ℕ_discrete, T, ltb, eqb, eqb→eq, eqb_refl}
-use Rattle.laws.proofs.All.{length, get_or, if◌then◌else◌, range, any, and→, →and, any→, →any, any-below→, T→true}
+use Rattle.std.proofs.Common.{◌≡◌, ◌⊎◌, ◌&&◌, ◌∷◌, ◌++◌, ◌+◌, ◌≤◌, ◌<◌, if◌then◌else◌}
+use Rattle.laws.proofs.All.{refl, sym, ap, subst, ◌∙◌, inl, inr, Bool, true, false, List, []}
+use Rattle.laws.proofs.All.{map, ℕ, max, min, arith, ℕ_discrete, T, ltb, eqb, eqb→eq, eqb_refl}
+use Rattle.laws.proofs.All.{length, get_or, range, any, and→, →and, any→, →any, any-below→, T→true}
 use Rattle.laws.proofs.All.{bool_eq, map-range-at, any-filter, length-map-range, map-range-more, first-least}
 use Rattle.compile_graph.specs.declared.Graph.{Graph}
 use Rattle.compile_graph.specs.Arcs.{arc, leaves, out}

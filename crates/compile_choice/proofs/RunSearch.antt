@@ -2,8 +2,9 @@
 -- In order: stretch_sum; Summed, what holds after i places; total-is; stretch-more, stretch-small, summed-more, one
 -- place more; run-found, run_none; Without, without_more, no run so far; first_found, first-nowhere.
 -- Assumes nothing.
-use Rattle.laws.proofs.All.{◌≡◌, refl, sym, ap, ◌∙◌, false, List, [], ◌∷◌, map, ℕ, suc, ◌+◌, ◌-◌, ◌*◌, ◌%◌, ◌≤◌}
-use Rattle.laws.proofs.All.{◌<◌, add-one, arith, below_more, eq-eqb, ne_eqb, length, get_or, take, drop, length-map}
+use Rattle.std.proofs.Common.{◌≡◌, ◌∷◌, ◌+◌, ◌-◌, ◌*◌, ◌%◌, ◌≤◌, ◌<◌}
+use Rattle.laws.proofs.All.{refl, sym, ap, ◌∙◌, false, List, [], map, ℕ, suc}
+use Rattle.laws.proofs.All.{add-one, arith, below_more, eq-eqb, ne_eqb, length, get_or, take, drop, length-map}
 use Rattle.laws.proofs.All.{drop-cons, get_or-take, length-take-le, sum, any, map-range-at, any_false}
 use Rattle.laws.proofs.All.{length-map-range, first-at, first_part, first-none, map-take, map-drop}
 use Rattle.compile_choice.specs.declared.find_run.Run.{Run}

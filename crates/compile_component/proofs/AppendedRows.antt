@@ -2,8 +2,9 @@
 -- In order: row-yes, row-no, row-all; Rowed, rowed-yes, rowed-no, rowed-over, rowed-end; rows, rows_all; Done,
 -- done_none, done_more, done-over, done_end; added_none.
 -- Assumes nothing.
-use Rattle.laws.proofs.All.{◌≡◌, refl, sym, ap, subst, ◌∙◌, true, false, List, [], ◌∷◌, ◌++◌, map, append_assoc}
-use Rattle.laws.proofs.All.{append-nil, ℕ, ◌+◌, ◌≤◌, ◌<◌, arith, lt-ltb, le-ltb, ltb-true, ltb-false, length, get_or}
+use Rattle.std.proofs.Common.{◌≡◌, ◌∷◌, ◌++◌, ◌+◌, ◌≤◌, ◌<◌}
+use Rattle.laws.proofs.All.{refl, sym, ap, subst, ◌∙◌, true, false, List, [], map, append_assoc}
+use Rattle.laws.proofs.All.{append-nil, ℕ, arith, lt-ltb, le-ltb, ltb-true, ltb-false, length, get_or}
 use Rattle.laws.proofs.All.{length-append, range, filter, concat, range-more, concat-more, map-append}
 use Rattle.laws.proofs.All.{filter-append}
 use Rattle.compile_graph.specs.declared.Graph.{Graph}

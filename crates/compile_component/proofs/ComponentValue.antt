@@ -2,9 +2,10 @@
 -- In order: the module of one component: component-states, state-low, keep-is, place_is, row_is, arcs-are, bounded,
 -- graph_is, found_in.
 -- Assumes nothing.
-use Rattle.laws.proofs.All.{◌≡◌, refl, sym, ap, subst, ◌∙◌, inl, inr, Bool, true, false, ◌&&◌, List, map, ℕ, ◌+◌}
-use Rattle.laws.proofs.All.{◌≤◌, ◌<◌, arith, lt-ltb, le-ltb, ltb-false, ne_eqb, T, ltb, length, get_or, take}
-use Rattle.laws.proofs.All.{length-take, length-take-le, get_or-take, if◌then◌else◌, range, filter, first, elem}
+use Rattle.std.proofs.Common.{◌≡◌, ◌&&◌, ◌+◌, ◌≤◌, ◌<◌, if◌then◌else◌}
+use Rattle.laws.proofs.All.{refl, sym, ap, subst, ◌∙◌, inl, inr, Bool, true, false, List, map, ℕ}
+use Rattle.laws.proofs.All.{arith, lt-ltb, le-ltb, ltb-false, ne_eqb, T, ltb, length, get_or, take}
+use Rattle.laws.proofs.All.{length-take, length-take-le, get_or-take, range, filter, first, elem}
 use Rattle.laws.proofs.All.{index_of, sum, concat, Each, and→, T→true, each_map, each-always, each-filter}
 use Rattle.laws.proofs.All.{each-image, each-range, each-union, each-elem, elem-filter, index-lt, each_at}
 use Rattle.laws.proofs.All.{length-map-range, map-range-same, filter_same, filter_map, filter-both, filter-concat}

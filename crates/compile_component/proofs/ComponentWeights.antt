@@ -1,7 +1,8 @@
 -- The weights of the component's states.
 -- In order: weights-filled.
 -- Assumes nothing.
-use Rattle.laws.proofs.All.{◌≡◌, sym, ap, ◌∙◌, List, map, ℕ, ◌≤◌, length, get_or, take, length-take-le, get_or-take}
+use Rattle.std.proofs.Common.{◌≡◌, ◌≤◌}
+use Rattle.laws.proofs.All.{sym, ap, ◌∙◌, List, map, ℕ, length, get_or, take, length-take-le, get_or-take}
 use Rattle.laws.proofs.All.{range, map-places, map-range-same, Filled}
 
 pub weights-filled : (v S : List ℕ) (n : ℕ) (W : List ℕ) → n ≤ length S

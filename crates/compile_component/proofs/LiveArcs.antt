@@ -1,7 +1,8 @@
 -- The edges among the states of weight above 0, by the counts of words.
 -- In order: live-elem, live-lt; any-tabled; linked-is.
 -- Assumes nothing.
-use Rattle.laws.proofs.All.{◌≡◌, sym, ap, subst, ◌∙◌, Bool, false, ◌&&◌, List, ℕ, ◌+◌, ◌*◌, ◌/◌, ◌%◌, ◌≤◌, ◌<◌}
+use Rattle.std.proofs.Common.{◌≡◌, ◌&&◌, ◌+◌, ◌*◌, ◌/◌, ◌%◌, ◌≤◌, ◌<◌}
+use Rattle.laws.proofs.All.{sym, ap, subst, ◌∙◌, Bool, false, List, ℕ}
 use Rattle.laws.proofs.All.{arith, ne_eqb, T, ltb, eqb, eqb→eq, eqb_refl, ltb→lt, lt→ltb, length, get_or, take}
 use Rattle.laws.proofs.All.{length-take-le, get_or-take, range, filter, any, elem, member, and→, →and, any-below→}
 use Rattle.laws.proofs.All.{→any-below, bool_eq, any-map, any-filter, any-concat, each-range, elem-filter}

@@ -2,8 +2,8 @@
 -- In order: place_of, row_keeps, row_arc, row_arcs, row_of_state; Added, AddedAll; WeightsOf; FoundIn, the component by
 -- value.
 -- Assumes nothing.
-use Rattle.std.specs.Prelude.{◌≡◌, Bool, false, List, [], ◌++◌, map, ℕ, ◌+◌, ltb, length, get_or}
-use Rattle.laws.specs.Lists.{if◌then◌else◌, range, filter, sum}
+use Rattle.std.specs.Prelude.{if◌then◌else◌, ◌≡◌, Bool, false, List, [], ◌++◌, map, ℕ, ◌+◌, ltb, length, get_or}
+use Rattle.laws.specs.Lists.{range, filter, sum}
 use Rattle.compile_graph.specs.declared.Graph.{Graph}
 use Rattle.compile_graph.specs.declared.NextGraph.{NextGraph}
 use Rattle.compile_component.specs.declared.component_graph.ComponentAnswer.{ComponentAnswer}

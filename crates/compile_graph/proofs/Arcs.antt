@@ -2,9 +2,10 @@
 -- In order: arc-eq, same→eq, same_refl, same-is, among→count, each-among, image-count, none-count,
 -- tot-sort, length-sort, tot-same, pick.
 -- Assumes nothing.
-use Rattle.laws.proofs.All.{◌≡◌, refl, sym, ap₂, subst, ◌∙◌, Bool, true, false, ◌&&◌, ◌||◌, List, [], ◌∷◌, ℕ, ◌+◌}
-use Rattle.laws.proofs.All.{◌*◌, ◌≤◌, ◌<◌, zero-add, add-zero, zero-mul, arith, T, eqb, eqb→eq, eqb_refl, length}
-use Rattle.laws.proofs.All.{if◌then◌else◌, and→, →and, →or_l, →or_r, so, nay, Whether, T→true, Each, tot, mask, one}
+use Rattle.std.proofs.Common.{◌≡◌, ◌&&◌, ◌||◌, ◌∷◌, ◌+◌, ◌*◌, ◌≤◌, ◌<◌, if◌then◌else◌}
+use Rattle.laws.proofs.All.{refl, sym, ap₂, subst, ◌∙◌, Bool, true, false, List, [], ℕ}
+use Rattle.laws.proofs.All.{zero-add, add-zero, zero-mul, arith, T, eqb, eqb→eq, eqb_refl, length}
+use Rattle.laws.proofs.All.{and→, →and, →or_l, →or_r, so, nay, Whether, T→true, Each, tot, mask, one}
 use Rattle.laws.proofs.All.{each_map, each-always, tot-eq, tot-add, tot-zero, any→count, tot-map, tot-le, map}
 use Rattle.laws.proofs.All.{le_refl, zero-le}
 use Rattle.laws.proofs.Sorted as sorted

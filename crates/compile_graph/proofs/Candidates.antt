@@ -1,8 +1,9 @@
 -- The n edges among which the run is sought: they are edges of the state, n of them, and weigh less than n M.
 -- In order: each-sort, any-sort, candidates-length, candidates-tot, candidates-lt, candidates-each.
 -- Assumes nothing.
-use Rattle.laws.proofs.All.{◌≡◌, sym, ap, ◌∙◌, Bool, true, false, not, List, ℕ, ◌+◌, ◌*◌, ◌-◌, ◌≤◌, ◌<◌, zero-add}
-use Rattle.laws.proofs.All.{add-zero, arith, T, length, take, length-take-le, if◌then◌else◌, filter, any, first}
+use Rattle.std.proofs.Common.{◌≡◌, ◌+◌, ◌*◌, ◌-◌, ◌≤◌, ◌<◌, if◌then◌else◌}
+use Rattle.laws.proofs.All.{sym, ap, ◌∙◌, Bool, true, false, not, List, ℕ, zero-add}
+use Rattle.laws.proofs.All.{add-zero, arith, T, length, take, length-take-le, filter, any, first}
 use Rattle.laws.proofs.All.{→or_l, Each, tot, mask, one, each_map, each-always, each-filter, each_take, first_passes}
 use Rattle.laws.proofs.All.{tot-filter, tot-eq, tot-add, tot-length, any→count, count→any, tot-take-le}
 use Rattle.laws.proofs.Sorted as sorted

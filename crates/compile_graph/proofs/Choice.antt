@@ -1,8 +1,9 @@
 -- The state to split: there is one, of greatest weight, with more than n edges.
 -- In order: greatest-ge, greatest-at, total-le, total-lt, ripe-some, Chosen, chosen_is.
 -- Assumes nothing.
-use Rattle.laws.proofs.All.{◌≡◌, refl, sym, ◌∙◌, inl, inr, Bool, true, false, List, [], ◌∷◌, ℕ, zero, suc, ◌+◌, ◌*◌}
-use Rattle.laws.proofs.All.{◌≤◌, ◌<◌, zero-le, suc-le-suc, not-suc-le-zero, le_trans, le_of_eq, mul_comm}
+use Rattle.std.proofs.Common.{◌≡◌, ◌∷◌, ◌+◌, ◌*◌, ◌≤◌, ◌<◌}
+use Rattle.laws.proofs.All.{refl, sym, ◌∙◌, inl, inr, Bool, true, false, List, [], ℕ, zero, suc}
+use Rattle.laws.proofs.All.{zero-le, suc-le-suc, not-suc-le-zero, le_trans, le_of_eq, mul_comm}
 use Rattle.laws.proofs.All.{le_of_mul-le-mul_right, lt_of_mul-lt-mul_right, le-max_left, le-max_right, max-eq_left}
 use Rattle.laws.proofs.All.{max-eq_right, arith, dec_le, T, eqb, eqb→eq, eqb_refl, ltb→lt, length, get_or, range}
 use Rattle.laws.proofs.All.{any, and→, →and, or→, any-below→, →any-below, Each, each_map, each-always, each_both}

@@ -1,8 +1,9 @@
 -- The component: there is a state that every state reachable from it reaches back, and what is reachable from it.
 -- In order: good-some, start-in, C-closed, C-joined.
 -- Assumes nothing.
-use Rattle.laws.proofs.All.{◌≡◌, refl, subst, ◌⊎◌, inl, inr, Bool, true, false, not, ◌&&◌, ◌||◌, List, ℕ, zero, suc}
-use Rattle.laws.proofs.All.{◌+◌, ◌≤◌, ◌<◌, zero-le, le_refl, arith, T, eqb, if◌then◌else◌, filter, any, elem, all}
+use Rattle.std.proofs.Common.{◌≡◌, ◌⊎◌, ◌&&◌, ◌||◌, ◌+◌, ◌≤◌, ◌<◌, if◌then◌else◌}
+use Rattle.laws.proofs.All.{refl, subst, inl, inr, Bool, true, false, not, List, ℕ, zero, suc}
+use Rattle.laws.proofs.All.{zero-le, le_refl, arith, T, eqb, filter, any, elem, all}
 use Rattle.laws.proofs.All.{and→, →and, so, nay, eqb_is, T→true, imp→, Each, tot, one, times, each_map, each_both}
 use Rattle.laws.proofs.All.{each-any, tot-le, tot-add, any→count, each-elem, elem-each, elem-filter, →elem-filter}
 use Rattle.laws.proofs.All.{all-each, not-all}

@@ -1,8 +1,9 @@
 -- The sum over the words is the sum over the states t of A(s, t) times the weight of t.
 -- In order: exchange.
 -- Assumes nothing.
-use Rattle.laws.proofs.All.{◌≡◌, sym, ap₂, ◌∙◌, Bool, true, false, List, [], ◌∷◌, ℕ, ◌+◌, ◌*◌, zero-add, zero-mul}
-use Rattle.laws.proofs.All.{arith, dec_lt, eqb, length, get_or, get_or-eq_default, if◌then◌else◌, range, filter, so}
+use Rattle.std.proofs.Common.{◌≡◌, ◌∷◌, ◌+◌, ◌*◌, if◌then◌else◌}
+use Rattle.laws.proofs.All.{sym, ap₂, ◌∙◌, Bool, true, false, List, [], ℕ, zero-add, zero-mul}
+use Rattle.laws.proofs.All.{arith, dec_lt, eqb, length, get_or, get_or-eq_default, range, filter, so}
 use Rattle.laws.proofs.All.{nay, eqb_is, tot, one, times, each-always, tot-eq, tot-add, tot-zero, any→count}
 use Rattle.laws.proofs.All.{range-once, elem-range}
 use Rattle.compile_graph.specs.Arcs.{Arc, enters, out}

@@ -2,7 +2,8 @@
 -- In order: K, L, gl, reach, inside-l, in-K, s, s-is, C, start-C, closed-C, C-live, C-once, closed-g, heft, v',
 -- v'-length, in_both, started-inv.
 -- Assumes nothing.
-use Rattle.laws.proofs.All.{◌≡◌, refl, ap, ◌∙◌, Bool, List, map, ℕ, zero, suc, ◌*◌, ◌≤◌, ◌<◌, zero-le, suc-le-suc}
+use Rattle.std.proofs.Common.{◌≡◌, ◌*◌, ◌≤◌, ◌<◌}
+use Rattle.laws.proofs.All.{refl, ap, ◌∙◌, Bool, List, map, ℕ, zero, suc, zero-le, suc-le-suc}
 use Rattle.laws.proofs.All.{le_refl, le_trans, T, eqb, ltb→lt, lt→ltb, eq-eqb, length, get_or, length-map, range, sum}
 use Rattle.laws.proofs.All.{first, elem, index_of, and→, →and, Whether, so, nay, eqb_is, T→true, get_or-map-lt, Each}
 use Rattle.laws.proofs.All.{tot, mask, one, times, each_map, each-always, each_both, each-filter, filter-each}

@@ -3,10 +3,11 @@
 -- In order: Lowest, lowest-place; ordered_at; from-above, filter-rises; Before, order-strict, edges-apart,
 -- edges-ordered, edges-rise.
 -- Assumes nothing.
-use Rattle.laws.proofs.All.{◌≡◌, refl, sym, subst, ◌∙◌, ◌⊎◌, inl, inr, Bool, true, false, ◌||◌, List, [], ◌∷◌, ℕ}
-use Rattle.laws.proofs.All.{zero, suc, ◌≤◌, ◌<◌, zero-le, suc-le-suc, le_refl, le_trans, le_of_suc-le-suc}
+use Rattle.std.proofs.Common.{◌≡◌, ◌⊎◌, ◌||◌, ◌∷◌, ◌≤◌, ◌<◌, if◌then◌else◌}
+use Rattle.laws.proofs.All.{refl, sym, subst, ◌∙◌, inl, inr, Bool, true, false, List, [], ℕ}
+use Rattle.laws.proofs.All.{zero, suc, zero-le, suc-le-suc, le_refl, le_trans, le_of_suc-le-suc}
 use Rattle.laws.proofs.All.{not-suc-le-zero, arith, dec_lt, T, T→true, ltb, lt→ltb, eqb→eq, length, get_or}
-use Rattle.laws.proofs.All.{if◌then◌else◌, from, filter, any, Each, one, each_map, each-always, each_both}
+use Rattle.laws.proofs.All.{from, filter, any, Each, one, each_map, each-always, each_both}
 use Rattle.laws.proofs.All.{each-filter, each_at}
 use Rattle.laws.specs.Sorted.{Ordered, Apart, StrictOrder}
 use Rattle.laws.proofs.Sorted.{sort-ordered}

@@ -2,7 +2,8 @@
 -- In order: goes-on, splits-on, splits-off, short, splits-keep, splits-last-one, states-le, splits-end, splitted-end,
 -- splitted-full.
 -- Assumes nothing.
-use Rattle.laws.proofs.All.{◌≡◌, refl, sym, subst, ◌↔◌, Bool, true, false, not, ℕ, zero, suc, ◌+◌, ◌≤◌, ◌<◌, le_trans}
+use Rattle.std.proofs.Common.{◌≡◌, ◌↔◌, ◌+◌, ◌≤◌, ◌<◌}
+use Rattle.laws.proofs.All.{refl, sym, subst, Bool, true, false, not, ℕ, zero, suc, le_trans}
 use Rattle.laws.proofs.All.{◌∙◌, ap, le_of_eq, arith, T, ltb, ltb-false, le-ltb, ltb→lt, lt→ltb, length, sum, and→}
 use Rattle.laws.proofs.All.{→and, any-below→, →any-below, length-le-sum}
 use Rattle.compile_graph.specs.Invariant.{Inv}

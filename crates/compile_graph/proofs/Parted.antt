@@ -1,7 +1,8 @@
 -- Parting a state: the weights of the two parts.
 -- In order: weights', length', w-old, w-new, w-other, sum'.
 -- Assumes nothing.
-use Rattle.laws.proofs.All.{◌≡◌, ◌∙◌, List, [], ◌∷◌, ◌++◌, ℕ, suc, ◌+◌, ◌-◌, ◌≤◌, ◌<◌, arith, length, get_or, set}
+use Rattle.std.proofs.Common.{◌≡◌, ◌∷◌, ◌++◌, ◌+◌, ◌-◌, ◌≤◌, ◌<◌}
+use Rattle.laws.proofs.All.{◌∙◌, List, [], ℕ, suc, arith, length, get_or, set}
 use Rattle.laws.proofs.All.{length-append, length-set, get_or-append, get_or-append_seam, get_or-set_same}
 use Rattle.laws.proofs.All.{get_or-set_other, sum, sum-append, sum-set}
 

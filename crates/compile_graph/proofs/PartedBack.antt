@@ -1,7 +1,8 @@
 -- Parting a state: how many edges there will be.
 -- In order: parted-count.
 -- Assumes nothing.
-use Rattle.laws.proofs.All.{◌≡◌, ap, List, map, ℕ, ◌+◌, length, length-append, length-map, filter, filter_map}
+use Rattle.std.proofs.Common.{◌≡◌, ◌+◌}
+use Rattle.laws.proofs.All.{ap, List, map, ℕ, length, length-append, length-map, filter, filter_map}
 use Rattle.laws.proofs.All.{filter_same, each-always}
 use Rattle.compile_graph.specs.Arcs.{Arc, enters}
 use Rattle.compile_graph.specs.Splitting.{moved, doubled}

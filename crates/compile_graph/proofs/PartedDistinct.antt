@@ -1,7 +1,8 @@
 -- Parting a state: the edges stay distinct and inside.
 -- In order: each-doubled, shifted-inside, doubled-inside, parted-distinct.
 -- Assumes nothing.
-use Rattle.laws.proofs.All.{◌≡◌, sym, ap, ◌∙◌, List, map, ℕ, suc, ◌≤◌, ◌<◌, le_refl, le_trans, arith, T}
+use Rattle.std.proofs.Common.{◌≡◌, ◌≤◌, ◌<◌}
+use Rattle.laws.proofs.All.{sym, ap, ◌∙◌, List, map, ℕ, suc, le_refl, le_trans, arith, T}
 use Rattle.laws.proofs.All.{eqb→eq, filter, so, nay, eqb_is, Each, one, each_map, each-always, each_append}
 use Rattle.laws.proofs.All.{each-filter, each-image, tot-append, tot-filter-le}
 use Rattle.compile_graph.specs.Invariant.{count, Inside}

@@ -1,7 +1,8 @@
 -- Parting a state keeps the invariant, given what the choice of the run must bring.
 -- In order: count-out, parted-length, parted-inv.
 -- Assumes nothing.
-use Rattle.laws.proofs.All.{◌≡◌, ap, ◌∙◌, List, ℕ, suc, ◌+◌, ◌*◌, ◌-◌, ◌≤◌, ◌<◌, le_refl, le_trans, le_of_eq}
+use Rattle.std.proofs.Common.{◌≡◌, ◌+◌, ◌*◌, ◌-◌, ◌≤◌, ◌<◌}
+use Rattle.laws.proofs.All.{ap, ◌∙◌, List, ℕ, suc, le_refl, le_trans, le_of_eq}
 use Rattle.laws.proofs.All.{mul-le-mul_right, add-mul, arith, dec_lt, eqb, length, get_or, Whether, so, nay, eqb_is}
 use Rattle.laws.proofs.All.{Each, one, each_map, tot-filter-le}
 use Rattle.compile_graph.specs.Invariant.{count, Inv, Part}

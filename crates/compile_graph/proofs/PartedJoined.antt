@@ -1,8 +1,9 @@
 -- Parting a state: the graph stays irreducible.
 -- In order: parted-joined.
 -- Assumes nothing.
-use Rattle.laws.proofs.All.{◌≡◌, refl, subst, Bool, ◌&&◌, List, map, ℕ, suc, ◌<◌, arith, dec_lt, T, eqb, eq-eqb}
-use Rattle.laws.proofs.All.{if◌then◌else◌, filter, and→, →and, so, nay, eqb_is, Each, tot, mask, each_map}
+use Rattle.std.proofs.Common.{◌≡◌, ◌&&◌, ◌<◌, if◌then◌else◌}
+use Rattle.laws.proofs.All.{refl, subst, Bool, List, map, ℕ, suc, arith, dec_lt, T, eqb, eq-eqb}
+use Rattle.laws.proofs.All.{filter, and→, →and, so, nay, eqb_is, Each, tot, mask, each_map}
 use Rattle.laws.proofs.All.{each_both, each-front, each_back, filter-each, image-each, tot-filter, tot-some}
 use Rattle.compile_graph.specs.Invariant.{Stays, Joined}
 use Rattle.compile_graph.specs.Arcs.{Arc, leaves, enters, out}

@@ -1,8 +1,9 @@
 -- Parting a state: both parts have the root of the state.
 -- In order: rooted, parted-over.
 -- Assumes nothing.
-use Rattle.laws.proofs.All.{◌≡◌, sym, ap, subst, ◌∙◌, List, map, ℕ, ◌<◌, arith, T, eqb, eqb→eq, eqb_refl, ne_eqb}
-use Rattle.laws.proofs.All.{if◌then◌else◌, T→true, Each, each_map, each_both, each-image}
+use Rattle.std.proofs.Common.{◌≡◌, ◌<◌, if◌then◌else◌}
+use Rattle.laws.proofs.All.{sym, ap, subst, ◌∙◌, List, map, ℕ, arith, T, eqb, eqb→eq, eqb_refl, ne_eqb}
+use Rattle.laws.proofs.All.{T→true, Each, each_map, each_both, each-image}
 use Rattle.compile_graph.specs.Arcs.{Arc, enters}
 use Rattle.compile_graph.specs.Splitting.{moved, redirected, doubled}
 use Rattle.compile_graph.proofs.PartedSums.{goes, stays, fate}

@@ -1,7 +1,8 @@
 -- Parting a state: the sums of weights to which the edges of each state lead.
 -- In order: Fate, fate, shifted, shifted-other, shifted-old, shifted-both, doubled-tot.
 -- Assumes nothing.
-use Rattle.laws.proofs.All.{◌≡◌, refl, sym, ap, ap₂, ◌∙◌, Bool, true, false, List, map, ℕ, ◌+◌, ◌≤◌, ◌<◌, zero-add}
+use Rattle.std.proofs.Common.{◌≡◌, ◌+◌, ◌≤◌, ◌<◌}
+use Rattle.laws.proofs.All.{refl, sym, ap, ap₂, ◌∙◌, Bool, true, false, List, map, ℕ, zero-add}
 use Rattle.laws.proofs.All.{add-zero, arith, eqb, eq-eqb, ne_eqb, length, get_or, filter, Whether, so, nay, eqb_is}
 use Rattle.laws.proofs.All.{Each, tot, mask, each_map, each-always, tot-append, tot-filter, tot-eq, tot-add}
 use Rattle.laws.proofs.All.{tot-map}

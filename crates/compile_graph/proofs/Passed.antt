@@ -1,7 +1,8 @@
 -- The graphs that splitting passes through: each keeps the invariant, and the next is its split by the rule.
 -- In order: by-rule; splits-inv, splits-next, splits-stay, splits_last; each-passed.
 -- Assumes nothing.
-use Rattle.laws.proofs.All.{◌≡◌, sym, ap, subst, ◌∙◌, true, false, List, [], ℕ, zero, suc, ◌+◌, ◌-◌, ◌≤◌, ◌<◌}
+use Rattle.std.proofs.Common.{◌≡◌, ◌+◌, ◌-◌, ◌≤◌, ◌<◌}
+use Rattle.laws.proofs.All.{sym, ap, subst, ◌∙◌, true, false, List, [], ℕ, zero, suc}
 use Rattle.laws.proofs.All.{zero-le, le_trans, zero-add, suc-add, arith, dec_le, T, length, get_or, sum, range, any}
 use Rattle.laws.proofs.All.{first, one, →any-below, any-map, each-range, each-always, first_passes, FirstList}
 use Rattle.laws.proofs.All.{first-image, first-union, none-lower}

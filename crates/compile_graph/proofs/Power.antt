@@ -1,8 +1,9 @@
 -- The graph of words: its edges are distinct, lead to states, and are readings of the constraint.
 -- In order: power-distinct, power-reads, power-inside.
 -- Assumes nothing.
-use Rattle.laws.proofs.All.{◌≡◌, refl, ◌∙◌, inl, inr, Bool, true, false, not, ◌&&◌, map, ℕ, ◌≤◌, ◌<◌, zero-le, ◌^◌}
-use Rattle.laws.proofs.All.{le_refl, le_trans, le_of_eq, T, eqb, eq-eqb, length, if◌then◌else◌, range, concat, so}
+use Rattle.std.proofs.Common.{◌≡◌, ◌&&◌, ◌≤◌, ◌<◌, ◌^◌, if◌then◌else◌}
+use Rattle.laws.proofs.All.{refl, ◌∙◌, inl, inr, Bool, true, false, not, map, ℕ, zero-le}
+use Rattle.laws.proofs.All.{le_refl, le_trans, le_of_eq, T, eqb, eq-eqb, length, range, concat, so}
 use Rattle.laws.proofs.All.{nay, eqb_is, Each, one, each_map, each-always, each-filter, each-image, tot-le}
 use Rattle.laws.proofs.All.{tot-zero, tot-map, tot-union, each-union, each-range, range-once, tot-filter-le}
 use Rattle.compile_graph.specs.Invariant.{count, Inside}

@@ -1,7 +1,8 @@
 -- Reaching: its steps, and that a closed set which holds a state holds all that it reaches.
 -- In order: Reaching, reaches-is, reach-trans, reach-edge.
 -- Assumes nothing.
-use Rattle.laws.proofs.All.{◌≡◌, refl, sym, subst, ◌∙◌, inl, inr, Bool, true, false, not, List, [], map, ℕ, ◌<◌}
+use Rattle.std.proofs.Common.{◌≡◌, ◌<◌}
+use Rattle.laws.proofs.All.{refl, sym, subst, ◌∙◌, inl, inr, Bool, true, false, not, List, [], map, ℕ}
 use Rattle.laws.proofs.All.{le_trans, le_of_eq, T, eqb, eqb→eq, eqb_refl, length, get_or, range, any, and→, →and, or→}
 use Rattle.laws.proofs.All.{→or_l, →or_r, map-range-at, tab→, →tab, Each, each_map, each_both, each-any, any-each}
 use Rattle.laws.proofs.All.{member, missing, missing-le, grow-sub, member-lt, iterate-keeps, settles, each-for}

@@ -2,7 +2,8 @@
 -- In order: reach→, →reach, live-reach; good→, →good; weight→, →weight, lowest; start_first;
 -- component-is.
 -- Assumes nothing.
-use Rattle.laws.proofs.All.{◌≡◌, sym, subst, Bool, ◌&&◌, List, ℕ, ◌<◌, zero-le, arith, T, lt→ltb, ltb→lt, length}
+use Rattle.std.proofs.Common.{◌≡◌, ◌&&◌, ◌<◌}
+use Rattle.laws.proofs.All.{sym, subst, Bool, List, ℕ, zero-le, arith, T, lt→ltb, ltb→lt, length}
 use Rattle.laws.proofs.All.{get_or, range, any, first, elem, Each, and→, →and, imp→, →imp, first-filter, each_map}
 use Rattle.laws.proofs.All.{each-any, each-always, each_both, each-filter, any-filter, each-elem, elem-each}
 use Rattle.laws.proofs.All.{elem-filter, →elem-filter, elem-range, all-each, all_of, first_head, none-lower}

@@ -1,7 +1,8 @@
 -- Roots through all splits: every edge at the end is an edge of the component between the roots.
 -- In order: Rooted, splits-rooted.
 -- Assumes nothing.
-use Rattle.laws.proofs.All.{◌≡◌, ℕ, suc, ◌≤◌, ◌<◌, arith, T, eqb, ne_eqb, length, Whether, so, nay, eqb_is}
+use Rattle.std.proofs.Common.{◌≡◌, ◌≤◌, ◌<◌}
+use Rattle.laws.proofs.All.{ℕ, suc, arith, T, eqb, ne_eqb, length, Whether, so, nay, eqb_is}
 use Rattle.laws.proofs.All.{Each}
 use Rattle.compile_graph.specs.Invariant.{Inv}
 use Rattle.compile_graph.specs.Arcs.{Work}

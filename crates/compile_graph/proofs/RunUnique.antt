@@ -1,7 +1,8 @@
 -- "And of those the shortest" never decides: two runs with one end would leave a run that ends earlier.
 -- In order: earlier-run; shortest-idle.
 -- Assumes nothing.
-use Rattle.laws.proofs.All.{◌≡◌, sym, ap, ◌∙◌, List, ℕ, ◌+◌, ◌-◌, ◌%◌, ◌≤◌, ◌<◌, add_comm, arith, dec_lt, T, eqb→eq}
+use Rattle.std.proofs.Common.{◌≡◌, ◌+◌, ◌-◌, ◌%◌, ◌≤◌, ◌<◌}
+use Rattle.laws.proofs.All.{sym, ap, ◌∙◌, List, ℕ, add_comm, arith, dec_lt, T, eqb→eq}
 use Rattle.laws.proofs.All.{take, drop, drop-drop, mod-diff, tot-take-add}
 use Rattle.compile_graph.specs.Arcs.{Arc}
 use Rattle.compile_graph.specs.Weights.{weight, total}

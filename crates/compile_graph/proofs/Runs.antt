@@ -1,7 +1,8 @@
 -- A run whose weights sum to a multiple of n: there is one among n edges, and what it weighs.
 -- In order: run-exists, PartOf, run_is.
 -- Assumes nothing.
-use Rattle.laws.proofs.All.{◌≡◌, ap, ◌∙◌, List, [], ◌∷◌, map, ℕ, zero, suc, ◌+◌, ◌*◌, ◌-◌, ◌/◌, ◌%◌, ◌≤◌, ◌<◌}
+use Rattle.std.proofs.Common.{◌≡◌, ◌∷◌, ◌+◌, ◌*◌, ◌-◌, ◌/◌, ◌%◌, ◌≤◌, ◌<◌}
+use Rattle.laws.proofs.All.{ap, ◌∙◌, List, [], map, ℕ, zero, suc}
 use Rattle.laws.proofs.All.{zero-le, suc-le-suc, le_of_suc-le-suc, not-suc-le-zero, le_trans, mod-lt, mod-add-div'}
 use Rattle.laws.proofs.All.{arith, T, eqb→eq, length, take, drop, add-one, range, any, →any-below, Each, tot}
 use Rattle.laws.proofs.All.{each_map, each-always, each_take, each-drop, first_passes, each-image, Twice, pigeon}

@@ -1,7 +1,8 @@
 -- One split: while some state has too few edges, the split keeps the invariant and makes one more state.
 -- In order: split-part, split-inv, split-length.
 -- Assumes nothing.
-use Rattle.laws.proofs.All.{◌≡◌, sym, subst, List, ℕ, suc, ◌*◌, ◌/◌, ◌≤◌, ◌<◌, suc-le-suc, le_trans, le_of_eq}
+use Rattle.std.proofs.Common.{◌≡◌, ◌*◌, ◌/◌, ◌≤◌, ◌<◌}
+use Rattle.laws.proofs.All.{sym, subst, List, ℕ, suc, suc-le-suc, le_trans, le_of_eq}
 use Rattle.laws.proofs.All.{zero-mul, mul_comm, lt_of_mul-lt-mul_right, T, length, any, Each, one, each_map}
 use Rattle.laws.proofs.All.{each-filter}
 use Rattle.compile_graph.proofs.Arcs.{tot-sort, length-sort}

@@ -1,7 +1,8 @@
 -- The list of edges of a split: the first to a lighter state by word, then target, and then the first of the others.
 -- In order: filter_none, filter-but; candidates-by.
 -- Assumes nothing.
-use Rattle.laws.proofs.All.{◌≡◌, refl, sym, ap, ◌∙◌, List, [], ◌∷◌, ◌++◌, ℕ, zero, suc, ◌+◌, ◌-◌, ◌≤◌, ◌<◌, le_trans}
+use Rattle.std.proofs.Common.{◌≡◌, ◌∷◌, ◌++◌, ◌+◌, ◌-◌, ◌≤◌, ◌<◌}
+use Rattle.laws.proofs.All.{refl, sym, ap, ◌∙◌, List, [], ℕ, zero, suc, le_trans}
 use Rattle.laws.proofs.All.{le_of_suc-le-suc, not-suc-le-zero, add-one, arith, T, T→true, ltb-true, ltb-false}
 use Rattle.laws.proofs.All.{length, get_or, take, drop, length-take-le, get_or-take, get_or-drop, get_or-append}
 use Rattle.laws.proofs.All.{get_or-append-add, filter, first, any, one, Whether, so, nay, each_at, first-place}

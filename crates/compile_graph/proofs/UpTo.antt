@@ -1,8 +1,9 @@
 -- Those of the numbers below a bound that pass a test.
 -- In order: up_to, up_to-yes, up_to-no; elem-kept, index_kept.
 -- Assumes nothing.
-use Rattle.laws.proofs.All.{◌≡◌, refl, sym, ap, ◌∙◌, Bool, true, false, List, [], ◌∷◌, ◌++◌, append-nil, ℕ, zero}
-use Rattle.laws.proofs.All.{suc, ◌+◌, ◌-◌, ◌≤◌, ◌<◌, arith, ℕ_discrete, eq-eqb, ne_eqb, length, if◌then◌else◌, from}
+use Rattle.std.proofs.Common.{◌≡◌, ◌∷◌, ◌++◌, ◌+◌, ◌-◌, ◌≤◌, ◌<◌, if◌then◌else◌}
+use Rattle.laws.proofs.All.{refl, sym, ap, ◌∙◌, Bool, true, false, List, [], append-nil, ℕ, zero}
+use Rattle.laws.proofs.All.{suc, arith, ℕ_discrete, eq-eqb, ne_eqb, length, from}
 use Rattle.laws.proofs.All.{range, filter, elem, index_of, bool_eq, elem-filter, →elem-filter, elem-range}
 use Rattle.laws.proofs.All.{range-more, filter-append}
 

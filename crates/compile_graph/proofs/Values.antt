@@ -2,8 +2,9 @@
 -- In order: Bounded, Low, fits-from, fits-arcs, fits-weights; with_arc; Appended, appended-none, arcs-count,
 -- appended-count, appended-more; climbs.
 -- Assumes nothing.
-use Rattle.laws.proofs.All.{◌≡◌, refl, sym, ap, ap₂, subst, ◌∙◌, List, [], ◌∷◌, map, ◌++◌, append_assoc, append-nil}
-use Rattle.laws.proofs.All.{ℕ, zero, suc, ◌+◌, ◌-◌, ◌≤◌, ◌<◌, add-zero, arith, length, set, length-set}
+use Rattle.std.proofs.Common.{◌≡◌, ◌∷◌, ◌++◌, ◌+◌, ◌-◌, ◌≤◌, ◌<◌}
+use Rattle.laws.proofs.All.{refl, sym, ap, ap₂, subst, ◌∙◌, List, [], map, append_assoc, append-nil}
+use Rattle.laws.proofs.All.{ℕ, zero, suc, add-zero, arith, length, set, length-set}
 use Rattle.laws.proofs.All.{length-append, range, Each, each_map, each-image, each_at, map-range-at, each-range}
 use Rattle.laws.proofs.All.{length-map-range, map-range-more, map-range-same, get_or-set_same, get_or-set_other}
 use Rattle.compile_graph.specs.declared.Graph.{Graph}

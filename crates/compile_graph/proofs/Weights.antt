@@ -2,12 +2,13 @@
 -- In order: enough-total, weights-length, weights-fixed, weights-enough, weights-greatest, weights-cap; passing-exact,
 -- still-meets.
 -- Assumes nothing.
-use Rattle.laws.proofs.All.{◌≡◌, refl, sym, ap, ap₂, ◌∙◌, ◌⊎◌, inl, inr, List, [], ◌∷◌, ℕ, zero, suc, ◌*◌, ◌/◌, ◌≤◌}
-use Rattle.laws.proofs.All.{◌<◌, zero-le, min, le_of_suc-le-suc, not-suc-le-zero, le_trans, le_of_eq, add-le-add}
+use Rattle.std.proofs.Common.{◌≡◌, ◌⊎◌, ◌∷◌, ◌*◌, ◌/◌, ◌≤◌, ◌<◌, ◌↔◌, ◌&&◌}
+use Rattle.laws.proofs.All.{refl, sym, ap, ap₂, ◌∙◌, inl, inr, List, [], ℕ, zero, suc}
+use Rattle.laws.proofs.All.{zero-le, min, le_of_suc-le-suc, not-suc-le-zero, le_trans, le_of_eq, add-le-add}
 use Rattle.laws.proofs.All.{min-le_left, le-min, zero-min, le-div_iff_mul-le, arith, dec_lt, length, get_or}
 use Rattle.laws.proofs.All.{length-map, replicate, length-replicate, get_or-eq_default, get_or-replicate, range}
 use Rattle.laws.proofs.All.{sum, sum-replicate, length_from, map-range-at, iterate-keeps, settles, tot-le}
-use Rattle.laws.proofs.All.{each-always, min-le_right, min-eq_left, zero-mul, ◌↔◌, T, ◌&&◌, ltb→lt, lt→ltb, leb→le}
+use Rattle.laws.proofs.All.{each-always, min-le_right, min-eq_left, zero-mul, T, ltb→lt, lt→ltb, leb→le}
 use Rattle.laws.proofs.All.{le→leb, any, all, and→, →and, all-below→, →all-below, any-below→, →any-below}
 use Rattle.compile_graph.specs.Arcs.{Arc, out}
 use Rattle.compile_graph.specs.Weights.{lower, lowered, weights, Enough, AtMost, product, total, weight, low}

@@ -3,8 +3,9 @@
 -- In order: checked, from-checked, the checks after K's; constraint-refused; states-well; length-states_of;
 -- constraint_from-lawful, constraint_from-length, constraint_from-fits.
 -- Assumes nothing.
-use Rattle.laws.proofs.All.{◌≡◌, refl, sym, ap, subst, ◌∙◌, ◌⊎◌, inl, inr, Bool, ◌&&◌, List, ℕ, zero, suc, ◌+◌, ◌*◌}
-use Rattle.laws.proofs.All.{◌≤◌, T, ltb, leb, eqb, ltb→lt, leb→le, eqb→eq, length, get_or, drop, all, and→, or→}
+use Rattle.std.proofs.Common.{◌≡◌, ◌⊎◌, ◌&&◌, ◌+◌, ◌*◌, ◌≤◌}
+use Rattle.laws.proofs.All.{refl, sym, ap, subst, ◌∙◌, inl, inr, Bool, List, ℕ, zero, suc}
+use Rattle.laws.proofs.All.{T, ltb, leb, eqb, ltb→lt, leb→le, eqb→eq, length, get_or, drop, all, and→, or→}
 use Rattle.laws.proofs.All.{each_map}
 use Rattle.laws.proofs.All.{all-each}
 use Rattle.answer.specs.declared.Refusal.TheVariants.{States, Length}

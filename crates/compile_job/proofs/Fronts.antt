@@ -2,7 +2,8 @@
 -- In order: front-short, front-parameters, front-passed; fronted→; fronted-onward; front-bad, front-good, front_long;
 -- allowed_of; fitted-allowed.
 -- Assumes nothing.
-use Rattle.laws.proofs.All.{◌≡◌, refl, ap, subst, ◌∙◌, Bool, true, false, ◌&&◌, List, ℕ, ◌^◌, ◌≤◌, ◌<◌, T, leb}
+use Rattle.std.proofs.Common.{◌≡◌, ◌&&◌, ◌^◌, ◌≤◌, ◌<◌}
+use Rattle.laws.proofs.All.{refl, ap, subst, ◌∙◌, Bool, true, false, List, ℕ, T, leb}
 use Rattle.laws.proofs.All.{leb→le, le→leb}
 use Rattle.laws.proofs.All.{lt-leb, length, get_or, and→}
 use Rattle.answer.specs.declared.Refusal.{Refusal}

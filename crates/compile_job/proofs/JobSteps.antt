@@ -3,9 +3,10 @@
 -- bad-states, good-constraint; lawful-kept; run-length-size, run-length-parameters, run-length-range,
 -- run-length-count, run-length-good; held_kept, ready-kept.
 -- Assumes nothing.
-use Rattle.laws.proofs.All.{◌≡◌, refl, sym, ap, ap₂, subst, ◌∙◌, Bool, true, false, ◌&&◌, List, ◌∷◌, map, ℕ, zero}
-use Rattle.laws.proofs.All.{suc, ◌+◌, ◌*◌, ◌≤◌, arith, T, leb, eqb, leb→le, leb-true, eqb-true, length, get_or, drop}
-use Rattle.laws.proofs.All.{get_or-drop, drop-drop, all, from, range, and→, or→, inl, inr, ◌||◌, ◌/◌, eqb→eq}
+use Rattle.std.proofs.Common.{◌≡◌, ◌&&◌, ◌∷◌, ◌+◌, ◌*◌, ◌≤◌, ◌||◌, ◌/◌}
+use Rattle.laws.proofs.All.{refl, sym, ap, ap₂, subst, ◌∙◌, Bool, true, false, List, map, ℕ, zero}
+use Rattle.laws.proofs.All.{suc, arith, T, leb, eqb, leb→le, leb-true, eqb-true, length, get_or, drop}
+use Rattle.laws.proofs.All.{get_or-drop, drop-drop, all, from, range, and→, or→, inl, inr, eqb→eq}
 use Rattle.answer.specs.declared.Refusal.{Refusal}
 use Rattle.answer.specs.declared.Refusal.TheVariants.{Parameters, States, Length}
 use Rattle.answer.specs.declared.Verdict.{Verdict}

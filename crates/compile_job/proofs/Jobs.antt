@@ -3,8 +3,9 @@
 -- held_job-held, read_job-allowed; held_run_length→, held_run_length-held, read_run_length-allowed, read_listed-is;
 -- read_joined-allowed.
 -- Assumes nothing.
-use Rattle.laws.proofs.All.{◌≡◌, refl, sym, ap, ap₂, subst, ◌∙◌, inl, inr, Bool, true, false, ◌&&◌, ◌||◌, List, ℕ, ◌+◌}
-use Rattle.laws.proofs.All.{◌*◌, ◌-◌, ◌/◌, ◌≤◌, arith, ℕ_discrete, T, leb, eqb, leb→le, le→leb, leb-true, eqb→eq}
+use Rattle.std.proofs.Common.{◌≡◌, ◌&&◌, ◌||◌, ◌+◌, ◌*◌, ◌-◌, ◌/◌, ◌≤◌}
+use Rattle.laws.proofs.All.{refl, sym, ap, ap₂, subst, ◌∙◌, inl, inr, Bool, true, false, List, ℕ}
+use Rattle.laws.proofs.All.{arith, ℕ_discrete, T, leb, eqb, leb→le, le→leb, leb-true, eqb→eq}
 use Rattle.laws.proofs.All.{eq-eqb, ne_eqb, eqb_is, Whether, so, nay, length, get_or, drop, length-drop, get_or-drop}
 use Rattle.laws.proofs.All.{drop-drop, all, and→, or→}
 use Rattle.answer.specs.declared.Refusal.TheVariants.{Parameters, States, Length, BadWeights}

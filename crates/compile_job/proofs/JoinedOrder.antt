@@ -3,8 +3,9 @@
 -- In order: states_at, row, onward-row, one constraint at an offset; after, joined-rows; told-there, told-fits,
 -- told-whole; first-again; joined-order.
 -- Assumes nothing.
-use Rattle.laws.proofs.All.{◌≡◌, refl, sym, ap, ap₂, ◌∙◌, ◌⊎◌, inl, inr, ◌↔◌, Bool, true, false, ◌&&◌, List, [], ◌∷◌, ℕ}
-use Rattle.laws.proofs.All.{◌+◌, ◌*◌, ◌-◌, ◌≤◌, arith, leb, eqb, leb→le, le→leb, eqb→eq, length, get_or, drop, add-zero}
+use Rattle.std.proofs.Common.{◌≡◌, ◌⊎◌, ◌↔◌, ◌&&◌, ◌∷◌, ◌+◌, ◌*◌, ◌-◌, ◌≤◌}
+use Rattle.laws.proofs.All.{refl, sym, ap, ap₂, ◌∙◌, inl, inr, Bool, true, false, List, [], ℕ}
+use Rattle.laws.proofs.All.{arith, leb, eqb, leb→le, le→leb, eqb→eq, length, get_or, drop, add-zero}
 use Rattle.laws.proofs.All.{length-drop, get_or-drop, drop-drop, all}
 use Rattle.answer.specs.declared.Refusal.{Refusal}
 use Rattle.answer.specs.declared.Refusal.TheVariants.{Parameters, States, Length, TooManyPairs}

@@ -1,7 +1,8 @@
 -- A job with two constraints: which ones its bytes hold, and when there are too many pairs.
 -- In order: joins-lawful; joins-exact, joined-job; too-many-read; joined-from, where the second constraint starts.
 -- Assumes nothing.
-use Rattle.laws.proofs.All.{◌≡◌, refl, sym, ap, ◌∙◌, ◌↔◌, inl, inr, Bool, true, false, List, ℕ, ◌+◌, ◌*◌, ◌≤◌, ◌<◌}
+use Rattle.std.proofs.Common.{◌≡◌, ◌↔◌, ◌+◌, ◌*◌, ◌≤◌, ◌<◌}
+use Rattle.laws.proofs.All.{refl, sym, ap, ◌∙◌, inl, inr, Bool, true, false, List, ℕ}
 use Rattle.laws.proofs.All.{arith, min, T, leb, eqb, leb→le, leb-false, lt-leb, length, get_or, drop, drop_min}
 use Rattle.laws.proofs.All.{get_or-drop}
 use Rattle.answer.specs.declared.Refusal.{Refusal}

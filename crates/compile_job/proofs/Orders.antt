@@ -2,8 +2,9 @@
 -- In order: told-by, told-ranged, told-few, state-fact, nexts-from, told-nexts, told-either, told_fit, what the tests
 -- say; read-order; run-length-order.
 -- Assumes nothing.
-use Rattle.laws.proofs.All.{◌≡◌, refl, sym, ap, subst, ◌∙◌, ◌⊎◌, inl, inr, ◌↔◌, Bool, true, false, ◌&&◌, ◌||◌, List, []}
-use Rattle.laws.proofs.All.{◌∷◌, ℕ, zero, suc, ◌+◌, ◌*◌, ◌^◌, ◌≤◌, ◌<◌, arith, ℕ_discrete, T, leb, ltb, eqb, eqb→eq}
+use Rattle.std.proofs.Common.{◌≡◌, ◌⊎◌, ◌↔◌, ◌&&◌, ◌||◌, ◌∷◌, ◌+◌, ◌*◌, ◌^◌, ◌≤◌, ◌<◌}
+use Rattle.laws.proofs.All.{refl, sym, ap, subst, ◌∙◌, inl, inr, Bool, true, false, List, []}
+use Rattle.laws.proofs.All.{ℕ, zero, suc, arith, ℕ_discrete, T, leb, ltb, eqb, eqb→eq}
 use Rattle.laws.proofs.All.{ltb→lt, lt→ltb, length, get_or, drop, get_or-drop, all, and→, →and, or→, →or_l, →or_r}
 use Rattle.answer.specs.declared.Refusal.{Refusal}
 use Rattle.answer.specs.declared.Refusal.TheVariants.{Parameters, States, Length, BadWeights}

@@ -1,8 +1,9 @@
 -- Weights after a job's bytes, and when a job whose weights are still to be checked has its fields in range.
 -- In order: bringing-none, bringing-some, sized-more; held-bounds, held-few; fitted-bad, fitted-good.
 -- Assumes nothing.
-use Rattle.laws.proofs.All.{◌≡◌, ap, ◌∙◌, inl, inr, true, false, ◌&&◌, List, ℕ, ◌+◌, ◌≤◌, arith, T, leb, eqb, leb→le}
-use Rattle.laws.proofs.All.{eq-eqb, ne_eqb, length, drop, if◌then◌else◌, and→}
+use Rattle.std.proofs.Common.{◌≡◌, ◌&&◌, ◌+◌, ◌≤◌, if◌then◌else◌}
+use Rattle.laws.proofs.All.{ap, ◌∙◌, inl, inr, true, false, List, ℕ, arith, T, leb, eqb, leb→le}
+use Rattle.laws.proofs.All.{eq-eqb, ne_eqb, length, drop, and→}
 use Rattle.answer.specs.declared.Refusal.TheVariants.{BadWeights}
 use Rattle.answer.specs.Outcomes.{done, refused}
 use Rattle.answer.proofs.Outcomes.{unless-false, unless-true}

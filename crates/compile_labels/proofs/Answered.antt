@@ -1,9 +1,10 @@
 -- The first that passes a test; and what the second pass over a state's edges gives each of them.
 -- In order: first-not, first-low; answered-kept, answered-low, answered-rises.
 -- Assumes nothing.
-use Rattle.laws.proofs.All.{◌≡◌, refl, sym, subst, Bool, true, false, ◌||◌, List, [], ◌∷◌, ℕ, zero, suc, ◌≤◌, ◌<◌}
+use Rattle.std.proofs.Common.{◌≡◌, ◌||◌, ◌∷◌, ◌≤◌, ◌<◌, if◌then◌else◌}
+use Rattle.laws.proofs.All.{refl, sym, subst, Bool, true, false, List, [], ℕ, zero, suc}
 use Rattle.laws.proofs.All.{zero-le, le_refl, le_of_suc-le-suc, not-suc-le-zero, arith, T, ltb, ltb→lt, lt-ltb}
-use Rattle.laws.proofs.All.{le-ltb, length, get_or, drop, if◌then◌else◌, range, first, any, Each, each_map, each-drop}
+use Rattle.laws.proofs.All.{le-ltb, length, get_or, drop, range, first, any, Each, each_map, each-drop}
 use Rattle.laws.proofs.All.{each-range, →any-below, first_passes, none-lower}
 use Rattle.laws.specs.Sorted.{Ordered}
 use Rattle.compile_labels.specs.Labels.{answered}

@@ -3,7 +3,8 @@
 -- In order: asked-at, asked-home, asked-none, taken, new-one, fits, what an edge asks for; ds-edge, ds-kept, ds-rise,
 -- the data; given-rule, none-rule, labels-rule.
 -- Assumes nothing.
-use Rattle.laws.proofs.All.{◌≡◌, refl, sym, ap, subst, ◌∙◌, Bool, true, false, ◌&&◌, List, [], ℕ, ◌≤◌, ◌<◌, zero-add}
+use Rattle.std.proofs.Common.{◌≡◌, ◌&&◌, ◌≤◌, ◌<◌}
+use Rattle.laws.proofs.All.{refl, sym, ap, subst, ◌∙◌, Bool, true, false, List, [], ℕ, zero-add}
 use Rattle.laws.proofs.All.{arith, dec_lt, T, T_not, T→true, eqb→eq, eq-eqb, length, get_or, take, length-map}
 use Rattle.laws.proofs.All.{length-take-le, get_or-take, get_or-map-lt, range, filter, first, any, elem, index_of}
 use Rattle.laws.proofs.All.{extend}

@@ -2,7 +2,8 @@
 -- In order: row-entry, length-row, row-filled; worded-rows, words_row, the words of a state; reorder-none,
 -- reorder-more; reordered-row, reordered-rows, the table whose columns both have another order.
 -- Assumes nothing.
-use Rattle.laws.proofs.All.{◌≡◌, refl, sym, ap, ap₂, ◌∙◌, ◌⊎◌, inl, inr, List, [], map, ℕ, ◌+◌, ◌*◌, ◌≤◌, ◌<◌, arith}
+use Rattle.std.proofs.Common.{◌≡◌, ◌⊎◌, ◌+◌, ◌*◌, ◌≤◌, ◌<◌}
+use Rattle.laws.proofs.All.{refl, sym, ap, ap₂, ◌∙◌, inl, inr, List, [], map, ℕ, arith}
 use Rattle.laws.proofs.All.{dec_lt, T, length, get_or, take, drop, set, length-take, length-take-le, length-drop}
 use Rattle.laws.proofs.All.{length-set, get_or-take, get_or-drop, get_or-set_same, get_or-set_other, ext_get_or}
 use Rattle.laws.proofs.All.{below_more}

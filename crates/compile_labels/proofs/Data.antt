@@ -3,9 +3,10 @@
 -- In order: Few; few-put, few-once; first-free, asked-few, the first pass; lowest-free, served-once, the second;
 -- data-length, data-below, data-once, data-onto.
 -- Assumes nothing.
-use Rattle.laws.proofs.All.{◌≡◌, refl, sym, subst, ◌∙◌, Bool, true, false, not, List, [], ◌∷◌, ◌++◌, append-nil, ℕ}
-use Rattle.laws.proofs.All.{◌+◌, ◌≤◌, ◌<◌, zero-le, zero-add, arith, dec_lt, T, eqb, ltb, ltb-true, ltb-false, length}
-use Rattle.laws.proofs.All.{length-append, append_snoc, if◌then◌else◌, range, first, any, elem, extend, length-extend}
+use Rattle.std.proofs.Common.{◌≡◌, ◌∷◌, ◌++◌, ◌+◌, ◌≤◌, ◌<◌, if◌then◌else◌}
+use Rattle.laws.proofs.All.{refl, sym, subst, ◌∙◌, Bool, true, false, not, List, [], append-nil, ℕ}
+use Rattle.laws.proofs.All.{zero-le, zero-add, arith, dec_lt, T, eqb, ltb, ltb-true, ltb-false, length}
+use Rattle.laws.proofs.All.{length-append, append_snoc, range, first, any, elem, extend, length-extend}
 use Rattle.laws.proofs.All.{any_append, each-range, elem_below, elem-each, length_from, once_more, range-once}
 use Rattle.laws.proofs.All.{times_none, first_passes, tot-append, each_map, once-fits, once-onto, →any-below, →or_l}
 use Rattle.laws.proofs.All.{→or_r, eqb_refl, below-append, Whether, so, nay, eqb_is, Below, Once, one, times}

@@ -2,11 +2,12 @@
 -- In order: gave-state, gave-none, given-home; homes_none, home-more, homes_more; noted-none, noted_more, note-put,
 -- note-skip, the words of a state one by one.
 -- Assumes nothing.
-use Rattle.laws.proofs.All.{◌≡◌, refl, sym, ap, subst, ◌∙◌, inl, inr, Bool, true, false, ◌&&◌, ◌||◌, and-false, List}
-use Rattle.laws.proofs.All.{[], ◌∷◌, ◌++◌, ℕ, ◌+◌, ◌≤◌, ◌<◌, add-one, arith, lt-ltb, le-ltb, eq-eqb, ne_eqb, eqb}
+use Rattle.std.proofs.Common.{◌≡◌, ◌&&◌, ◌||◌, ◌∷◌, ◌++◌, ◌+◌, ◌≤◌, ◌<◌, if◌then◌else◌}
+use Rattle.laws.proofs.All.{refl, sym, ap, subst, ◌∙◌, inl, inr, Bool, true, false, and-false, List}
+use Rattle.laws.proofs.All.{[], ℕ, add-one, arith, lt-ltb, le-ltb, eq-eqb, ne_eqb, eqb}
 use Rattle.laws.proofs.All.{length, get_or, take, set, replicate, length-append, length-map, get_or-replicate}
 use Rattle.laws.proofs.All.{get_or-append, get_or-append_seam, take-suc, get_or-set_same, get_or-set_other, below_more}
-use Rattle.laws.proofs.All.{if◌then◌else◌, range, filter, elem, any_append, Whether, so, nay, eqb_is, each-range}
+use Rattle.laws.proofs.All.{range, filter, elem, any_append, Whether, so, nay, eqb_is, each-range}
 use Rattle.laws.proofs.All.{each_map, filter_same, get_or-map-lt, first-place, first-nowhere}
 use Rattle.table.specs.Rows.{Edge, edge, Rows, edges, words_of, has_word}
 use Rattle.compile_labels.specs.Labels.{carries, gave, given}

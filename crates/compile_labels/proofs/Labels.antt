@@ -2,7 +2,8 @@
 -- In order: rearranged-row, rearranged-same, rearranged-at, one state; relabelled-length, relabelled-first,
 -- labels-row, labels, relabelled-full, relabelled-at, all states; tabled-relabelled, what holds of every edge.
 -- Assumes nothing.
-use Rattle.laws.proofs.All.{◌≡◌, refl, sym, ap, subst, ◌∙◌, List, [], ◌∷◌, ℕ, zero, suc, ◌+◌, ◌<◌, zero-le, suc-le-suc}
+use Rattle.std.proofs.Common.{◌≡◌, ◌∷◌, ◌+◌, ◌<◌}
+use Rattle.laws.proofs.All.{refl, sym, ap, subst, ◌∙◌, List, [], ℕ, zero, suc, zero-le, suc-le-suc}
 use Rattle.laws.proofs.All.{le_of_suc-le-suc, not-suc-le-zero, arith, T, length, get_or, take, drop, length-append}
 use Rattle.laws.proofs.All.{length-map, take-append-drop, get_or-take, range, elem, index_of, length-extend}
 use Rattle.laws.proofs.All.{extend-start}

@@ -2,10 +2,11 @@
 -- In order: given-found, given-none, the datum that an edge asks for; extend-put, one edge more has asked; serve-kept,
 -- serve-put, one edge more is served.
 -- Assumes nothing.
-use Rattle.laws.proofs.All.{◌≡◌, sym, ap, ap₂, ◌∙◌, true, false, ◌&&◌, List, [], ◌∷◌, ◌++◌, ℕ, suc, ◌+◌, ◌≤◌, ◌<◌}
+use Rattle.std.proofs.Common.{◌≡◌, ◌&&◌, ◌∷◌, ◌++◌, ◌+◌, ◌≤◌, ◌<◌, if◌then◌else◌}
+use Rattle.laws.proofs.All.{sym, ap, ap₂, ◌∙◌, true, false, List, [], ℕ, suc}
 use Rattle.laws.proofs.All.{add-one, arith, lt-ltb, le-ltb, length, get_or, take, drop, set, take-append-drop}
 use Rattle.laws.proofs.All.{take-take}
-use Rattle.laws.proofs.All.{take-suc, take-suc-set, take-set-lt, drop-set-lt, slice-cons, if◌then◌else◌, range, first}
+use Rattle.laws.proofs.All.{take-suc, take-suc-set, take-set-lt, drop-set-lt, slice-cons, range, first}
 use Rattle.laws.proofs.All.{extend, extend-more, first-filter, first-least, first-range-none}
 use Rattle.compile_labels.specs.Labels.{carries, gave, free}
 use Rattle.compile_labels.specs.Parts.{served}

@@ -2,8 +2,9 @@
 -- In order: Relabels; relabelled-start, relabels-start; worded-front, state-onto, relabels-more, one state;
 -- relabels-end.
 -- Assumes nothing.
-use Rattle.laws.proofs.All.{◌≡◌, refl, sym, ap, ap₂, subst, ◌∙◌, List, [], ◌∷◌, ◌++◌, append-nil, map, ℕ, suc, ◌+◌, ◌≤◌}
-use Rattle.laws.proofs.All.{◌<◌, add-one, arith, lit<, T, length, get_or, take, drop, set, replicate, length-take-le}
+use Rattle.std.proofs.Common.{◌≡◌, ◌∷◌, ◌++◌, ◌+◌, ◌≤◌, ◌<◌}
+use Rattle.laws.proofs.All.{refl, sym, ap, ap₂, subst, ◌∙◌, List, [], append-nil, map, ℕ, suc}
+use Rattle.laws.proofs.All.{add-one, arith, lit<, T, length, get_or, take, drop, set, replicate, length-take-le}
 use Rattle.laws.proofs.All.{take-append-drop, take_all, take_at, take-suc, drop-cons, drop_of_length-le, get_or_at}
 use Rattle.laws.proofs.All.{put-at, range, elem, extend-start}
 use Rattle.table.specs.Rows.{Rows, edges, words_of}

@@ -2,9 +2,10 @@
 -- the next such edge finds the next lowest.
 -- In order: free_other, free-here; left-some, left-none, left-taken; served-answered, served-data.
 -- Assumes nothing.
-use Rattle.laws.proofs.All.{◌≡◌, refl, sym, ap, subst, ◌∙◌, Bool, true, false, not, ◌||◌, List, [], ◌∷◌, ◌++◌}
-use Rattle.laws.proofs.All.{append-nil, append_snoc, ℕ, ◌≤◌, ◌<◌, arith, T, T→true, eqb, eqb_refl, ltb, ltb-false}
-use Rattle.laws.proofs.All.{ne_eqb, get_or, drop, if◌then◌else◌, extend, range, filter, first, any, elem, any_append}
+use Rattle.std.proofs.Common.{◌≡◌, ◌||◌, ◌∷◌, ◌++◌, ◌≤◌, ◌<◌, if◌then◌else◌}
+use Rattle.laws.proofs.All.{refl, sym, ap, subst, ◌∙◌, Bool, true, false, not, List, []}
+use Rattle.laws.proofs.All.{append-nil, append_snoc, ℕ, arith, T, T→true, eqb, eqb_refl, ltb, ltb-false}
+use Rattle.laws.proofs.All.{ne_eqb, get_or, drop, extend, range, filter, first, any, elem, any_append}
 use Rattle.laws.proofs.All.{→or_l, →or_r, →any-below, each-range, first_passes, none-lower, filter-taken, filter_none}
 use Rattle.laws.proofs.All.{first-range-none}
 use Rattle.table.specs.Rows.{Rows}

@@ -1,7 +1,8 @@
 -- The checks of a component, one by one.
 -- In order: weighed-none, weighed-heavy, weighed-crowded, weighed-whole; weighed-by, all of them at once.
 -- Assumes nothing.
-use Rattle.laws.proofs.All.{◌≡◌, refl, sym, ap, subst, ◌∙◌, Bool, true, false, not, ℕ, ◌≤◌, ◌<◌, arith, lt-ltb, le-ltb}
+use Rattle.std.proofs.Common.{◌≡◌, ◌≤◌, ◌<◌}
+use Rattle.laws.proofs.All.{refl, sym, ap, subst, ◌∙◌, Bool, true, false, not, ℕ, arith, lt-ltb, le-ltb}
 use Rattle.laws.proofs.All.{ltb-true, ltb-false, le-leb, lt-leb, leb-true, leb-false, ltb, leb}
 use Rattle.answer.specs.declared.Refusal.TheVariants.{NoCode, TooHeavy, TooManyEdges}
 use Rattle.answer.specs.Outcomes.{Outcome, done, refused, unless}

@@ -1,10 +1,11 @@
 -- Counting the edges of states.
 -- In order: left, Counted, counted_none, counted-more; unfinished-yes, unfinished-no.
 -- Assumes nothing.
-use Rattle.laws.proofs.All.{◌≡◌, refl, sym, ap, ◌∙◌, true, false, List, [], ◌∷◌, ◌++◌, map, append-nil, ℕ, ◌+◌, ◌≤◌}
-use Rattle.laws.proofs.All.{◌<◌, arith, ℕ_discrete, lt-ltb, le-ltb, eq-eqb, ne_eqb, length, get_or, set, length-set}
+use Rattle.std.proofs.Common.{◌≡◌, ◌∷◌, ◌++◌, ◌+◌, ◌≤◌, ◌<◌, if◌then◌else◌}
+use Rattle.laws.proofs.All.{refl, sym, ap, ◌∙◌, true, false, List, [], map, append-nil, ℕ}
+use Rattle.laws.proofs.All.{arith, ℕ_discrete, lt-ltb, le-ltb, eq-eqb, ne_eqb, length, get_or, set, length-set}
 use Rattle.laws.proofs.All.{length-append, replicate, length-replicate, get_or-replicate, get_or-set_same}
-use Rattle.laws.proofs.All.{get_or-set_other, if◌then◌else◌, range, filter, range_at, length_from, filter-append}
+use Rattle.laws.proofs.All.{get_or-set_other, range, filter, range_at, length_from, filter-append}
 use Rattle.laws.proofs.All.{map-range-more, length-map-range, any_false, any-true}
 use Rattle.compile_graph.specs.declared.Graph.{Graph}
 use Rattle.compile_graph.specs.Arcs.{Arc, leaves, out}

@@ -3,8 +3,9 @@
 -- entered_all; Grown, grown-room, grown-yes, grown-no,
 -- turn-yes, turn-no; arc-kept, target-kept, here-yes, here-no; grown-end.
 -- Assumes nothing.
-use Rattle.laws.proofs.All.{◌≡◌, sym, ap, subst, ◌∙◌, List, [], ◌∷◌, ◌++◌, map, append-nil, ℕ, ◌+◌, ◌≤◌, ◌<◌, arith}
-use Rattle.laws.proofs.All.{eq-eqb, ne_eqb, length, get_or, length-append, length-map, if◌then◌else◌, range, filter}
+use Rattle.std.proofs.Common.{◌≡◌, ◌∷◌, ◌++◌, ◌+◌, ◌≤◌, ◌<◌, if◌then◌else◌}
+use Rattle.laws.proofs.All.{sym, ap, subst, ◌∙◌, List, [], map, append-nil, ℕ, arith}
+use Rattle.laws.proofs.All.{eq-eqb, ne_eqb, length, get_or, length-append, length-map, range, filter}
 use Rattle.laws.proofs.All.{map-append, filter-append, map-range-more, map-range-at, length-map-range, get_or-append}
 use Rattle.compile_graph.specs.declared.Graph.{Graph}
 use Rattle.compile_graph.specs.Arcs.{Arc, arc, enters}

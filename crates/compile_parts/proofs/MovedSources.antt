@@ -2,10 +2,11 @@
 -- In order: Resourced, sources as f says below i; with_source; resource-none, resource-put; new_source,
 -- resource-end; source-other, source-kept, source-moved, new-source; resource-next.
 -- Assumes nothing.
-use Rattle.laws.proofs.All.{◌≡◌, refl, sym, ap, ap₂, ◌∙◌, Bool, true, false, not, ◌&&◌, List, map, ℕ, ◌+◌, ◌≤◌, ◌<◌}
+use Rattle.std.proofs.Common.{◌≡◌, ◌&&◌, ◌+◌, ◌≤◌, ◌<◌, if◌then◌else◌}
+use Rattle.laws.proofs.All.{refl, sym, ap, ap₂, ◌∙◌, Bool, true, false, not, List, map, ℕ}
 use Rattle.laws.proofs.All.{arith, below_more, ne_eqb, length, get_or, set, length-set, get_or-set_same}
 use Rattle.laws.proofs.All.{get_or-set_other}
-use Rattle.laws.proofs.All.{if◌then◌else◌, range, map-map, map-range-same, ℕ_discrete, elem, eqb, eq-eqb}
+use Rattle.laws.proofs.All.{range, map-map, map-range-same, ℕ_discrete, elem, eqb, eq-eqb}
 use Rattle.compile_graph.specs.declared.Graph.{Graph}
 use Rattle.compile_graph.specs.Arcs.{Arc, arc, leaves}
 use Rattle.compile_graph.specs.Splitting.{among, moved}

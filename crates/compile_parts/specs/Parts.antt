@@ -1,8 +1,8 @@
 -- What the steps of a split do to the edges of a graph.
 -- In order: kept_from, source_after, Moved; entering, Doubled.
 -- Assumes nothing.
-use Rattle.std.specs.Prelude.{◌≡◌, not, ◌&&◌, List, map, ℕ, ◌≤◌, eqb, length, take, drop}
-use Rattle.laws.specs.Lists.{if◌then◌else◌, filter, elem}
+use Rattle.std.specs.Prelude.{if◌then◌else◌, ◌≡◌, not, ◌&&◌, List, map, ℕ, ◌≤◌, eqb, length, take, drop}
+use Rattle.laws.specs.Lists.{filter, elem}
 use Rattle.compile_graph.specs.declared.Graph.{Graph}
 use Rattle.compile_order.specs.declared.keys.Keys.{Keys}
 use Rattle.compile_graph.specs.Arcs.{Arc, enters}

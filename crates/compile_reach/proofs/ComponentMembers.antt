@@ -2,7 +2,8 @@
 -- In order: reaches-at, weighs-at; fails, returning-yes, returning-no; lowest, lowest-at, lowest-none; kept,
 -- component-is.
 -- Assumes nothing.
-use Rattle.laws.proofs.All.{◌≡◌, refl, sym, ap, ap₂, ◌∙◌, Bool, true, false, not, ◌&&◌, ◌||◌, List, [], ℕ, ◌≤◌, ◌<◌}
+use Rattle.std.proofs.Common.{◌≡◌, ◌&&◌, ◌||◌, ◌≤◌, ◌<◌}
+use Rattle.laws.proofs.All.{refl, sym, ap, ap₂, ◌∙◌, Bool, true, false, not, List, [], ℕ}
 use Rattle.laws.proofs.All.{arith, ltb, length, get_or, take, length-take-le, get_or-take, range, filter, all, first}
 use Rattle.laws.proofs.All.{member, map-range-at, each_map, each-range, first-least, filter_same, all_filter}
 use Rattle.laws.proofs.All.{filter-fuse, first-filter, all-range-false, all-range-true, first-range-none}

@@ -1,10 +1,11 @@
 -- Numbering those of the numbers below a bound that pass a test.
 -- In order: Numbered, numbered-none, numbered-yes, numbered-no, numbered-end.
 -- Assumes nothing.
-use Rattle.laws.proofs.All.{◌≡◌, refl, sym, ap, ◌∙◌, Bool, true, false, List, [], ◌∷◌, ◌++◌, ℕ, ◌+◌, ◌≤◌, ◌<◌}
+use Rattle.std.proofs.Common.{◌≡◌, ◌∷◌, ◌++◌, ◌+◌, ◌≤◌, ◌<◌, if◌then◌else◌}
+use Rattle.laws.proofs.All.{refl, sym, ap, ◌∙◌, Bool, true, false, List, [], ℕ}
 use Rattle.laws.proofs.All.{add-one, arith, below_more, length, get_or, take, set, length-set, replicate}
 use Rattle.laws.proofs.All.{length-replicate, get_or-replicate, length-take-le, get_or-set_same, get_or-set_other}
-use Rattle.laws.proofs.All.{take-suc-set, if◌then◌else◌, elem, index_of}
+use Rattle.laws.proofs.All.{take-suc-set, elem, index_of}
 use Rattle.compile_reach.specs.ReachSets.{Listed}
 use Rattle.compile_graph.proofs.UpTo.{up_to, up_to-yes, up_to-no, elem-kept, index_kept}
 

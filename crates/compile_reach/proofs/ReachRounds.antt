@@ -2,8 +2,9 @@
 -- In order: Rounds, what holds after i rounds; rounds-start; step_row, one round of one state; rounds-more,
 -- rounds-still, rounds-end; same_bool, two tests that do not differ.
 -- Assumes nothing.
-use Rattle.laws.proofs.All.{◌≡◌, refl, sym, ap, ap₂, ◌∙◌, Bool, true, false, not, ◌&&◌, ◌||◌, Bool·beq, List, map}
-use Rattle.laws.proofs.All.{ℕ, suc, ◌+◌, ◌-◌, ◌*◌, ◌/◌, ◌%◌, ◌≤◌, ◌<◌, arith, eqb, length, get_or, range, any}
+use Rattle.std.proofs.Common.{◌≡◌, ◌&&◌, ◌||◌, ◌+◌, ◌-◌, ◌*◌, ◌/◌, ◌%◌, ◌≤◌, ◌<◌}
+use Rattle.laws.proofs.All.{refl, sym, ap, ap₂, ◌∙◌, Bool, true, false, not, Bool·beq, List, map}
+use Rattle.laws.proofs.All.{ℕ, suc, arith, eqb, length, get_or, range, any}
 use Rattle.laws.proofs.All.{iterate, map-range-at, iterate_fixed, length-map-range, map-range-same, any-range-same}
 use Rattle.laws.proofs.All.{quotient-of, remainder_of}
 use Rattle.compile_graph.specs.Arcs.{Arc}

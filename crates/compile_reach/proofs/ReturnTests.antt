@@ -1,7 +1,8 @@
 -- Whether every state reachable from s can reach it back, stated over the arrays of the code.
 -- In order: fails_at, fails-yes, fails-no.
 -- Assumes nothing.
-use Rattle.laws.proofs.All.{◌≡◌, Bool, true, false, not, ◌&&◌, List, ℕ, ◌≤◌, ◌<◌, ltb, length, get_or, take}
+use Rattle.std.proofs.Common.{◌≡◌, ◌&&◌, ◌≤◌, ◌<◌}
+use Rattle.laws.proofs.All.{Bool, true, false, not, List, ℕ, ltb, length, get_or, take}
 use Rattle.compile_graph.specs.Component.{returning, live}
 use Rattle.compile_reach.specs.ReachSets.{reach_at, rows_of}
 use Rattle.compile_reach.proofs.ComponentMembers.{returning-yes, returning-no}

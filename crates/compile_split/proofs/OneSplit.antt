@@ -2,7 +2,8 @@
 -- In order: split-count, count_at, how many edges a split makes; crowded-into, too many; parted-into, the split;
 -- chosen-passes, chosen-heavy, chosen-light, the state that is chosen.
 -- Assumes nothing.
-use Rattle.laws.proofs.All.{◌≡◌, sym, ap, subst, ◌∙◌, true, false, List, ℕ, ◌+◌, ◌/◌, ◌≤◌, ◌<◌, arith, lt-ltb}
+use Rattle.std.proofs.Common.{◌≡◌, ◌+◌, ◌/◌, ◌≤◌, ◌<◌}
+use Rattle.laws.proofs.All.{sym, ap, subst, ◌∙◌, true, false, List, ℕ, arith, lt-ltb}
 use Rattle.laws.proofs.All.{le-ltb, T, eqb, eqb→eq, length, get_or, range, any, and→, first_passes, each-range}
 use Rattle.laws.proofs.All.{length-map-range}
 use Rattle.compile_graph.specs.declared.Graph.{Graph}

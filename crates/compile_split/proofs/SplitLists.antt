@@ -1,8 +1,9 @@
 -- What a split does to the lists of a graph.
 -- In order: entering-moved; each-parted.
 -- Assumes nothing.
-use Rattle.laws.proofs.All.{◌≡◌, refl, ap, Bool, true, false, not, ◌&&◌, List, [], ◌∷◌, map, ℕ, suc, ◌+◌, ◌<◌}
-use Rattle.laws.proofs.All.{arith, T, length, if◌then◌else◌, filter, Each, each_map, each_append, each-filter}
+use Rattle.std.proofs.Common.{◌≡◌, ◌&&◌, ◌∷◌, ◌+◌, ◌<◌, if◌then◌else◌}
+use Rattle.laws.proofs.All.{refl, ap, Bool, true, false, not, List, [], map, ℕ, suc}
+use Rattle.laws.proofs.All.{arith, T, length, filter, Each, each_map, each_append, each-filter}
 use Rattle.laws.proofs.All.{each-image}
 use Rattle.compile_graph.specs.Arcs.{Arc, arc, leaves, enters}
 use Rattle.compile_graph.specs.Splitting.{among, moved, redirected, doubled}

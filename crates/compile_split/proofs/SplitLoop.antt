@@ -1,8 +1,9 @@
 -- All splits: the loop.
 -- In order: Going, going_start, goes_on-is, more-states, going-splits, going_on, going-crowded, going_end.
 -- Assumes nothing.
-use Rattle.laws.proofs.All.{◌≡◌, refl, sym, ap, ap₂, subst, ◌∙◌, Bool, true, false, not, ◌&&◌, ℕ, zero, suc, ◌+◌}
-use Rattle.laws.proofs.All.{◌≤◌, ◌<◌, arith, le-ltb, T, length, range, sum, any, length-map-range}
+use Rattle.std.proofs.Common.{◌≡◌, ◌&&◌, ◌+◌, ◌≤◌, ◌<◌}
+use Rattle.laws.proofs.All.{refl, sym, ap, ap₂, subst, ◌∙◌, Bool, true, false, not, ℕ, zero, suc}
+use Rattle.laws.proofs.All.{arith, le-ltb, T, length, range, sum, any, length-map-range}
 use Rattle.compile_graph.specs.declared.Graph.{Graph}
 use Rattle.compile_graph.specs.declared.NextGraph.{NextGraph}
 use Rattle.compile_graph.specs.Arcs.{Work}

@@ -2,8 +2,9 @@
 -- In order: Keyed; keys-inside, weights-low, map-weight, inside-run, kept-is, kept-total, share-le,
 -- room_moved, parted-is.
 -- Assumes nothing.
-use Rattle.laws.proofs.All.{◌≡◌, refl, sym, ap, ap₂, subst, ◌∙◌, List, [], ◌∷◌, ◌++◌, map, ℕ, ◌+◌, ◌-◌, ◌*◌, ◌/◌}
-use Rattle.laws.proofs.All.{◌%◌, ◌≤◌, ◌<◌, le_trans, div-le_of_le-mul, mul-le-mul_right, arith, T, length, get_or}
+use Rattle.std.proofs.Common.{◌≡◌, ◌∷◌, ◌++◌, ◌+◌, ◌-◌, ◌*◌, ◌/◌, ◌%◌, ◌≤◌, ◌<◌}
+use Rattle.laws.proofs.All.{refl, sym, ap, ap₂, subst, ◌∙◌, List, [], map, ℕ}
+use Rattle.laws.proofs.All.{le_trans, div-le_of_le-mul, mul-le-mul_right, arith, T, length, get_or}
 use Rattle.laws.proofs.All.{take, drop, set, length-take, length-map, length-take-le, get_or-take, range, filter, any}
 use Rattle.laws.proofs.All.{first, Each, each_map, each_append, each-filter, each_take, each-image, image-each}
 use Rattle.laws.proofs.All.{first_passes, each_at, map-range-at, each_set, length-map-range, map-take, map-drop}

@@ -1,7 +1,8 @@
 -- The new weights of a split.
 -- In order: with_weights, weigh-is.
 -- Assumes nothing.
-use Rattle.laws.proofs.All.{◌≡◌, refl, sym, ap, ap₂, ◌∙◌, [], ◌∷◌, ◌++◌, map, ℕ, ◌+◌, ◌-◌, ◌<◌, arith, ℕ_discrete}
+use Rattle.std.proofs.Common.{◌≡◌, ◌∷◌, ◌++◌, ◌+◌, ◌-◌, ◌<◌}
+use Rattle.laws.proofs.All.{refl, sym, ap, ap₂, ◌∙◌, [], map, ℕ, arith, ℕ_discrete}
 use Rattle.laws.proofs.All.{length, get_or, set, length-set, get_or-set_same, get_or-set_other, ext_get_or, range}
 use Rattle.laws.proofs.All.{map-range-at, map-range-more, length-map-range}
 use Rattle.compile_graph.specs.declared.Graph.{Graph}

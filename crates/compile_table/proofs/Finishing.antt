@@ -1,7 +1,8 @@
 -- Splitting leaves every state its n edges.
 -- In order: split-finished.
 -- Assumes nothing.
-use Rattle.laws.proofs.All.{◌≡◌, sym, ap, subst, ◌∙◌, List, [], ◌∷◌, ℕ, ◌≤◌, ◌<◌, arith, length, sum}
+use Rattle.std.proofs.Common.{◌≡◌, ◌∷◌, ◌≤◌, ◌<◌}
+use Rattle.laws.proofs.All.{sym, ap, subst, ◌∙◌, List, [], ℕ, arith, length, sum}
 use Rattle.laws.proofs.All.{length-map-range}
 use Rattle.compile_graph.specs.declared.Graph.{Graph}
 use Rattle.compile_graph.specs.Arcs.{Work, out}

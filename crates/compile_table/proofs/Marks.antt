@@ -1,8 +1,9 @@
 -- Sets of states in arrays: marking, and how many are not done.
 -- In order: any-take-more, mark-more; missing-put; open-set, open_done.
 -- Assumes nothing.
-use Rattle.laws.proofs.All.{◌≡◌, refl, sym, ap, subst, ◌∙◌, inl, inr, Bool, true, false, not, ◌&&◌, ◌||◌, or-false}
-use Rattle.laws.proofs.All.{or_assoc, List, ℕ, ◌+◌, ◌%◌, ◌<◌, add-one, arith, T, eqb, length, get_or, take, set}
+use Rattle.std.proofs.Common.{◌≡◌, ◌&&◌, ◌||◌, ◌+◌, ◌%◌, ◌<◌}
+use Rattle.laws.proofs.All.{refl, sym, ap, subst, ◌∙◌, inl, inr, Bool, true, false, not, or-false}
+use Rattle.laws.proofs.All.{or_assoc, List, ℕ, add-one, arith, T, eqb, length, get_or, take, set}
 use Rattle.laws.proofs.All.{length-set, take-suc, get_or-set_same, any, member, →or_l, any_append, missing, grow-sub}
 use Rattle.laws.proofs.All.{put-member}
 use Rattle.compile_table.specs.Finishing.{entered_by}

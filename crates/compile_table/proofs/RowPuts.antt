@@ -1,7 +1,8 @@
 -- One row of the table, edge by edge.
 -- In order: with_edge, put-start, put-more, put-keys.
 -- Assumes nothing.
-use Rattle.laws.proofs.All.{◌≡◌, refl, ap, ◌∙◌, List, ℕ, ◌+◌, ◌*◌, ◌/◌, ◌%◌, ◌<◌, arith, below_more, length, get_or}
+use Rattle.std.proofs.Common.{◌≡◌, ◌+◌, ◌*◌, ◌/◌, ◌%◌, ◌<◌}
+use Rattle.laws.proofs.All.{refl, ap, ◌∙◌, List, ℕ, arith, below_more, length, get_or}
 use Rattle.laws.proofs.All.{set, length-set, get_or-set_same, get_or-set_other}
 use Rattle.compile_table.specs.declared.finish_table.TableRows.{TableRows}
 use Rattle.compile_table.specs.Finishing.{RowPut}

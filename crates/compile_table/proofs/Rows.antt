@@ -1,7 +1,8 @@
 -- The first edges of each state, and what is reachable by them.
 -- In order: firsts, reach; row-each, inside-firsts, reach-row.
 -- Assumes nothing.
-use Rattle.laws.proofs.All.{◌≡◌, Bool, List, map, ℕ, ◌<◌, T, eqb→eq, range, concat, Each, each_map, each-always}
+use Rattle.std.proofs.Common.{◌≡◌, ◌<◌}
+use Rattle.laws.proofs.All.{Bool, List, map, ℕ, T, eqb→eq, range, concat, Each, each_map, each-always}
 use Rattle.laws.proofs.All.{each_both, each-filter, each_take, each-union, union-each, elem-each, elem-range}
 use Rattle.compile_graph.specs.Invariant.{Inside}
 use Rattle.compile_graph.specs.Arcs.{Arc, leaves, out}

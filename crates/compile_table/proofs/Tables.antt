@@ -2,8 +2,9 @@
 -- In order: keys-long, keys-low, list-long, list_at, key-lt, key-inside; key-stays; Laid, laid_none, laid-no,
 -- laid-yes; states-are, index_is, row_laid, laid_end.
 -- Assumes nothing.
-use Rattle.laws.proofs.All.{◌≡◌, sym, ap, ap₂, subst, ◌∙◌, Bool, true, false, List, [], map, ℕ, ◌+◌, ◌-◌, ◌*◌, ◌/◌}
-use Rattle.laws.proofs.All.{◌%◌, ◌≤◌, ◌<◌, le_trans, arith, below_more, T, length, get_or, length-map, length-take}
+use Rattle.std.proofs.Common.{◌≡◌, ◌+◌, ◌-◌, ◌*◌, ◌/◌, ◌%◌, ◌≤◌, ◌<◌}
+use Rattle.laws.proofs.All.{sym, ap, ap₂, subst, ◌∙◌, Bool, true, false, List, [], map, ℕ}
+use Rattle.laws.proofs.All.{le_trans, arith, below_more, T, length, get_or, length-map, length-take}
 use Rattle.laws.proofs.All.{length-take-le, get_or-take, range, filter, elem, index_of, member, Each, times, one}
 use Rattle.laws.proofs.All.{T→true, each_map, each-filter, image-each, each_take, each-range, each-elem}
 use Rattle.laws.proofs.All.{elem-filter, elem-each, each_at, index_at, range-once, tot-filter-le, length-map-range}

@@ -1,8 +1,9 @@
 -- Weights that are brought, by the counts of words: the inequality fails exactly where a round lowers a weight.
 -- In order: low-front, weighty-front; passing-parts; low-found, low_small; unmet-is, met-found.
 -- Assumes nothing.
-use Rattle.laws.proofs.All.{◌≡◌, refl, sym, ap, ap₂, subst, ◌∙◌, Bool, true, false, not, ◌&&◌, List, ℕ, ◌*◌, ◌/◌, ◌%◌}
-use Rattle.laws.proofs.All.{◌≤◌, ◌<◌, le_of_eq, arith, ℕ_discrete, T, eqb, leb, ltb, leb→le, le-ltb, lt-ltb, length}
+use Rattle.std.proofs.Common.{◌≡◌, ◌&&◌, ◌*◌, ◌/◌, ◌%◌, ◌≤◌, ◌<◌}
+use Rattle.laws.proofs.All.{refl, sym, ap, ap₂, subst, ◌∙◌, Bool, true, false, not, List, ℕ}
+use Rattle.laws.proofs.All.{le_of_eq, arith, ℕ_discrete, T, eqb, leb, ltb, leb→le, le-ltb, lt-ltb, length}
 use Rattle.laws.proofs.All.{get_or, take, length-take-le, get_or-take, range, all, any, first, any-range-same}
 use Rattle.laws.proofs.All.{all-below→}
 use Rattle.compile_graph.specs.Arcs.{Arc}

@@ -1,7 +1,8 @@
 -- The power table of a constraint by value holds the words that the constraint allows.
 -- In order: held-powers, held-tabled.
 -- Assumes nothing.
-use Rattle.laws.proofs.All.{◌≡◌, sym, ap, ap₂, subst, ◌∙◌, List, ℕ, ◌+◌, ◌*◌, ◌^◌, ◌≤◌, ◌<◌, arith, length, get_or}
+use Rattle.std.proofs.Common.{◌≡◌, ◌+◌, ◌*◌, ◌^◌, ◌≤◌, ◌<◌}
+use Rattle.laws.proofs.All.{sym, ap, ap₂, subst, ◌∙◌, List, ℕ, arith, length, get_or}
 use Rattle.laws.proofs.All.{length-map, pow_mono, inl}
 use Rattle.constraint.specs.Walking.{Target, Well, walk}
 use Rattle.constraint.specs.declared.Constraint.{Constraint}

@@ -1,8 +1,9 @@
 -- The search for the first number below K at which a test passes, which ends at K where there is none.
 -- In order: first-within, first_found; all_first; first-same, all_same, of two tests that agree below K.
 -- Assumes nothing.
-use Rattle.laws.proofs.All.{◌≡◌, refl, sym, ap₂, subst, ◌∙◌, Bool, true, false, not, ◌||◌, List, [], ◌∷◌, ℕ, ◌≤◌, ◌<◌}
-use Rattle.laws.proofs.All.{le_of_eq, arith, T, eqb, eq-eqb, ne_eqb, not-true, not-false, if◌then◌else◌, range, all}
+use Rattle.std.proofs.Common.{◌≡◌, ◌||◌, ◌∷◌, ◌≤◌, ◌<◌, if◌then◌else◌}
+use Rattle.laws.proofs.All.{refl, sym, ap₂, subst, ◌∙◌, Bool, true, false, not, List, [], ℕ}
+use Rattle.laws.proofs.All.{le_of_eq, arith, T, eqb, eq-eqb, ne_eqb, not-true, not-false, range, all}
 use Rattle.laws.proofs.All.{any, first, bool_eq, T→true, all-below→, →all-below, →any-below, all-range-true}
 use Rattle.laws.proofs.All.{all-range-false, first-range-none, first_passes, each_map, each-range}
 use Rattle.laws.specs.Sums.{Each}

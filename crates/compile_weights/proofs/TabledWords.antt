@@ -1,7 +1,8 @@
 -- The graph of words, read off the power table.
 -- In order: out-tabled; between-count; tabled-power, the table of a constraint.
 -- Assumes nothing.
-use Rattle.laws.proofs.All.{◌≡◌, refl, sym, ap, ◌∙◌, List, [], ◌∷◌, map, ℕ, ◌^◌, ◌<◌, eq-eqb, ne_eqb, T, eqb→eq}
+use Rattle.std.proofs.Common.{◌≡◌, ◌∷◌, ◌^◌, ◌<◌}
+use Rattle.laws.proofs.All.{refl, sym, ap, ◌∙◌, List, [], map, ℕ, eq-eqb, ne_eqb, T, eqb→eq}
 use Rattle.laws.proofs.All.{length, length-map, range, filter, concat, pick-range, filter_map, filter-filter}
 use Rattle.laws.proofs.All.{filter-both, map-range-same}
 use Rattle.constraint.specs.Walking.{Constraint, walk}

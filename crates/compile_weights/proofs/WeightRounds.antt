@@ -2,10 +2,11 @@
 -- In order: count_none, count_yes, count_no, words counted; term-small; sum_is, lower-is, lowered_is, one round;
 -- lower-le; Round, round-start, round-more, round-still, round-end; count-le.
 -- Assumes nothing.
-use Rattle.laws.proofs.All.{◌≡◌, refl, sym, ap, ap₂, ◌∙◌, Bool, true, false, List, [], ◌∷◌, ◌++◌, append-nil, ℕ}
-use Rattle.laws.proofs.All.{suc, ◌+◌, ◌-◌, ◌*◌, ◌/◌, ◌%◌, ◌≤◌, ◌<◌, min, le_trans, mul-le-mul, arith, eq-eqb}
+use Rattle.std.proofs.Common.{◌≡◌, ◌∷◌, ◌++◌, ◌+◌, ◌-◌, ◌*◌, ◌/◌, ◌%◌, ◌≤◌, ◌<◌, if◌then◌else◌}
+use Rattle.laws.proofs.All.{refl, sym, ap, ap₂, ◌∙◌, Bool, true, false, List, [], append-nil, ℕ}
+use Rattle.laws.proofs.All.{suc, min, le_trans, mul-le-mul, arith, eq-eqb}
 use Rattle.laws.proofs.All.{ne_eqb, length, get_or, take, length-append, replicate, length-replicate, get_or-replicate}
-use Rattle.laws.proofs.All.{length-take-le, get_or-take, if◌then◌else◌, range, filter, iterate, tot, each_map, tot-eq}
+use Rattle.laws.proofs.All.{length-take-le, get_or-take, range, filter, iterate, tot, each_map, tot-eq}
 use Rattle.laws.proofs.All.{map-range-at, length_from, each-range, iterate_fixed, take-replicate, filter-append}
 use Rattle.laws.proofs.All.{quotient-of, remainder_of, range-more, length-map-range, take_same}
 use Rattle.compile_graph.specs.Arcs.{Arc}

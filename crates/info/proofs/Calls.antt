@@ -1,7 +1,8 @@
 -- What is answered to a caller who asks for the numbers of a record or the words of a refusal, exactly.
 -- In order: info-done, info-refused; phrase-done, phrase-refused.
 -- Assumes nothing.
-use Rattle.laws.proofs.All.{◌≡◌, ◌⊎◌, inl, inr, ◌↔◌, List, [], ◌∷◌, ℕ, ◌-◌, ◌≤◌, leb, length}
+use Rattle.std.proofs.Common.{◌≡◌, ◌⊎◌, ◌↔◌, ◌∷◌, ◌-◌, ◌≤◌}
+use Rattle.laws.proofs.All.{inl, inr, List, [], ℕ, leb, length}
 use Rattle.answer.specs.declared.Refusal.{Refusal}
 use Rattle.answer.specs.declared.Refusal.TheVariants.{ShortOutput}
 use Rattle.answer.specs.Outcomes.{done, refused, fitting}

@@ -1,7 +1,8 @@
 -- The numbers of a record: those of the table that was loaded, each below 256.
 -- In order: in-range; numbers-are.
 -- Assumes nothing.
-use Rattle.laws.proofs.All.{◌≡◌, sym, ap, subst, List, [], ◌∷◌, ℕ, ◌-◌, T}
+use Rattle.std.proofs.Common.{◌≡◌, ◌∷◌, ◌-◌}
+use Rattle.laws.proofs.All.{sym, ap, subst, List, [], ℕ, T}
 use Rattle.table.specs.declared.Head.{Head}
 use Rattle.table.specs.declared.Table.{Table}
 use Rattle.table.specs.Value.{code_in, table_head, ready}

@@ -2,9 +2,10 @@
 -- In order: joined-after; goes, leads; there, back, joined-finds, joint; length-joined, joined-lawful; Leads,
 -- joined-steps; joined-pairs, more-pairs.
 -- Assumes nothing.
-use Rattle.laws.proofs.All.{◌≡◌, refl, sym, ap, subst, ◌∙◌, ◌↔◌, ◌⊎◌, inl, inr, Bool, true, false, List, [], ◌∷◌}
-use Rattle.laws.proofs.All.{ℕ, ◌+◌, ◌*◌, ◌/◌, ◌%◌, ◌≤◌, ◌<◌, arith, T, eqb, length, get_or, length-map, get_or-map-lt}
-use Rattle.laws.proofs.All.{if◌then◌else◌, elem, T→true, Each, Once, each_map, each-elem, each-image, index-lt}
+use Rattle.std.proofs.Common.{◌≡◌, ◌↔◌, ◌⊎◌, ◌∷◌, ◌+◌, ◌*◌, ◌/◌, ◌%◌, ◌≤◌, ◌<◌, if◌then◌else◌}
+use Rattle.laws.proofs.All.{refl, sym, ap, subst, ◌∙◌, inl, inr, Bool, true, false, List, []}
+use Rattle.laws.proofs.All.{ℕ, arith, T, eqb, length, get_or, length-map, get_or-map-lt}
+use Rattle.laws.proofs.All.{elem, T→true, Each, Once, each_map, each-elem, each-image, index-lt}
 use Rattle.laws.proofs.All.{at-index, each_at, div-add-mod', dec_lt, ℕ_discrete, eq-eqb, ne_eqb, once-fits}
 use Rattle.constraint.specs.Walking.{Constraint, nowhere, after, Target, Well, Lawful}
 use Rattle.constraint.specs.Follow.{Finds}

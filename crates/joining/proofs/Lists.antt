@@ -2,9 +2,10 @@
 -- In order: Grows, grown, grows-trans, grows-elem, grows_at, grows-long; adjoin-grows, last-elem, adjoin-elem,
 -- adjoin-each, adjoin-once.
 -- Assumes nothing.
-use Rattle.laws.proofs.All.{◌≡◌, refl, sym, ap, subst, ◌∙◌, Bool, true, false, List, [], ◌∷◌, ◌++◌, append_assoc}
-use Rattle.laws.proofs.All.{append-nil, ℕ, ◌≤◌, ◌<◌, arith, T, eqb, eqb_refl, length, get_or, length-append}
-use Rattle.laws.proofs.All.{get_or-append, if◌then◌else◌, elem, any_append, →or_l, →or_r, Each, each_append, Once}
+use Rattle.std.proofs.Common.{◌≡◌, ◌∷◌, ◌++◌, ◌≤◌, ◌<◌, if◌then◌else◌}
+use Rattle.laws.proofs.All.{refl, sym, ap, subst, ◌∙◌, Bool, true, false, List, [], append_assoc}
+use Rattle.laws.proofs.All.{append-nil, ℕ, arith, T, eqb, eqb_refl, length, get_or, length-append}
+use Rattle.laws.proofs.All.{get_or-append, elem, any_append, →or_l, →or_r, Each, each_append, Once}
 use Rattle.laws.proofs.All.{one, tot-append, once_more}
 use Rattle.joining.specs.Joined.{adjoin}
 

@@ -1,9 +1,10 @@
 -- Pairs are numbered as first met: the places of the walk at which they are first met rise with their numbers.
 -- In order: meets-grow, meets-back, first-grow; Numbered; is_y, same, more, meet_one; walk_more; numbered.
 -- Assumes nothing.
-use Rattle.laws.proofs.All.{◌≡◌, refl, sym, ap, subst, subst₂, ◌∙◌, Bool, true, false, List, [], ◌∷◌, ◌++◌, ℕ}
-use Rattle.laws.proofs.All.{suc, ◌+◌, ◌*◌, ◌≤◌, ◌<◌, arith, dec_lt, T, ltb, ltb-true, ltb-false, length, get_or}
-use Rattle.laws.proofs.All.{length-append, get_or-append_seam, if◌then◌else◌, elem, lt-ltb, le-ltb}
+use Rattle.std.proofs.Common.{◌≡◌, ◌∷◌, ◌++◌, ◌+◌, ◌*◌, ◌≤◌, ◌<◌, if◌then◌else◌}
+use Rattle.laws.proofs.All.{refl, sym, ap, subst, subst₂, ◌∙◌, Bool, true, false, List, [], ℕ}
+use Rattle.laws.proofs.All.{suc, arith, dec_lt, T, ltb, ltb-true, ltb-false, length, get_or}
+use Rattle.laws.proofs.All.{length-append, get_or-append_seam, elem, lt-ltb, le-ltb}
 use Rattle.constraint.specs.Walking.{Constraint}
 use Rattle.joining.specs.Joined.{allowed, leads_to, met, walked, walked_from, pairs, MeetsAt, FirstMet}
 use Rattle.joining.proofs.Lists.{Grows, grows-elem, grows_at, grows-long, grown, last-elem}

@@ -2,9 +2,10 @@
 -- In order: adjoin-old, adjoin-new; pairs-long, pairs-at, pairs-more, pairs-map; allowed-no, allowed-second,
 -- leads-small, met-when, next-when; walked-past, walked_at; walked_on, walked_end, pairs_start, the walks of all pairs.
 -- Assumes nothing.
-use Rattle.laws.proofs.All.{◌≡◌, refl, sym, ap, subst, ◌∙◌, Bool, true, false, not, ◌&&◌, List, [], ◌∷◌, ◌++◌, map, ℕ}
-use Rattle.laws.proofs.All.{suc, ◌+◌, ◌-◌, ◌/◌, ◌%◌, ◌≤◌, ◌<◌, add-one, arith, lt-ltb, le-ltb, eq-eqb, ne_eqb, T, eqb}
-use Rattle.laws.proofs.All.{length, get_or, take, set, length-take-le, get_or-take, take-suc-set, if◌then◌else◌, elem}
+use Rattle.std.proofs.Common.{◌≡◌, ◌&&◌, ◌∷◌, ◌++◌, ◌+◌, ◌-◌, ◌/◌, ◌%◌, ◌≤◌, ◌<◌, if◌then◌else◌}
+use Rattle.laws.proofs.All.{refl, sym, ap, subst, ◌∙◌, Bool, true, false, not, List, [], map, ℕ}
+use Rattle.laws.proofs.All.{suc, add-one, arith, lt-ltb, le-ltb, eq-eqb, ne_eqb, T, eqb}
+use Rattle.laws.proofs.All.{length, get_or, take, set, length-take-le, get_or-take, take-suc-set, elem}
 use Rattle.laws.proofs.All.{index_of, range, index-elem, index-lt, map-places, map-range-same}
 use Rattle.constraint.specs.Walking.{none, Constraint, after, Lawful}
 use Rattle.constraint.proofs.Walking.{after_small}

@@ -2,10 +2,11 @@
 -- In order: pair-back; allowed-both, both-allowed, allowed-bit, leads-bit; reach-start, reach_step; met-grows,
 -- walks-keep; reach-state; Walks, walk-one, walk_more, pairs-walks; pairs-closed, pairs-all.
 -- Assumes nothing.
-use Rattle.laws.proofs.All.{◌≡◌, refl, sym, ap, ap₂, subst, subst₂, ◌∙◌, Bool, true, false, not, List, [], ◌∷◌}
-use Rattle.laws.proofs.All.{◌++◌, ℕ, zero, suc, ◌+◌, ◌/◌, ◌%◌, ◌≤◌, ◌<◌, zero-add, arith, dec_lt, ℕ_discrete, digits_div}
+use Rattle.std.proofs.Common.{◌≡◌, ◌∷◌, ◌++◌, ◌+◌, ◌/◌, ◌%◌, ◌≤◌, ◌<◌, if◌then◌else◌}
+use Rattle.laws.proofs.All.{refl, sym, ap, ap₂, subst, subst₂, ◌∙◌, Bool, true, false, not, List, []}
+use Rattle.laws.proofs.All.{ℕ, zero, suc, zero-add, arith, dec_lt, ℕ_discrete, digits_div}
 use Rattle.laws.proofs.All.{digits_mod, T, ltb, eqb, eqb→eq, ltb-true, ltb-false, length, get_or}
-use Rattle.laws.proofs.All.{if◌then◌else◌, elem, index_of, T→true, and→, →and, Each, Once, each_at, index-lt, at-index}
+use Rattle.laws.proofs.All.{elem, index_of, T→true, and→, →and, Each, Once, each_at, index-lt, at-index}
 use Rattle.constraint.specs.Walking.{none, Constraint, after, Lawful}
 use Rattle.constraint.specs.Follow.{follow, Finds}
 use Rattle.constraint.proofs.Walking.{after-bit, after_small}

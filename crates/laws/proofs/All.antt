@@ -76,7 +76,7 @@ pub use Rattle.laws.proofs.Tests.{get_or-map-lt, imp→, length_from, map-range-
 pub use Rattle.laws.proofs.Tests.{→all, →all-below, →and, →any, →any-below, →imp, →or_l, →or_r, →tab}
 pub use Rattle.laws.proofs.Totals.{each-for, each_set, length-le-sum, never, tot-drop-le, tot-take-add}
 pub use Rattle.laws.proofs.Totals.{tot-take-le, tot-take-more, tot-union, union-each}
-pub use Rattle.laws.specs.Lists.{all, any, concat, elem, extend, filter, first, from, if◌then◌else◌, index_of}
+pub use Rattle.laws.specs.Lists.{all, any, concat, elem, extend, filter, first, from, index_of}
 pub use Rattle.laws.specs.Lists.{iterate, range, repeat, sum}
 pub use Rattle.laws.specs.Sets.{Pairs, grid, has, member}
 pub use Rattle.laws.specs.Sums.{Below, Each, Once, mask, one, times, tot}

@@ -2,6 +2,7 @@
 -- In order: filter-pos, filter-some; first_head; filter-taken; filter_none, filter-first; filter-interval; concat-none,
 -- concat-first; pick-range.
 -- Assumes nothing.
+use Rattle.std.proofs.Common.{cond}
 use mathlib.Core.Path.{◌≡◌, refl, sym, ap, ap₂, ◌∙◌}
 use mathlib.Core.Logic.{◌⊎◌, inl, inr}
 use mathlib.Core.Bool.{Bool, true, false, ◌||◌}
@@ -11,7 +12,7 @@ use native.Mathlib.Omega.{arith}
 use native.Mathlib.Decide.{dec_lt, ℕ_discrete}
 use lib.Dec.{T}
 use lib.ListN.{length, get_or}
-use Rattle.laws.specs.Lists.{if◌then◌else◌, from, range, filter, any, first, concat}
+use Rattle.laws.specs.Lists.{from, range, filter, any, first, concat}
 use Rattle.laws.specs.Sums.{Each}
 use Rattle.laws.proofs.Maps.{filter-append}
 
@@ -20,7 +21,7 @@ filter-pos p [] t = absurd t
 filter-pos p (x ∷ l) t = go (p x) t (filter-pos p l)
   where
     go : (b : Bool) → T (b || any p l) → (T (any p l) → 0 < length (filter p l))
-        → 0 < length (if b then x ∷ filter p l else filter p l)
+        → 0 < length (cond b (x ∷ filter p l) (filter p l))
     go true u r = omega arith
     go false u r = r u
 
@@ -28,7 +29,7 @@ pub filter-some : (p : ℕ → Bool) (l : List ℕ) → 0 < length (filter p l) 
 filter-some p [] h = absurd (omega arith)
 filter-some p (x ∷ l) h = go (p x) h (filter-some p l)
   where
-    go : (b : Bool) → 0 < length (if b then x ∷ filter p l else filter p l) → (0 < length (filter p l) → T (any p l))
+    go : (b : Bool) → 0 < length (cond b (x ∷ filter p l) (filter p l)) → (0 < length (filter p l) → T (any p l))
         → T (b || any p l)
     go true u r = tt
     go false u r = r u
@@ -39,9 +40,9 @@ pub first_head : (p q : ℕ → Bool) (d : ℕ) (l : List ℕ) → T (any p l) �
 first_head p q d [] t h u = absurd t
 first_head p q d (x ∷ l) t h u = go (p x) (q x) t h.0 u refl (λ t u. first_head p q d l t h.1 u)
   where
-    go : (a b : Bool) → T (a || any p l) → (T b → T a) → T (q (if a then x else first p d l)) → q x ≡ b
+    go : (a b : Bool) → T (a || any p l) → (T b → T a) → T (q (cond a x (first p d l))) → q x ≡ b
         → (T (any p l) → T (q (first p d l)) → get_or (filter q l) 0 0 ≡ first p d l)
-        → get_or (if b then x ∷ filter q l else filter q l) 0 0 ≡ (if a then x else first p d l)
+        → get_or (cond b (x ∷ filter q l) (filter q l)) 0 0 ≡ (cond a x (first p d l))
     go true true t k u e f = refl
     go true false t k u e f = absurd (rw e at u)
     go false true t k u e f = absurd (k tt)
@@ -52,7 +53,7 @@ module _ (p q : ℕ → Bool) where
   filter_alike : (i k : ℕ) → ((d : ℕ) → i ≤ d → d < i + k → p d ≡ q d) → filter p (from i k) ≡ filter q (from i k)
   filter_alike i zero h = refl
   filter_alike i (suc k) h =
-      ap₂ (λ b r. if b then i ∷ r else r) (h i (omega arith) (omega arith))
+      ap₂ (λ b r. cond b (i ∷ r) r) (h i (omega arith) (omega arith))
       (filter_alike (suc i) k (λ d a b. h d (omega arith) (omega arith)))
 
   -- q passes what p passes, but not e, the first of them
@@ -96,7 +97,7 @@ module _ (p : ℕ → Bool) where
 
 -- ---- the numbers that pass lie in the interval of k numbers from u on: they are at most k
 module _ (p : ℕ → Bool) (u k : ℕ) where
-  one_more : (b : Bool) (x m : ℕ) (r : List ℕ) → length r ≤ m → length (if b then x ∷ r else r) ≤ suc m
+  one_more : (b : Bool) (x m : ℕ) (r : List ℕ) → length r ≤ m → length (cond b (x ∷ r) r) ≤ suc m
   one_more true x m r h = omega arith
   one_more false x m r h = omega arith
 

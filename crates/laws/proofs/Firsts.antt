@@ -2,6 +2,7 @@
 -- In order: first-yes, first-no, any-yes, any-no; first-place, first-nowhere; first-front, first_back; first-image;
 -- FirstList, first-union; first-at; first_part, first-none; first-least, none-lower.
 -- Assumes nothing.
+use Rattle.std.proofs.Common.{cond}
 use mathlib.Core.Path.{◌≡◌, refl, sym, ap, subst, ◌∙◌}
 use mathlib.Core.Bool.{Bool, true, false, ◌||◌}
 use mathlib.Core.List.{List, [], ◌∷◌, ◌++◌, map}
@@ -11,7 +12,7 @@ use native.Mathlib.Omega.{arith}
 use native.Mathlib.Decide.{dec_lt}
 use lib.Dec.{T}
 use lib.ListN.{length, get_or}
-use Rattle.laws.specs.Lists.{if◌then◌else◌, from, range, any, first, concat}
+use Rattle.laws.specs.Lists.{from, range, any, first, concat}
 use Rattle.laws.proofs.Anys.{any_append}
 
 module _ {A : Type 0} (p : A → Bool) (d : A) where
@@ -46,7 +47,7 @@ module _ {A : Type 0} (p : A → Bool) (d : A) where
   first-front (x ∷ k) l t = go (p x) t (first-front k l)
     where
       go : (b : Bool) → T (b || any p k) → (T (any p k) → first p d (k ++ l) ≡ first p d k)
-          → (if b then x else first p d (k ++ l)) ≡ (if b then x else first p d k)
+          → (cond b x (first p d (k ++ l))) ≡ (cond b x (first p d k))
       go true u f = refl
       go false u f = f u
 
@@ -55,7 +56,7 @@ module _ {A : Type 0} (p : A → Bool) (d : A) where
   first_back (x ∷ k) l e = go (p x) e (first_back k l)
     where
       go : (b : Bool) → (b || any p k) ≡ false → (any p k ≡ false → first p d (k ++ l) ≡ first p d l)
-          → (if b then x else first p d (k ++ l)) ≡ first p d l
+          → (cond b x (first p d (k ++ l))) ≡ first p d l
       go true u f = absurd (subst T u tt)
       go false u f = f u
 
@@ -66,7 +67,7 @@ module _ {A : Type 0} (p : A → Bool) (d : A) where
     where
       go : (b : Bool) → T (b || any (λ y. p (g y)) l)
           → (T (any (λ y. p (g y)) l) → first p d (map g l) ≡ g (first (λ y. p (g y)) 0 l))
-          → (if b then g x else first p d (map g l)) ≡ g (if b then x else first (λ y. p (g y)) 0 l)
+          → (cond b (g x) (first p d (map g l))) ≡ g (cond b x (first (λ y. p (g y)) 0 l))
       go true u f = refl
       go false u f = f u
 
@@ -173,7 +174,7 @@ pub none-lower : (p : ℕ → Bool) (d b k : ℕ) → T (any p (from b k)) → (
 none-lower p d b zero t y l h u = absurd t
 none-lower p d b (suc k) t y l h u = go (p b) refl t h (none-lower p d (suc b) k)
   where
-    go : (q : Bool) → p b ≡ q → T (q || any p (from (suc b) k)) → y < (if q then b else first p d (from (suc b) k))
+    go : (q : Bool) → p b ≡ q → T (q || any p (from (suc b) k)) → y < (cond q b (first p d (from (suc b) k)))
         → (T (any p (from (suc b) k)) → (y : ℕ) → suc b ≤ y → y < first p d (from (suc b) k) → T (p y) → ⊥) → ⊥
     go true q v w f = omega arith
     go false q v w f = next (dec_lt b y)

@@ -1,6 +1,7 @@
 -- The place of a number in a list, looked for from the front.
 -- In order: index-here, index-later, index-end, from place i on; index-elem, index-free, whether it is there.
 -- Assumes nothing.
+use Rattle.std.proofs.Common.{if◌then◌else◌}
 use mathlib.Core.Path.{◌≡◌, refl, sym, ◌∙◌}
 use mathlib.Core.Bool.{Bool, true, false, not, ◌||◌}
 use mathlib.Core.List.{List, [], ◌∷◌}
@@ -12,7 +13,7 @@ use lib.Dec.{eqb, eqb-zero-suc, eqb-suc-suc}
 use borrow.Author.Tests.{eq-eqb, ne_eqb}
 use lib.ListN.{length, get_or, drop, drop_of_length-le}
 use lib.Seq.{drop-cons}
-use Rattle.laws.specs.Lists.{if◌then◌else◌, elem, index_of}
+use Rattle.laws.specs.Lists.{elem, index_of}
 
 module _ (z : ℕ) (l : List ℕ) (i : ℕ) where
   pub index-here : i < length l → get_or l i 0 ≡ z → index_of z (drop i l) ≡ 0

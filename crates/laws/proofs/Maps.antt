@@ -2,13 +2,14 @@
 -- In order: map-append, map-take, map-drop, map-map, map_each; filter-append, filter_same, filter_map, filter-filter,
 -- filter-both, filter-never; all_filter, first-filter, filter-fuse; filter-concat, map-concat.
 -- Assumes nothing.
+use Rattle.std.proofs.Common.{cond}
 use mathlib.Core.Path.{◌≡◌, refl, ap, ap₂, subst, ◌∙◌}
 use mathlib.Core.Bool.{Bool, true, false, not, ◌&&◌, ◌||◌}
 use mathlib.Core.List.{List, [], ◌∷◌, ◌++◌, map}
 use Prim.Native.Nat.{ℕ, zero, suc}
 use lib.Dec.{T}
 use lib.ListN.{take, drop}
-use Rattle.laws.specs.Lists.{if◌then◌else◌, filter, all, first, concat}
+use Rattle.laws.specs.Lists.{filter, all, first, concat}
 use Rattle.laws.specs.Sums.{Each}
 
 pub map-append : {A B : Type 0} (f : A → B) (xs ys : List A) → map f (xs ++ ys) ≡ map f xs ++ map f ys
@@ -38,14 +39,14 @@ filter-append p [] ys = refl
 filter-append p (x ∷ xs) ys = go (p x) (filter-append p xs ys)
   where
     go : (b : Bool) → filter p (xs ++ ys) ≡ filter p xs ++ filter p ys
-        → (if b then x ∷ filter p (xs ++ ys) else filter p (xs ++ ys))
-        ≡ (if b then x ∷ filter p xs else filter p xs) ++ filter p ys
+        → (cond b (x ∷ filter p (xs ++ ys)) (filter p (xs ++ ys)))
+        ≡ (cond b (x ∷ filter p xs) (filter p xs)) ++ filter p ys
     go true e = ap (λ l. x ∷ l) e
     go false e = e
 
 pub filter_same : {A : Type 0} (p q : A → Bool) (l : List A) → Each (λ x. p x ≡ q x) l → filter p l ≡ filter q l
 filter_same p q [] h = refl
-filter_same p q (x ∷ l) h = ap₂ (λ b r. if b then x ∷ r else r) h.0 (filter_same p q l h.1)
+filter_same p q (x ∷ l) h = ap₂ (λ b r. cond b (x ∷ r) r) h.0 (filter_same p q l h.1)
 
 pub filter_map : {A B : Type 0} (p : B → Bool) (f : A → B) (l : List A)
     → filter p (map f l) ≡ map f (filter (λ x. p (f x)) l)
@@ -53,8 +54,8 @@ filter_map p f [] = refl
 filter_map p f (x ∷ l) = go (p (f x)) (filter_map p f l)
   where
     go : (b : Bool) → filter p (map f l) ≡ map f (filter (λ x. p (f x)) l)
-        → (if b then f x ∷ filter p (map f l) else filter p (map f l))
-        ≡ map f (if b then x ∷ filter (λ x. p (f x)) l else filter (λ x. p (f x)) l)
+        → (cond b (f x ∷ filter p (map f l)) (filter p (map f l)))
+        ≡ map f (cond b (x ∷ filter (λ x. p (f x)) l) (filter (λ x. p (f x)) l))
     go true e = ap (λ r. f x ∷ r) e
     go false e = e
 
@@ -65,7 +66,7 @@ module _ {A : Type 0} (p q : A → Bool) where
   filter-filter (x ∷ l) = go (p x) refl (q x) refl (filter-filter l)
     where
       go : (a : Bool) → p x ≡ a → (b : Bool) → q x ≡ b → filter p (filter q l) ≡ filter q (filter p l)
-          → filter p (if b then x ∷ filter q l else filter q l) ≡ filter q (if a then x ∷ filter p l else filter p l)
+          → filter p (cond b (x ∷ filter q l) (filter q l)) ≡ filter q (cond a (x ∷ filter p l) (filter p l))
       go true e true f r = rw (e, f) (ap (λ y. x ∷ y) r)
       go true e false f r = rw f r
       go false e true f r = rw e r
@@ -77,7 +78,7 @@ module _ {A : Type 0} (p q : A → Bool) where
   filter-both h (x ∷ l) = go (p x) refl (q x) refl (filter-both h l)
     where
       go : (a : Bool) → p x ≡ a → (b : Bool) → q x ≡ b → filter p (filter q l) ≡ filter p l
-          → filter p (if b then x ∷ filter q l else filter q l) ≡ (if a then x ∷ filter p l else filter p l)
+          → filter p (cond b (x ∷ filter q l) (filter q l)) ≡ (cond a (x ∷ filter p l) (filter p l))
       go true e true f r = rw e (ap (λ y. x ∷ y) r)
       go true e false f r = absurd (subst T f (h x (rw e tt)))
       go false e true f r = rw e r
@@ -85,7 +86,7 @@ module _ {A : Type 0} (p q : A → Bool) where
 
 pub filter-never : {A : Type 0} (p : A → Bool) (l : List A) → Each (λ x. p x ≡ false) l → filter p l ≡ []
 filter-never p [] h = refl
-filter-never p (x ∷ l) h = ap (λ b. if b then x ∷ filter p l else filter p l) h.0 ∙ filter-never p l h.1
+filter-never p (x ∷ l) h = ap (λ b. cond b (x ∷ filter p l) (filter p l)) h.0 ∙ filter-never p l h.1
 
 module _ {A : Type 0} (p q : A → Bool) where
   pub all_filter : (l : List A) → all p (filter q l) ≡ all (λ x. not (q x) || p x) l
@@ -93,7 +94,7 @@ module _ {A : Type 0} (p q : A → Bool) where
   all_filter (x ∷ l) = go (q x) (all_filter l)
     where
       go : (b : Bool) → all p (filter q l) ≡ all (λ x. not (q x) || p x) l
-          → all p (if b then x ∷ filter q l else filter q l) ≡ ((not b || p x) && all (λ x. not (q x) || p x) l)
+          → all p (cond b (x ∷ filter q l) (filter q l)) ≡ ((not b || p x) && all (λ x. not (q x) || p x) l)
       go true e = ap (λ b. p x && b) e
       go false e = e
 
@@ -102,8 +103,8 @@ module _ {A : Type 0} (p q : A → Bool) where
   first-filter d (x ∷ l) = go (q x) (first-filter d l)
     where
       go : (b : Bool) → first p d (filter q l) ≡ first (λ x. q x && p x) d l
-          → first p d (if b then x ∷ filter q l else filter q l) ≡ (if b && p x then x else first (λ x. q x && p x) d l)
-      go true e = ap (λ y. if p x then x else y) e
+          → first p d (cond b (x ∷ filter q l) (filter q l)) ≡ (cond (b && p x) x (first (λ x. q x && p x) d l))
+      go true e = ap (λ y. cond (p x) x y) e
       go false e = e
 
   pub filter-fuse : (l : List A) → filter p (filter q l) ≡ filter (λ x. q x && p x) l
@@ -111,9 +112,9 @@ module _ {A : Type 0} (p q : A → Bool) where
   filter-fuse (x ∷ l) = go (q x) (filter-fuse l)
     where
       go : (b : Bool) → filter p (filter q l) ≡ filter (λ x. q x && p x) l
-          → filter p (if b then x ∷ filter q l else filter q l)
-          ≡ (if b && p x then x ∷ filter (λ x. q x && p x) l else filter (λ x. q x && p x) l)
-      go true e = ap (λ y. if p x then x ∷ y else y) e
+          → filter p (cond b (x ∷ filter q l) (filter q l))
+          ≡ (cond (b && p x) (x ∷ filter (λ x. q x && p x) l) (filter (λ x. q x && p x) l))
+      go true e = ap (λ y. cond (p x) (x ∷ y) y) e
       go false e = e
 
 pub filter-concat : {A B : Type 0} (p : B → Bool) (f : A → List B) (l : List A)

@@ -2,6 +2,7 @@
 -- In order: each-insert, each-sort; tot-insert, tot-sort, length-sort; among-each, among-insert, insert-among;
 -- insert-ordered, sort-ordered; ordered-unique.
 -- Assumes nothing.
+use Rattle.std.proofs.Common.{cond}
 use mathlib.Core.Path.{◌≡◌, refl, sym, ap, ap₂, subst, ◌∙◌}
 use mathlib.Core.Logic.{◌⊎◌, inl, inr}
 use mathlib.Core.Bool.{Bool, true, false}
@@ -10,7 +11,6 @@ use Prim.Native.Nat.{ℕ, ◌+◌}
 use native.Mathlib.Omega.{arith}
 use lib.Dec.{T}
 use lib.ListN.{length}
-use Rattle.laws.specs.Lists.{if◌then◌else◌}
 use Rattle.laws.specs.Sums.{Each, tot}
 use Rattle.laws.specs.Sorted.{insert_by, sort_by, Ahead, Ordered, Apart, StrictOrder, Among}
 use Rattle.laws.proofs.Sums.{each_map, tot-length}
@@ -27,7 +27,7 @@ module _ {A : Type 0} (before : A → A → Bool) where
   each-insert P e [] p h = (p, tt)
   each-insert P e (x ∷ l) p h = go (before e x) (each-insert P e l p h.1)
     where
-      go : (b : Bool) → Each P (insert_by before e l) → Each P (if b then e ∷ x ∷ l else x ∷ insert_by before e l)
+      go : (b : Bool) → Each P (insert_by before e l) → Each P (cond b (e ∷ x ∷ l) (x ∷ insert_by before e l))
       go true k = (p, h)
       go false k = (h.0, k)
 
@@ -40,7 +40,7 @@ module _ {A : Type 0} (before : A → A → Bool) where
   tot-insert f e (x ∷ l) = go (before e x) (tot-insert f e l)
     where
       go : (b : Bool) → tot f (insert_by before e l) ≡ f e + tot f l
-          → tot f (if b then e ∷ x ∷ l else x ∷ insert_by before e l) ≡ f e + (f x + tot f l)
+          → tot f (cond b (e ∷ x ∷ l) (x ∷ insert_by before e l)) ≡ f e + (f x + tot f l)
       go true k = refl
       go false k = rw k (omega arith)
 
@@ -56,7 +56,7 @@ module _ {A : Type 0} (before : A → A → Bool) where
   among-insert e y (x ∷ l) m = go (before e x) m (among-insert e y l)
     where
       go : (b : Bool) → (y ≡ e) ⊎ Among y (x ∷ l) → ((y ≡ e) ⊎ Among y l → Among y (insert_by before e l))
-          → Among y (if b then e ∷ x ∷ l else x ∷ insert_by before e l)
+          → Among y (cond b (e ∷ x ∷ l) (x ∷ insert_by before e l))
       go true k f = k
       go false (inl q) f = inr (f (inl q))
       go false (inr (inl q)) f = inl q
@@ -66,7 +66,7 @@ module _ {A : Type 0} (before : A → A → Bool) where
   insert-among e y [] m = m
   insert-among e y (x ∷ l) m = go (before e x) m (insert-among e y l)
     where
-      go : (b : Bool) → Among y (if b then e ∷ x ∷ l else x ∷ insert_by before e l)
+      go : (b : Bool) → Among y (cond b (e ∷ x ∷ l) (x ∷ insert_by before e l))
           → (Among y (insert_by before e l) → (y ≡ e) ⊎ Among y l) → (y ≡ e) ⊎ Among y (x ∷ l)
       go true k f = k
       go false (inl q) f = inr (inl q)
@@ -84,7 +84,7 @@ module _ {A : Type 0} (before : A → A → Bool) (o : StrictOrder before) where
   insert-ordered e (x ∷ l) h s = go (before e x) refl (insert-ordered e l h.1 s.1)
     where
       go : (b : Bool) → before e x ≡ b → Ordered before (insert_by before e l)
-          → Ordered before (if b then e ∷ x ∷ l else x ∷ insert_by before e l)
+          → Ordered before (cond b (e ∷ x ∷ l) (x ∷ insert_by before e l))
       go true q r = (
         (
           rw q tt,

@@ -1,15 +1,14 @@
 -- Lists in order, where the order is any test of what comes before what.
 -- In order: insert_by, sort_by; Ahead, Ordered; Apart; StrictOrder; Among.
 -- Assumes nothing.
-use Rattle.std.specs.Prelude.{◌≡◌, ◌⊎◌, Bool, false, List, [], ◌∷◌, T}
-use Rattle.laws.specs.Lists.{if◌then◌else◌}
+use Rattle.std.specs.Prelude.{cond, ◌≡◌, ◌⊎◌, Bool, false, List, [], ◌∷◌, T}
 use Rattle.laws.specs.Sums.{Each}
 
 module _ {A : Type 0} (before : A → A → Bool) where
   -- e put in front of the first that it comes before
   abbrev pub insert_by : A → List A → List A
   insert_by e [] = e ∷ []
-  insert_by e (f ∷ fs) = let r = insert_by e fs in if before e f then e ∷ f ∷ fs else f ∷ r
+  insert_by e (f ∷ fs) = let r = insert_by e fs in cond (before e f) (e ∷ f ∷ fs) (f ∷ r)
 
   -- the list in order, each element put in by itself
   abbrev pub sort_by : List A → List A

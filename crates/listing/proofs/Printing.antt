@@ -1,7 +1,8 @@
 -- A listing fits 43,028 bytes, so the program prints what the definition says.
 -- In order: front; list_done, list-refused, list-told.
 -- Assumes nothing.
-use Rattle.laws.proofs.All.{◌≡◌, refl, sym, ap, ◌∙◌, List, ◌++◌, ℕ, ◌≤◌, arith, length, take, drop, length-append}
+use Rattle.std.proofs.Common.{◌≡◌, ◌++◌, ◌≤◌}
+use Rattle.laws.proofs.All.{refl, sym, ap, ◌∙◌, List, ℕ, arith, length, take, drop, length-append}
 use Rattle.laws.proofs.All.{take-append_seam, length-take-le}
 use Rattle.io.specs.Counts.{IsPrefixLen}
 use Rattle.answer.specs.declared.Refusal.{Refusal}

@@ -2,7 +2,8 @@
 -- In order: fill_more, one place more; spot-once, spot-lt, the places of edges; reach-spot, reach_step, reach-end,
 -- column-more.
 -- Assumes nothing.
-use Rattle.laws.proofs.All.{◌≡◌, sym, ap₂, subst, ◌∙◌, List, ℕ, ◌+◌, ◌*◌, ◌/◌, ◌%◌, ◌≤◌, ◌<◌, mod-lt, div-add-mod'}
+use Rattle.std.proofs.Common.{◌≡◌, ◌+◌, ◌*◌, ◌/◌, ◌%◌, ◌≤◌, ◌<◌}
+use Rattle.laws.proofs.All.{sym, ap₂, subst, ◌∙◌, List, ℕ, mod-lt, div-add-mod'}
 use Rattle.laws.proofs.All.{div-lt_iff_lt-mul, arith, below_more, length, get_or, set, length-set, get_or-set_same}
 use Rattle.laws.proofs.All.{get_or-set_other}
 use Rattle.bits.specs.Fields.{field}

@@ -2,8 +2,9 @@
 -- In order: nexts-again, edges-again, rows-again, fields written again; nexts-good, edges-good, fields in range;
 -- length-edges_of; rows-good; length-nexts_of, length-rows_of; tail-again, head-again.
 -- Assumes nothing.
-use Rattle.laws.proofs.All.{eqb_is, so, nay, ◌≡◌, refl, sym, ap, ◌∙◌, ◌&&◌, List, [], ◌∷◌, ◌++◌, append_assoc, ℕ}
-use Rattle.laws.proofs.All.{zero, suc, ◌+◌, ◌*◌, ◌^◌, ◌<◌, suc-mul, zero-mul, arith, T, ltb, eqb, eqb→eq, eqb_refl}
+use Rattle.std.proofs.Common.{◌≡◌, ◌&&◌, ◌∷◌, ◌++◌, ◌+◌, ◌*◌, ◌^◌, ◌<◌}
+use Rattle.laws.proofs.All.{eqb_is, so, nay, refl, sym, ap, ◌∙◌, List, [], append_assoc, ℕ}
+use Rattle.laws.proofs.All.{zero, suc, suc-mul, zero-mul, arith, T, ltb, eqb, eqb→eq, eqb_refl}
 use Rattle.laws.proofs.All.{lt→ltb, length, get_or, drop, drop-drop, all, repeat, and→, →and, →or_r}
 use Rattle.constraint.specs.Walking.{none}
 use Rattle.bits.specs.Fields.{Fits}

@@ -1,7 +1,8 @@
 -- A record is bytes, at most 3,865 of them.
 -- In order: pack-bytes; size-le, pack-short.
 -- Assumes nothing.
-use Rattle.laws.proofs.All.{sym, subst, ◌≤◌, arith, length, Below}
+use Rattle.std.proofs.Common.{◌≤◌}
+use Rattle.laws.proofs.All.{sym, subst, arith, length, Below}
 use Rattle.bits.specs.Fields.{write}
 use Rattle.bits.proofs.Fields.{below-write, below-read}
 use Rattle.table.specs.Rows.{Code}

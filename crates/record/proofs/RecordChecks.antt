@@ -2,8 +2,9 @@
 -- In order: all_split, all-shift; states-checked, targets-checked, fill-checked; rest-checked,
 -- states-fail, targets-fail, targets-pass.
 -- Assumes nothing.
-use Rattle.laws.proofs.All.{◌≡◌, refl, sym, ap, ap₂, ◌∙◌, Bool, ◌&&◌, and_assoc, and-true, List, [], ◌∷◌, ◌++◌}
-use Rattle.laws.proofs.All.{append_assoc, ℕ, zero, suc, ◌+◌, ◌*◌, ◌^◌, zero-mul, suc-mul, add-zero, zero-add, arith}
+use Rattle.std.proofs.Common.{◌≡◌, ◌&&◌, ◌∷◌, ◌++◌, ◌+◌, ◌*◌, ◌^◌}
+use Rattle.laws.proofs.All.{refl, sym, ap, ap₂, ◌∙◌, Bool, and_assoc, and-true, List, []}
+use Rattle.laws.proofs.All.{append_assoc, ℕ, zero, suc, zero-mul, suc-mul, add-zero, zero-add, arith}
 use Rattle.laws.proofs.All.{ltb, eqb, get_or, take, drop, drop-drop, all, from, range, repeat, length-repeat}
 use Rattle.laws.proofs.All.{sum-repeat, true, false}
 use Rattle.bits.specs.Fields.{field, value, read}

@@ -1,7 +1,8 @@
 -- The fields of a code fit their widths, and fill the bytes of its record.
 -- In order: sum-widths, fits-values.
 -- Assumes nothing.
-use Rattle.laws.proofs.All.{eqb_is, so, nay, ◌≡◌, List, [], ◌∷◌, ◌++◌, ℕ, ◌+◌, ◌*◌, ◌-◌, ◌/◌, ◌^◌, ◌≤◌, ◌<◌}
+use Rattle.std.proofs.Common.{◌≡◌, ◌∷◌, ◌++◌, ◌+◌, ◌*◌, ◌-◌, ◌/◌, ◌^◌, ◌≤◌, ◌<◌}
+use Rattle.laws.proofs.All.{eqb_is, so, nay, List, [], ℕ}
 use Rattle.laws.proofs.All.{arith, T, ltb, eqb, eqb→eq, ltb→lt, length, replicate, pow_pos, all, sum, repeat, and→}
 use Rattle.laws.proofs.All.{sum-repeat, sum-replicate, sum-append}
 use Rattle.constraint.specs.Walking.{NextStates, none}

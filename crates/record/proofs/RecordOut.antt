@@ -2,8 +2,9 @@
 -- bytes.
 -- In order: length_front, length-states, length-table; parts_are, length-parts; bytes-are.
 -- Assumes nothing.
-use Rattle.laws.proofs.All.{◌≡◌, refl, sym, ap, ap₂, ◌∙◌, List, [], ◌∷◌, ◌++◌, map, append_assoc, append-nil, ℕ}
-use Rattle.laws.proofs.All.{◌+◌, ◌*◌, ◌^◌, ◌≤◌, arith, length, drop, length-append, concat, repeat, Each, Below}
+use Rattle.std.proofs.Common.{◌≡◌, ◌∷◌, ◌++◌, ◌+◌, ◌*◌, ◌^◌, ◌≤◌}
+use Rattle.laws.proofs.All.{refl, sym, ap, ap₂, ◌∙◌, List, [], map, append_assoc, append-nil, ℕ}
+use Rattle.laws.proofs.All.{arith, length, drop, length-append, concat, repeat, Each, Below}
 use Rattle.laws.proofs.All.{sum-repeat, sum-replicate, length-repeat}
 use Rattle.bits.specs.Fields.{bits, write, bits_of}
 use Rattle.bits.specs.Bytes.{spliced}

@@ -1,8 +1,9 @@
 -- Parts of a record put one after the other among lent bits.
 -- In order: put-low-is; put-absent, put-present; spliced-none; length_fields; Putting, front-spliced.
 -- Assumes nothing.
-use Rattle.laws.proofs.All.{◌≡◌, refl, sym, ap, ap₂, ◌∙◌, false, List, [], ◌∷◌, ◌++◌, append-nil, ℕ}
-use Rattle.laws.proofs.All.{◌+◌, ◌-◌, ◌*◌, ◌%◌, ◌^◌, ◌≤◌, ◌<◌, mod-lt, add-zero, arith, ne_eqb, eqb, length, take}
+use Rattle.std.proofs.Common.{◌≡◌, ◌∷◌, ◌++◌, ◌+◌, ◌-◌, ◌*◌, ◌%◌, ◌^◌, ◌≤◌, ◌<◌}
+use Rattle.laws.proofs.All.{refl, sym, ap, ap₂, ◌∙◌, false, List, [], append-nil, ℕ}
+use Rattle.laws.proofs.All.{mod-lt, add-zero, arith, ne_eqb, eqb, length, take}
 use Rattle.laws.proofs.All.{drop, length-append, length-take, length-drop, take-append-drop, pow_pos, sum}
 use Rattle.bits.specs.Fields.{bits, write}
 use Rattle.bits.specs.Bytes.{spliced}

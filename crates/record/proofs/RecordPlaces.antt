@@ -2,8 +2,9 @@
 -- In order: field-drop, drop-read, behind, fields after others; next_at, next-at, a constraint state by its place;
 -- edge_at, edge-at, row-at, an edge by its place; fields, behind-head, constraint-at, table_at.
 -- Assumes nothing.
-use Rattle.laws.proofs.All.{◌≡◌, refl, ap, ap₂, ◌∙◌, List, [], ◌∷◌, ◌++◌, append_assoc, ℕ, zero, suc, ◌+◌, ◌*◌, ◌^◌}
-use Rattle.laws.proofs.All.{◌<◌, not-suc-le-zero, le_of_suc-le-suc, zero-mul, suc-mul, zero-add, arith, length}
+use Rattle.std.proofs.Common.{◌≡◌, ◌∷◌, ◌++◌, ◌+◌, ◌*◌, ◌^◌, ◌<◌}
+use Rattle.laws.proofs.All.{refl, ap, ap₂, ◌∙◌, List, [], append_assoc, ℕ, zero, suc}
+use Rattle.laws.proofs.All.{not-suc-le-zero, le_of_suc-le-suc, zero-mul, suc-mul, zero-add, arith, length}
 use Rattle.laws.proofs.All.{get_or, drop, drop-drop, sum, repeat, sum-repeat, length-repeat}
 use Rattle.constraint.specs.Walking.{NextStates}
 use Rattle.table.specs.Rows.{Edge, edge, at}

@@ -1,7 +1,8 @@
 -- Bytes whose fields pass their checks are the record of the code that they name: a record is canonical.
 -- In order: fields-formed, read-ready; fields-again, Checked, fields-good.
 -- Assumes nothing.
-use Rattle.laws.proofs.All.{◌≡◌, refl, sym, ap, subst, ◌∙◌, ◌&&◌, List, [], ◌∷◌, ℕ, ◌+◌, ◌*◌, ◌-◌, ◌^◌, ◌≤◌}
+use Rattle.std.proofs.Common.{◌≡◌, ◌&&◌, ◌∷◌, ◌+◌, ◌*◌, ◌-◌, ◌^◌, ◌≤◌}
+use Rattle.laws.proofs.All.{refl, sym, ap, subst, ◌∙◌, List, [], ℕ}
 use Rattle.laws.proofs.All.{le_refl, arith, T, leb, eqb, eqb→eq, length, drop, replicate, all, sum, and→, →and}
 use Rattle.laws.proofs.All.{Below, sum-replicate}
 use Rattle.answer.specs.declared.Refusal.TheVariants.{Field, Length}

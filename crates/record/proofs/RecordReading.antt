@@ -2,7 +2,8 @@
 -- In order: below-bytes, head-range, ranges_in; good-not; checked-short, checked-front, checked-length, checked-rest,
 -- checked-good.
 -- Assumes nothing.
-use Rattle.laws.proofs.All.{◌≡◌, sym, ap, subst, ◌∙◌, true, false, ◌&&◌, List, ℕ, ◌^◌, ◌≤◌, ◌<◌, arith, T, leb, ltb}
+use Rattle.std.proofs.Common.{◌≡◌, ◌&&◌, ◌^◌, ◌≤◌, ◌<◌}
+use Rattle.laws.proofs.All.{sym, ap, subst, ◌∙◌, true, false, List, ℕ, arith, T, leb, ltb}
 use Rattle.laws.proofs.All.{eqb, le→leb, lt→ltb, lit<, length, get_or, take, drop, replicate, sum, Below, below-drop}
 use Rattle.laws.proofs.All.{and→, →and, never}
 use Rattle.answer.specs.declared.Refusal.{Refusal}

@@ -1,7 +1,8 @@
 -- The constraint's states and the table's edges written one after the other.
 -- In order: states-begin, states-next; edge_no, edges_bits, edges-begin, edges-next, edges-all.
 -- Assumes nothing.
-use Rattle.laws.proofs.All.{◌≡◌, refl, sym, ap, ap₂, ◌∙◌, List, ◌++◌, map, ℕ, ◌+◌, ◌*◌, ◌/◌, ◌%◌, ◌^◌, ◌≤◌, arith}
+use Rattle.std.proofs.Common.{◌≡◌, ◌++◌, ◌+◌, ◌*◌, ◌/◌, ◌%◌, ◌^◌, ◌≤◌}
+use Rattle.laws.proofs.All.{refl, sym, ap, ap₂, ◌∙◌, List, map, ℕ, arith}
 use Rattle.laws.proofs.All.{length, get_or, length-append, concat, range, map-range-same, quotient-of, remainder_of}
 use mathlib.Core.List.{map-map}
 use Rattle.bits.specs.Fields.{bits}

@@ -1,7 +1,8 @@
 -- A table's arrays filled from a record's bits stand for the code that the bits hold.
 -- In order: states-are; rows_are; code_is.
 -- Assumes nothing.
-use Rattle.laws.proofs.All.{◌≡◌, sym, ap₂, ◌∙◌, List, [], map, ℕ, zero, suc, ◌+◌, ◌*◌, ◌^◌, ◌<◌, not-suc-le-zero}
+use Rattle.std.proofs.Common.{◌≡◌, ◌+◌, ◌*◌, ◌^◌, ◌<◌}
+use Rattle.laws.proofs.All.{sym, ap₂, ◌∙◌, List, [], map, ℕ, zero, suc, not-suc-le-zero}
 use Rattle.laws.proofs.All.{le_of_suc-le-suc, arith, length, get_or, drop, range, is-map, quotient-of, remainder_of}
 use Rattle.laws.proofs.All.{place-lt}
 use Rattle.constraint.specs.Walking.{Constraint, nowhere}

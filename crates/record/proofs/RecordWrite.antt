@@ -2,8 +2,9 @@
 -- In order: length-nexts, length_pairs, length-rows; code-back, length-pack, bits-pack, tail-place,
 -- fields-pack.
 -- Assumes nothing.
-use Rattle.laws.proofs.All.{T→true, eq-eqb, eqb_is, so, nay, ◌≡◌, refl, sym, ap, ap₂, subst, ◌∙◌, ◌&&◌, List}
-use Rattle.laws.proofs.All.{[], ◌∷◌, ◌++◌, append_assoc, ℕ, ◌+◌, ◌*◌, ◌-◌, ◌^◌, suc-mul, arith, T, ltb, leb}
+use Rattle.std.proofs.Common.{◌≡◌, ◌&&◌, ◌∷◌, ◌++◌, ◌+◌, ◌*◌, ◌-◌, ◌^◌}
+use Rattle.laws.proofs.All.{T→true, eq-eqb, eqb_is, so, nay, refl, sym, ap, ap₂, subst, ◌∙◌, List}
+use Rattle.laws.proofs.All.{[], append_assoc, ℕ, suc-mul, arith, T, ltb, leb}
 use Rattle.laws.proofs.All.{eqb, eqb→eq, le→leb, lt→ltb, length, get_or, take, drop, replicate, length-append}
 use Rattle.laws.proofs.All.{length-replicate, lit<, drop_at, all, Each, and→, →and, each_map, all-each, all_of}
 use Rattle.answer.specs.declared.Refusal.TheVariants.{Field, Length}

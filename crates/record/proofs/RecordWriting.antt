@@ -1,7 +1,8 @@
 -- A table's record written part by part into lent bytes.
 -- In order: small-in; even, whole-record; pack-field, pack-ready, pack-long, pack-short, pack-fits.
 -- Assumes nothing.
-use Rattle.laws.proofs.All.{◌≡◌, sym, ap, subst, ◌∙◌, true, false, List, ◌++◌, ℕ, ◌+◌, ◌*◌, ◌^◌, ◌≤◌, ◌<◌}
+use Rattle.std.proofs.Common.{◌≡◌, ◌++◌, ◌+◌, ◌*◌, ◌^◌, ◌≤◌, ◌<◌}
+use Rattle.laws.proofs.All.{sym, ap, subst, ◌∙◌, true, false, List, ℕ}
 use Rattle.laws.proofs.All.{arith, lt-leb, le-leb, T, length, take, drop, length-append, range, Each}
 use Rattle.laws.proofs.All.{Below, each-image, each-always, length-map-range}
 use Rattle.answer.specs.declared.Refusal.TheVariants.{Field, ShortOutput}

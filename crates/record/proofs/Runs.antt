@@ -1,8 +1,9 @@
 -- Rows of n numbers each, one after the other, are one range.
 -- In order: map-range-add, flat.
 -- Assumes nothing.
-use Rattle.laws.proofs.All.{◌≡◌, sym, ap, ◌∙◌, List, [], ◌∷◌, ◌++◌, map, append_assoc, append-nil, ℕ, zero, suc}
-use Rattle.laws.proofs.All.{◌+◌, ◌*◌, add-zero, zero-mul, suc-mul, add-one, arith, concat, range, map-range-more}
+use Rattle.std.proofs.Common.{◌≡◌, ◌∷◌, ◌++◌, ◌+◌, ◌*◌}
+use Rattle.laws.proofs.All.{sym, ap, ◌∙◌, List, [], map, append_assoc, append-nil, ℕ, zero, suc}
+use Rattle.laws.proofs.All.{add-zero, zero-mul, suc-mul, add-one, arith, concat, range, map-range-more}
 use Rattle.laws.proofs.All.{concat-more}
 
 module _ {A : Type 0} (g : ℕ → A) where

@@ -2,7 +2,8 @@
 -- In order: small_of; row-le, edges_le, bit_count-le; Standing, front-is; place-le, product_le; edge-count-le,
 -- edges-end; reach-words, reach-nexts.
 -- Assumes nothing.
-use Rattle.laws.proofs.All.{◌≡◌, refl, ap, List, [], ◌∷◌, ℕ, ◌+◌, ◌*◌, ◌^◌, ◌≤◌, ◌<◌, mul-le-mul, mul-le-mul_right}
+use Rattle.std.proofs.Common.{◌≡◌, ◌∷◌, ◌+◌, ◌*◌, ◌^◌, ◌≤◌, ◌<◌}
+use Rattle.laws.proofs.All.{refl, ap, List, [], ℕ, mul-le-mul, mul-le-mul_right}
 use Rattle.laws.proofs.All.{mul_assoc, arith, lit≤, drop, drop-drop, pow_pos}
 use Rattle.bits.specs.Fields.{field, read}
 use Rattle.bits.proofs.Runs.{size_holds}

@@ -1,7 +1,8 @@
 -- A table is accepted exactly when every recording obeys the constraint and the window does what it must.
 -- In order: formed-closed; window-exact; accepted-exact; sound.
 -- Assumes nothing.
-use Rattle.laws.proofs.All.{◌↔◌, T, length, and→, →and}
+use Rattle.std.proofs.Common.{◌↔◌}
+use Rattle.laws.proofs.All.{T, length, and→, →and}
 use Rattle.table.specs.Rows.{Code}
 use Rattle.table.specs.Paths.{Closed}
 use Rattle.window.specs.Window.{Window}

@@ -1,7 +1,8 @@
 -- Bytes parse to a code exactly when they are the record of it, its fields are in range, and its table is accepted.
 -- In order: parse-exact; parse-canonical; check-exact.
 -- Assumes nothing.
-use Rattle.laws.proofs.All.{◌≡◌, sym, ap, ◌∙◌, ◌↔◌, List, [], ℕ, T, Below}
+use Rattle.std.proofs.Common.{◌≡◌, ◌↔◌}
+use Rattle.laws.proofs.All.{sym, ap, ◌∙◌, List, [], ℕ, T, Below}
 use Rattle.answer.specs.Outcomes.{done, onward}
 use Rattle.answer.proofs.Outcomes.{onward→}
 use Rattle.table.specs.Rows.{Code}

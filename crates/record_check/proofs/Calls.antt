@@ -1,7 +1,8 @@
 -- What the checker answers, exactly: no bytes for a record that passes, otherwise the refusal of reading it.
 -- In order: check-calls.
 -- Assumes nothing.
-use Rattle.laws.proofs.All.{◌≡◌, sym, ap, ◌↔◌, List, [], ℕ}
+use Rattle.std.proofs.Common.{◌≡◌, ◌↔◌}
+use Rattle.laws.proofs.All.{sym, ap, List, [], ℕ}
 use Rattle.answer.specs.declared.Refusal.{Refusal}
 use Rattle.answer.specs.Outcomes.{done, refused}
 use Rattle.answer.proofs.Outcomes.{done_inj}

@@ -1,8 +1,9 @@
 -- Refusals 7 and 8 of a record come exactly as the first check that its fields, by their places, do not meet says.
 -- In order: facts, Front, told-head, Next, next-fact, Rest, told-rest, what the tests say; refused-at, record-fields.
 -- Assumes nothing.
-use Rattle.laws.proofs.All.{◌≡◌, refl, sym, subst, ◌∙◌, ◌⊎◌, inl, inr, ◌↔◌, Bool, false, ◌&&◌, List, [], ◌∷◌, ℕ, zero}
-use Rattle.laws.proofs.All.{suc, ◌+◌, ◌*◌, ◌^◌, ◌≤◌, ◌<◌, arith, T, leb, ltb, eqb, eqb→eq, ltb→lt, lt→ltb, length}
+use Rattle.std.proofs.Common.{◌≡◌, ◌⊎◌, ◌↔◌, ◌&&◌, ◌∷◌, ◌+◌, ◌*◌, ◌^◌, ◌≤◌, ◌<◌}
+use Rattle.laws.proofs.All.{refl, sym, subst, ◌∙◌, inl, inr, Bool, false, List, [], ℕ, zero}
+use Rattle.laws.proofs.All.{suc, arith, T, leb, ltb, eqb, eqb→eq, ltb→lt, lt→ltb, length}
 use Rattle.laws.proofs.All.{all, range, all-below→, →all-below, Below}
 use Rattle.answer.specs.declared.Refusal.{Refusal}
 use Rattle.answer.specs.declared.Refusal.TheVariants.{Field, Length, Disobeys, WindowFails}

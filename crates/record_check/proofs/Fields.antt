@@ -3,8 +3,9 @@
 -- In order: head_at, head-at, at_places, the numbers in front; one_bit; opened-fact, next-in; code-at, record-numbers,
 -- record-table.
 -- Assumes nothing.
-use Rattle.laws.proofs.All.{◌≡◌, refl, sym, ap, ap₂, subst, ◌∙◌, ◌⊎◌, inl, inr, List, ℕ, zero, suc, ◌+◌, ◌*◌, ◌^◌}
-use Rattle.laws.proofs.All.{◌<◌, arith, leb, eqb, lit<, length, drop, if◌then◌else◌, Below, below-drop}
+use Rattle.std.proofs.Common.{◌≡◌, ◌⊎◌, ◌+◌, ◌*◌, ◌^◌, ◌<◌, if◌then◌else◌}
+use Rattle.laws.proofs.All.{refl, sym, ap, ap₂, subst, ◌∙◌, inl, inr, List, ℕ, zero, suc}
+use Rattle.laws.proofs.All.{arith, leb, eqb, lit<, length, drop, Below, below-drop}
 use Rattle.answer.specs.declared.Refusal.TheVariants.{Field, Length, Disobeys, WindowFails}
 use Rattle.answer.specs.Outcomes.{done, unless}
 use Rattle.answer.proofs.Outcomes.{done_inj, unless→, onward→}

@@ -2,7 +2,8 @@
 -- In order: followable, near; judged-disobeys, judged-fails, judged-good; parse-read, parse-bad;
 -- check-bad, check-read.
 -- Assumes nothing.
-use Rattle.laws.proofs.All.{◌≡◌, sym, ◌∙◌, ap, true, false, List, [], ℕ, ◌≤◌, arith, T}
+use Rattle.std.proofs.Common.{◌≡◌, ◌≤◌}
+use Rattle.laws.proofs.All.{sym, ◌∙◌, ap, true, false, List, [], ℕ, arith, T}
 use Rattle.answer.specs.declared.Refusal.{Refusal}
 use Rattle.answer.specs.declared.Refusal.TheVariants.{Disobeys, WindowFails}
 use Rattle.answer.specs.declared.Answer.TheVariants.{Done, Refused}

@@ -2,7 +2,8 @@
 -- constraint, or whose window fails.
 -- In order: fails; disobeys-exact, window-fails-exact; order.
 -- Assumes nothing.
-use Rattle.laws.proofs.All.{◌≡◌, refl, sym, ap, subst, ◌∙◌, ◌↔◌, Bool, true, false, List, ℕ, T, Below}
+use Rattle.std.proofs.Common.{◌≡◌, ◌↔◌}
+use Rattle.laws.proofs.All.{refl, sym, ap, subst, ◌∙◌, Bool, true, false, List, ℕ, T, Below}
 use Rattle.answer.specs.declared.Refusal.TheVariants.{Disobeys, WindowFails}
 use Rattle.answer.specs.Outcomes.{done, refused, unless}
 use Rattle.answer.proofs.Outcomes.{unless-true, unless-false}

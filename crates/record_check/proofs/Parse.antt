@@ -2,7 +2,8 @@
 -- are accepted hold.
 -- In order: parse-pack, pack-judged, parse-pack-good; parse-passed, parse-formed; Checked, parse-good.
 -- Assumes nothing.
-use Rattle.laws.proofs.All.{◌≡◌, ap, subst, ◌∙◌, List, ℕ, T, Below}
+use Rattle.std.proofs.Common.{◌≡◌}
+use Rattle.laws.proofs.All.{ap, subst, ◌∙◌, List, ℕ, T, Below}
 use Rattle.answer.specs.declared.Refusal.TheVariants.{Disobeys, WindowFails}
 use Rattle.answer.specs.Outcomes.{done, unless, onward}
 use Rattle.answer.proofs.Outcomes.{done_inj, unless-true, unless→, onward→}

@@ -1,7 +1,8 @@
 -- Every outcome of a record's bytes has its reason, in the order of the checks, and no refusal but 7 to 10 comes.
 -- In order: reason; among, record-refused.
 -- Assumes nothing.
-use Rattle.laws.proofs.All.{◌≡◌, refl, sym, subst, Bool, true, false, List, ℕ, ◌≤◌, T, leb, eqb, length, leb-true}
+use Rattle.std.proofs.Common.{◌≡◌, ◌≤◌}
+use Rattle.laws.proofs.All.{refl, sym, subst, Bool, true, false, List, ℕ, T, leb, eqb, length, leb-true}
 use Rattle.laws.proofs.All.{leb-false, eqb-true, eqb-false, arith}
 use Rattle.answer.specs.declared.Refusal.{Refusal}
 use Rattle.answer.specs.declared.Refusal.TheVariants.{Field, Length, Disobeys, WindowFails}

@@ -1,7 +1,8 @@
 -- Whether a record is refused, and with what, does not depend on the tail datum.
 -- In order: obeys-same, formed-so, judged-tail; tail-free; tail-passes.
 -- Assumes nothing.
-use Rattle.laws.proofs.All.{◌≡◌, refl, sym, ap, subst, ◌∙◌, Bool, true, false, List, ℕ, ◌^◌, ◌<◌, T, lt→ltb}
+use Rattle.std.proofs.Common.{◌≡◌, ◌^◌, ◌<◌}
+use Rattle.laws.proofs.All.{refl, sym, ap, subst, ◌∙◌, Bool, true, false, List, ℕ, T, lt→ltb}
 use Rattle.answer.specs.declared.Refusal.TheVariants.{Disobeys, WindowFails}
 use Rattle.answer.specs.Outcomes.{done, unless, onward}
 use Rattle.table.specs.Rows.{Code, with_tail}

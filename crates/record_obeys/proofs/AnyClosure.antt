@@ -2,7 +2,8 @@
 -- in any order.
 -- In order: then', reached-in, obeys-by, disobeys-by; →obeys.
 -- Assumes nothing.
-use Rattle.laws.proofs.All.{◌≡◌, sym, subst, subst₂, inl, inr, ◌&&◌, [], ◌∷◌, ℕ, ◌*◌, ◌<◌, T, not_T, eqb, eqb→eq}
+use Rattle.std.proofs.Common.{◌≡◌, ◌&&◌, ◌∷◌, ◌*◌, ◌<◌}
+use Rattle.laws.proofs.All.{sym, subst, subst₂, inl, inr, [], ℕ, T, not_T, eqb, eqb→eq}
 use Rattle.laws.proofs.All.{length, all, any, and→, or→, →imp, any→, any-below→, →all, →all-below, Pairs, has, grid}
 use Rattle.laws.proofs.All.{iterate-keeps, grid→}
 use Rattle.constraint.specs.Walking.{none, walk}

@@ -1,8 +1,9 @@
 -- Where the test of obeying fails, some recording breaks the constraint.
 -- In order: some-fails, below_fails; Bad, bad-back, bad-start; breaks-exact.
 -- Assumes nothing.
-use Rattle.laws.proofs.All.{◌≡◌, refl, sym, ap, subst, ◌∙◌, ◌↔◌, Bool, true, false, not, ◌&&◌, ◌||◌, List, [], ◌∷◌}
-use Rattle.laws.proofs.All.{ℕ, suc, ◌^◌, ◌≤◌, ◌<◌, zero-le, suc-le-suc, arith, T, eqb, eqb→eq, length, get_or}
+use Rattle.std.proofs.Common.{◌≡◌, ◌↔◌, ◌&&◌, ◌||◌, ◌∷◌, ◌^◌, ◌≤◌, ◌<◌}
+use Rattle.laws.proofs.All.{refl, sym, ap, subst, ◌∙◌, Bool, true, false, not, List, []}
+use Rattle.laws.proofs.All.{ℕ, suc, zero-le, suc-le-suc, arith, T, eqb, eqb→eq, length, get_or}
 use Rattle.laws.proofs.All.{range, all, has, length_from, range_at}
 use Rattle.constraint.specs.Walking.{none, walk}
 use Rattle.constraint.specs.Follow.{Finds, channel}

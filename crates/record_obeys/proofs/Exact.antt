@@ -2,7 +2,8 @@
 -- passes.
 -- In order: obey→finds, finds→obey, words and their bits; obeys-exact.
 -- Assumes nothing.
-use Rattle.laws.proofs.All.{◌≡◌, sym, ap, subst, ◌∙◌, ◌↔◌, List, [], ◌∷◌, ◌++◌, ℕ, ◌^◌, ◌≤◌, ◌<◌, arith, T, length}
+use Rattle.std.proofs.Common.{◌≡◌, ◌↔◌, ◌∷◌, ◌++◌, ◌^◌, ◌≤◌, ◌<◌}
+use Rattle.laws.proofs.All.{sym, ap, subst, ◌∙◌, List, [], ℕ, arith, T, length}
 use Rattle.constraint.specs.Walking.{none, walk}
 use Rattle.table.specs.Rows.{at, Code}
 use Rattle.bits.specs.Fields.{bits}

@@ -1,9 +1,10 @@
 -- The places of pairs stand for the pairs of the definition `obeys`, so the test of the reached places decides it.
 -- In order: state_of, pair_of and their laws, one edge; reached_has; obeys-is.
 -- Assumes nothing.
-use Rattle.laws.proofs.All.{◌≡◌, refl, sym, ap, ap₂, subst, subst₂, ◌∙◌, inl, inr, Bool, true, false, List, ℕ, ◌+◌}
-use Rattle.laws.proofs.All.{◌*◌, ◌/◌, ◌%◌, ◌^◌, ◌≤◌, ◌<◌, arith, ℕ_discrete, eq-eqb, ne_eqb, T, T_not, not_T, eqb}
-use Rattle.laws.proofs.All.{eqb→eq, length, get_or, pow_mono, if◌then◌else◌, has, bool_eq, all-below→, →all-below}
+use Rattle.std.proofs.Common.{◌≡◌, ◌+◌, ◌*◌, ◌/◌, ◌%◌, ◌^◌, ◌≤◌, ◌<◌, if◌then◌else◌}
+use Rattle.laws.proofs.All.{refl, sym, ap, ap₂, subst, subst₂, ◌∙◌, inl, inr, Bool, true, false, List, ℕ}
+use Rattle.laws.proofs.All.{arith, ℕ_discrete, eq-eqb, ne_eqb, T, T_not, not_T, eqb}
+use Rattle.laws.proofs.All.{eqb→eq, length, get_or, pow_mono, has, bool_eq, all-below→, →all-below}
 use Rattle.laws.proofs.All.{quotient-of, remainder_of}
 use Rattle.constraint.specs.Walking.{none, walk}
 use Rattle.constraint.specs.Value.{constraint_of}

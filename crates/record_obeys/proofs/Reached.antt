@@ -1,7 +1,8 @@
 -- If the test `obeys` passes, every path from the start finds a next state at every word.
 -- In order: Obey, Safe, fixed, reached-lt, reached-start, reached-step, found, obeys→.
 -- Assumes nothing.
-use Rattle.laws.proofs.All.{◌≡◌, sym, subst, ◌⊎◌, inl, inr, ◌&&◌, List, [], ◌∷◌, ℕ, ◌*◌, ◌<◌, T, T_not, eqb}
+use Rattle.std.proofs.Common.{◌≡◌, ◌⊎◌, ◌&&◌, ◌∷◌, ◌*◌, ◌<◌}
+use Rattle.laws.proofs.All.{sym, subst, inl, inr, List, [], ℕ, T, T_not, eqb}
 use Rattle.laws.proofs.All.{eqb_refl, length, all, any, →and, →or_l, →or_r, imp→, all→, →any, all-below→, →any-below}
 use Rattle.laws.proofs.All.{has, grid, iterate-keeps, grid→, →grid, rests}
 use Rattle.constraint.specs.Walking.{none, walk}

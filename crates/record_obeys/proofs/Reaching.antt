@@ -1,7 +1,8 @@
 -- The places of the list followed one after the other, until all members of the set have been.
 -- In order: Reaching, reach-start, reach-more, reach-done, reach-fail, reach-test.
 -- Assumes nothing.
-use Rattle.laws.proofs.All.{◌≡◌, sym, ap, subst, ◌∙◌, inl, inr, Bool, true, false, List, ℕ, ◌+◌, ◌≤◌, ◌<◌}
+use Rattle.std.proofs.Common.{◌≡◌, ◌+◌, ◌≤◌, ◌<◌}
+use Rattle.laws.proofs.All.{sym, ap, subst, ◌∙◌, inl, inr, Bool, true, false, List, ℕ}
 use Rattle.laws.proofs.All.{not-suc-le-zero, arith, below_more, T, get_or, range, all, member, member-lt}
 use Rattle.record_queue.specs.Places.{Queue, Grown}
 use Rattle.record_obeys.specs.Obeying.{Reached, Followed}

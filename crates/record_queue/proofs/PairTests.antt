@@ -1,7 +1,8 @@
 -- Laws of the tests of places.
 -- In order: other-than, same-as; pick_same, pick_other.
 -- Assumes nothing.
-use Rattle.laws.proofs.All.{◌≡◌, false, not, ℕ, eq-eqb, ne_eqb, T, eqb, if◌then◌else◌}
+use Rattle.std.proofs.Common.{◌≡◌, if◌then◌else◌}
+use Rattle.laws.proofs.All.{false, not, ℕ, eq-eqb, ne_eqb, T, eqb}
 
 pub other-than : (k v : ℕ) → (k ≡ v → ⊥) → T (not (eqb k v))
 other-than k v h = rw (ne_eqb k v h) tt

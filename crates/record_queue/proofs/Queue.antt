@@ -2,8 +2,9 @@
 -- In order: member-put; absent-put, absent-blank; queue-blank, queue-room, queue-put, queue-same; grown-none,
 -- grown-more.
 -- Assumes nothing.
-use Rattle.laws.proofs.All.{◌≡◌, refl, sym, subst, ◌∙◌, ◌⊎◌, inl, inr, Bool, true, false, List, [], ◌∷◌, ℕ, zero}
-use Rattle.laws.proofs.All.{suc, ◌+◌, ◌<◌, not-suc-le-zero, le_of_suc-le-suc, arith, ℕ_discrete, below_more, T}
+use Rattle.std.proofs.Common.{◌≡◌, ◌⊎◌, ◌∷◌, ◌+◌, ◌<◌}
+use Rattle.laws.proofs.All.{refl, sym, subst, ◌∙◌, inl, inr, Bool, true, false, List, [], ℕ, zero}
+use Rattle.laws.proofs.All.{suc, not-suc-le-zero, le_of_suc-le-suc, arith, ℕ_discrete, below_more, T}
 use Rattle.laws.proofs.All.{length, get_or, set, length-set, replicate, length-replicate, get_or-set_same}
 use Rattle.laws.proofs.All.{get_or-set_other, member, member-blank}
 use Rattle.record_queue.specs.Places.{absent, Queue, Grown}

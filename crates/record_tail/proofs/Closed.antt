@@ -2,7 +2,8 @@
 -- checker.
 -- In order: closed-table; closes-record.
 -- Assumes nothing.
-use Rattle.laws.proofs.All.{◌≡◌, sym, ap, ◌∙◌, List, ℕ, ◌^◌, ◌≤◌, ◌<◌, T, le-leb, lt-ltb, length, Below}
+use Rattle.std.proofs.Common.{◌≡◌, ◌^◌, ◌≤◌, ◌<◌}
+use Rattle.laws.proofs.All.{sym, ap, ◌∙◌, List, ℕ, T, le-leb, lt-ltb, length, Below}
 use Rattle.answer.specs.Outcomes.{done}
 use Rattle.table.specs.declared.Table.{Table}
 use Rattle.table.specs.Rows.{Code, with_tail}

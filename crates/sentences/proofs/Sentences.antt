@@ -2,9 +2,10 @@
 -- In order: used; sentence-more, used-more; takes-le, used_le; sentence-next, used-next, used-fits, along the
 -- pattern.
 -- Assumes nothing.
-use Rattle.laws.proofs.All.{◌≡◌, sym, ap, ◌∙◌, Bool, true, false, List, [], ◌∷◌, ◌++◌, append_assoc, append-nil}
-use Rattle.laws.proofs.All.{ℕ, suc, ◌+◌, ◌≤◌, ◌<◌, arith, eqb, length, take, drop, get_or, length-take-le, get_or-drop}
-use Rattle.laws.proofs.All.{take-suc, if◌then◌else◌}
+use Rattle.std.proofs.Common.{◌≡◌, ◌∷◌, ◌++◌, ◌+◌, ◌≤◌, ◌<◌, if◌then◌else◌}
+use Rattle.laws.proofs.All.{sym, ap, ◌∙◌, Bool, true, false, List, [], append_assoc, append-nil}
+use Rattle.laws.proofs.All.{ℕ, suc, arith, eqb, length, take, drop, get_or, length-take-le, get_or-drop}
+use Rattle.laws.proofs.All.{take-suc}
 use Rattle.sentences.specs.Sentences.{shown, takes, sentence}
 
 -- how many numbers a pattern takes

@@ -2,9 +2,8 @@
 -- that the next number asks for.
 -- In order: plural; shown, takes, what a byte of a pattern stands for and uses; sentence; said, of a quoted pattern.
 -- Assumes nothing.
-use Rattle.std.specs.Prelude.{List, [], ◌∷◌, ◌++◌, ℕ, eqb, get_or, drop}
+use Rattle.std.specs.Prelude.{if◌then◌else◌, List, [], ◌∷◌, ◌++◌, ℕ, eqb, get_or, drop}
 use Prim.Native.String.{String}
-use Rattle.laws.specs.Lists.{if◌then◌else◌}
 use Rattle.text.specs.Texts.{bytes, decimal}
 
 -- the ending of a word in the plural: none for 1, otherwise s

@@ -1,7 +1,8 @@
 -- A set has at most 255 records, and up to 255 accepted codes are written as bytes.
 -- In order: two_bytes, framed-bytes; set-written; set-walked.
 -- Assumes nothing.
-use Rattle.laws.proofs.All.{◌≡◌, sym, subst, List, [], ◌∷◌, map, ℕ, ◌/◌, ◌%◌, ◌≤◌, ◌<◌, arith, length, concat}
+use Rattle.std.proofs.Common.{◌≡◌, ◌∷◌, ◌/◌, ◌%◌, ◌≤◌, ◌<◌}
+use Rattle.laws.proofs.All.{sym, subst, List, [], map, ℕ, arith, length, concat}
 use Rattle.laws.proofs.All.{Below, below-append}
 use Rattle.table.specs.Rows.{Code}
 use Rattle.table.proofs.Formed.{formed→}

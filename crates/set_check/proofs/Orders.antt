@@ -2,8 +2,9 @@
 -- In order: step-placed, step-record; reached, the walk over good records; set-bare, set-bad, set-left, set-good;
 -- Stops, Counts, why; set-order; set-count.
 -- Assumes nothing.
-use Rattle.laws.proofs.All.{◌≡◌, refl, sym, ap, subst, ◌∙◌, ◌⊎◌, inl, inr, ◌↔◌, Bool, true, false, List, [], ◌∷◌, ℕ}
-use Rattle.laws.proofs.All.{zero, suc, ◌+◌, ◌≤◌, ◌<◌, arith, dec_lt, leb, length, get_or, take, drop, if◌then◌else◌}
+use Rattle.std.proofs.Common.{◌≡◌, ◌⊎◌, ◌↔◌, ◌∷◌, ◌+◌, ◌≤◌, ◌<◌, if◌then◌else◌}
+use Rattle.laws.proofs.All.{refl, sym, ap, subst, ◌∙◌, inl, inr, Bool, true, false, List, [], ℕ}
+use Rattle.laws.proofs.All.{zero, suc, arith, dec_lt, leb, length, get_or, take, drop}
 use Rattle.answer.specs.declared.Refusal.{Refusal}
 use Rattle.answer.specs.declared.Refusal.TheVariants.{Length}
 use Rattle.answer.specs.Outcomes.{Outcome, done, refused}

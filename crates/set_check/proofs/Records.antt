@@ -1,8 +1,9 @@
 -- The places of the records of a good set: record i stands where `record_place` says, and its bytes hold code i.
 -- In order: Holds; good-places.
 -- Assumes nothing.
-use Rattle.laws.proofs.All.{◌≡◌, refl, sym, ap, subst, ◌∙◌, Bool, true, false, List, [], ◌∷◌, ℕ, zero, suc, ◌+◌}
-use Rattle.laws.proofs.All.{◌<◌, arith, leb-true, leb-false, leb, length, get_or, take, drop, never}
+use Rattle.std.proofs.Common.{◌≡◌, ◌∷◌, ◌+◌, ◌<◌}
+use Rattle.laws.proofs.All.{refl, sym, ap, subst, ◌∙◌, Bool, true, false, List, [], ℕ, zero, suc}
+use Rattle.laws.proofs.All.{arith, leb-true, leb-false, leb, length, get_or, take, drop, never}
 use Rattle.answer.specs.declared.Refusal.TheVariants.{Length}
 use Rattle.answer.specs.Outcomes.{done}
 use Rattle.table.specs.Rows.{Code}

@@ -1,7 +1,8 @@
 -- Where the records of a set stand, in numbers, and what each comes to.
 -- In order: set-layout.
 -- Assumes nothing.
-use Rattle.laws.proofs.All.{◌≡◌, refl, ap, ◌∙◌, List, ℕ, suc, ◌+◌, ◌*◌, ◌≤◌, ◌<◌, arith, length, get_or, take, drop}
+use Rattle.std.proofs.Common.{◌≡◌, ◌+◌, ◌*◌, ◌≤◌, ◌<◌}
+use Rattle.laws.proofs.All.{refl, ap, ◌∙◌, List, ℕ, suc, arith, length, get_or, take, drop}
 use Rattle.answer.specs.declared.Refusal.TheVariants.{Length}
 use Rattle.answer.specs.Outcomes.{refused}
 use Rattle.record_check.specs.Parse.{parse}

@@ -2,10 +2,11 @@
 -- written as.
 -- In order: set_back; next→; Whole, set-canonical.
 -- Assumes nothing.
-use Rattle.laws.proofs.All.{◌≡◌, refl, sym, ap, ap₂, subst, ◌∙◌, Bool, true, false, List, [], ◌∷◌, ◌++◌, map, ℕ}
-use Rattle.laws.proofs.All.{zero, suc, ◌+◌, ◌*◌, ◌/◌, ◌%◌, ◌≤◌, ◌<◌, div-add-mod', arith, digits_div, digits_mod}
+use Rattle.std.proofs.Common.{◌≡◌, ◌∷◌, ◌++◌, ◌+◌, ◌*◌, ◌/◌, ◌%◌, ◌≤◌, ◌<◌, if◌then◌else◌}
+use Rattle.laws.proofs.All.{refl, sym, ap, ap₂, subst, ◌∙◌, Bool, true, false, List, [], map, ℕ}
+use Rattle.laws.proofs.All.{zero, suc, div-add-mod', arith, digits_div, digits_mod}
 use Rattle.laws.proofs.All.{ltb, le-ltb, ltb-false, length, take, drop, length-append, take-append-drop, take_at}
-use Rattle.laws.proofs.All.{drop_at, length-take-le, if◌then◌else◌, concat, Below, below-take, below-drop, never}
+use Rattle.laws.proofs.All.{drop_at, length-take-le, concat, Below, below-take, below-drop, never}
 use Rattle.table.specs.Rows.{Code}
 use Rattle.record.specs.Layout.{pack}
 use Rattle.record_check.specs.Parse.{parse}

@@ -3,10 +3,11 @@
 -- step-whole, step-stop, step-on, a step; Walking, set-empty, walking_start, walking-stop, walking_on, walking-left,
 -- walking-end, the loop.
 -- Assumes nothing.
-use Rattle.laws.proofs.All.{◌≡◌, refl, sym, ap, ap₂, subst, ◌∙◌, Bool, true, false, List, [], ◌∷◌, ℕ, suc, ◌+◌, ◌-◌}
-use Rattle.laws.proofs.All.{◌*◌, ◌≤◌, ◌<◌, zero-add, add-zero, arith, lt-ltb, le-ltb, le-leb, lt-leb, leb-true}
+use Rattle.std.proofs.Common.{◌≡◌, ◌∷◌, ◌+◌, ◌-◌, ◌*◌, ◌≤◌, ◌<◌, if◌then◌else◌}
+use Rattle.laws.proofs.All.{refl, sym, ap, ap₂, subst, ◌∙◌, Bool, true, false, List, [], ℕ, suc}
+use Rattle.laws.proofs.All.{zero-add, add-zero, arith, lt-ltb, le-ltb, le-leb, lt-leb, leb-true}
 use Rattle.laws.proofs.All.{leb-false, leb, length, get_or, take, drop, length-drop, drop_of_length-le, get_or-drop}
-use Rattle.laws.proofs.All.{drop-drop, drop-cons, if◌then◌else◌, never}
+use Rattle.laws.proofs.All.{drop-drop, drop-cons, never}
 use Rattle.answer.specs.declared.Refusal.{Refusal}
 use Rattle.answer.specs.declared.Refusal.TheVariants.{Length}
 use Rattle.answer.specs.declared.Answer.TheVariants.{Done, Refused}

@@ -1,8 +1,7 @@
 -- The code's `SetAnswer`: what it must be of a walk, its number and its value; and one step of the walk.
 -- In order: set_answer; set_number, set_value; step_of, step_at.
 -- Assumes nothing.
-use Rattle.std.specs.Prelude.{List, ℕ, ◌+◌, leb, length, take, drop}
-use Rattle.laws.specs.Lists.{if◌then◌else◌}
+use Rattle.std.specs.Prelude.{if◌then◌else◌, List, ℕ, ◌+◌, leb, length, take, drop}
 use Rattle.answer.specs.declared.Refusal.TheVariants.{Length}
 use Rattle.answer.specs.Outcomes.{Outcome, done, refused}
 use Rattle.answer.specs.Refusals.{number_of}

@@ -1,9 +1,10 @@
 -- The lines of a set's records, as the code puts them.
 -- In order: record-within, text-nowhere, text_at, part-line; line-bad, line-good; no_lines, lines_more.
 -- Assumes nothing.
-use Rattle.laws.proofs.All.{◌≡◌, refl, sym, ap, ◌∙◌, Bool, true, false, List, [], ℕ, ◌+◌, ◌-◌, ◌≤◌, arith, ltb}
+use Rattle.std.proofs.Common.{◌≡◌, ◌+◌, ◌-◌, ◌≤◌, if◌then◌else◌}
+use Rattle.laws.proofs.All.{refl, sym, ap, ◌∙◌, Bool, true, false, List, [], ℕ, arith, ltb}
 use Rattle.laws.proofs.All.{length, take, drop, get_or, length-map, length-drop, length-take-le, take-nil}
-use Rattle.laws.proofs.All.{if◌then◌else◌, range, concat-more, length_from}
+use Rattle.laws.proofs.All.{range, concat-more, length_from}
 use Rattle.text.specs.Texts.{Added}
 use Rattle.text.proofs.Adding.{added-same, added_more}
 use Rattle.answer.specs.declared.Refusal.{Refusal}

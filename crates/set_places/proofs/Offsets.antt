@@ -2,9 +2,10 @@
 -- In order: place-whole, place-cut, place→, nowhere→; offset-grows; record-none, record-empty, record-at,
 -- record-cut, record-next.
 -- Assumes nothing.
-use Rattle.laws.proofs.All.{◌≡◌, refl, sym, ap, subst, ◌∙◌, Bool, true, false, List, [], ◌∷◌, ℕ, zero, suc, ◌+◌}
-use Rattle.laws.proofs.All.{◌≤◌, ◌<◌, arith, le-leb, lt-leb, leb-true, leb-false, lt-ltb, le-ltb, eqb-true}
-use Rattle.laws.proofs.All.{eqb-false, leb, eqb, length, get_or, if◌then◌else◌, never}
+use Rattle.std.proofs.Common.{◌≡◌, ◌∷◌, ◌+◌, ◌≤◌, ◌<◌, if◌then◌else◌}
+use Rattle.laws.proofs.All.{refl, sym, ap, subst, ◌∙◌, Bool, true, false, List, [], ℕ, zero, suc}
+use Rattle.laws.proofs.All.{arith, le-leb, lt-leb, leb-true, leb-false, lt-ltb, le-ltb, eqb-true}
+use Rattle.laws.proofs.All.{eqb-false, leb, eqb, length, get_or, never}
 use Rattle.set_places.specs.declared.Place.TheVariants.{At, Nowhere}
 use Rattle.set_places.specs.Offsets.{length_at, end_at, place_at, offset_of, record_place}
 

@@ -1,8 +1,7 @@
 -- Where records stand in the bytes of a set: "each record behind a two-byte length, most significant first".
 -- In order: length_at, end_at; place_at; offset_of, record_place.
 -- Assumes nothing.
-use Rattle.std.specs.Prelude.{List, ℕ, zero, suc, ◌+◌, ◌*◌, ltb, leb, length, get_or}
-use Rattle.laws.specs.Lists.{if◌then◌else◌}
+use Rattle.std.specs.Prelude.{if◌then◌else◌, List, ℕ, zero, suc, ◌+◌, ◌*◌, ltb, leb, length, get_or}
 use Rattle.set_places.specs.declared.Place.{Place}
 use Rattle.set_places.specs.declared.Place.TheVariants.{At, Nowhere}
 

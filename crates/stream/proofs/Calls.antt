@@ -2,7 +2,8 @@
 -- streams, and recorded streams recognised.
 -- In order: streamed-exact, stream-calls; unstreamed-exact, unstream-calls; stream-clear; stream-recognised.
 -- Assumes nothing.
-use Rattle.laws.proofs.All.{◌≡◌, sym, ap, subst, ◌∙◌, ◌↔◌, ◌⊎◌, List, ℕ, ◌+◌, ◌*◌, ◌-◌, ◌/◌, ◌^◌, ◌≤◌, ◌<◌, arith}
+use Rattle.std.proofs.Common.{◌≡◌, ◌↔◌, ◌⊎◌, ◌+◌, ◌*◌, ◌-◌, ◌/◌, ◌^◌, ◌≤◌, ◌<◌}
+use Rattle.laws.proofs.All.{sym, ap, subst, ◌∙◌, List, ℕ, arith}
 use Rattle.laws.proofs.All.{refl, leb, length, take, get_or, mul-le-mul, le_refl, Below}
 use Rattle.answer.specs.declared.Refusal.{Refusal}
 use Rattle.answer.specs.declared.Refusal.TheVariants.{BadByte, TooFewWords, ShortOutput, Stream}

@@ -1,7 +1,8 @@
 -- Decoding from a stream is decoding of its words.
 -- In order: unstreamed-decoded, stream-decodes.
 -- Assumes nothing.
-use Rattle.laws.proofs.All.{◌≡◌, sym, ap₂, ◌∙◌, List, ℕ, ◌-◌, ◌^◌, T, leb}
+use Rattle.std.proofs.Common.{◌≡◌, ◌-◌, ◌^◌}
+use Rattle.laws.proofs.All.{sym, ap₂, ◌∙◌, List, ℕ, T, leb}
 use Rattle.answer.specs.declared.Refusal.TheVariants.{TooFewWords, ShortOutput, Stream}
 use Rattle.answer.specs.Outcomes.{done, unless}
 use Rattle.answer.proofs.Outcomes.{unless-true}

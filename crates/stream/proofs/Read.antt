@@ -2,7 +2,8 @@
 -- In order: unstream-7 to unstream-done; length-unstreamed, unstreamed-in, with the number of data that the code has
 -- computed.
 -- Assumes nothing.
-use Rattle.laws.proofs.All.{◌≡◌, sym, ap, ◌∙◌, true, false, List, ◌++◌, map, ℕ, ◌-◌, ◌^◌, ◌≤◌, ◌<◌, lt-leb, le-leb}
+use Rattle.std.proofs.Common.{◌≡◌, ◌++◌, ◌-◌, ◌^◌, ◌≤◌, ◌<◌}
+use Rattle.laws.proofs.All.{sym, ap, ◌∙◌, true, false, List, map, ℕ, lt-leb, le-leb}
 use Rattle.laws.proofs.All.{length, range}
 use Rattle.answer.specs.declared.Refusal.TheVariants.{Field, TooFewWords, ShortOutput, Stream}
 use Rattle.answer.specs.Outcomes.{done, refused}

@@ -1,7 +1,8 @@
 -- Decoding a recorded stream returns its data.
 -- In order: stream-returns.
 -- Assumes nothing.
-use Rattle.laws.proofs.All.{◌≡◌, sym, ap, subst, ◌∙◌, List, ℕ, ◌+◌, ◌≤◌, length, le_refl, T, Below}
+use Rattle.std.proofs.Common.{◌≡◌, ◌+◌, ◌≤◌}
+use Rattle.laws.proofs.All.{sym, ap, subst, ◌∙◌, List, ℕ, length, le_refl, T, Below}
 use Rattle.answer.specs.Outcomes.{done}
 use Rattle.table.specs.Rows.{Code}
 use Rattle.table.specs.Paths.{recording}

@@ -1,7 +1,8 @@
 -- Encoding to a stream, check by check.
 -- In order: streamed→, stream-encodes, what a finished stream says; stream-7 to stream-done, under a table by value.
 -- Assumes nothing.
-use Rattle.laws.proofs.All.{◌≡◌, ◌∙◌, true, false, List, ℕ, ◌+◌, ◌^◌, ◌≤◌, ◌<◌, lt-leb, le-leb, leb, leb→le, le_refl}
+use Rattle.std.proofs.Common.{◌≡◌, ◌+◌, ◌^◌, ◌≤◌, ◌<◌}
+use Rattle.laws.proofs.All.{◌∙◌, true, false, List, ℕ, lt-leb, le-leb, leb, leb→le, le_refl}
 use Rattle.laws.proofs.All.{length}
 use Rattle.answer.specs.declared.Refusal.TheVariants.{Field, BadByte, ShortOutput, Stream}
 use Rattle.answer.specs.Outcomes.{done, refused, unless}

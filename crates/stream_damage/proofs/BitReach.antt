@@ -1,8 +1,9 @@
 -- The reach of damage in channel bits: bits f to l lie in words f / q to l / q, and those words reach so far.
 -- In order: words_same, damage to bits as damage to words; good-same; bits-reach.
 -- Assumes nothing.
-use Rattle.laws.proofs.All.{◌≡◌, sym, ap, ap₂, subst, ◌∙◌, ◌⊎◌, inl, inr, List, ℕ, suc, ◌+◌, ◌*◌, ◌/◌, ◌≤◌, ◌<◌}
-use Rattle.laws.proofs.All.{◌&&◌, arith, dec_lt, T, leb, eqb, length, get_or, Below, get_or-eq_default}
+use Rattle.std.proofs.Common.{◌≡◌, ◌⊎◌, ◌+◌, ◌*◌, ◌/◌, ◌≤◌, ◌<◌, ◌&&◌}
+use Rattle.laws.proofs.All.{sym, ap, ap₂, subst, ◌∙◌, inl, inr, List, ℕ, suc}
+use Rattle.laws.proofs.All.{arith, dec_lt, T, leb, eqb, length, get_or, Below, get_or-eq_default}
 use Rattle.laws.proofs.All.{le-div_iff_mul-le, div-lt_iff_lt-mul}
 use Rattle.answer.specs.Outcomes.{done}
 use Rattle.bits.specs.Fields.{value, bits_of, field}

@@ -2,7 +2,8 @@
 -- answer.
 -- In order: reach-exact, reach-quoted; reach-told.
 -- Assumes nothing.
-use Rattle.laws.proofs.All.{◌≡◌, refl, ap, ap₂, ◌∙◌, ◌↔◌, List, [], ◌∷◌, ℕ, ◌+◌, ◌*◌, ◌-◌, ◌/◌, ◌≤◌, ◌<◌, ltb, arith}
+use Rattle.std.proofs.Common.{◌≡◌, ◌↔◌, ◌∷◌, ◌+◌, ◌*◌, ◌-◌, ◌/◌, ◌≤◌, ◌<◌}
+use Rattle.laws.proofs.All.{refl, ap, ap₂, ◌∙◌, List, [], ℕ, ltb, arith}
 use Rattle.answer.specs.declared.Refusal.{Refusal}
 use Rattle.answer.specs.declared.Refusal.TheVariants.{Stream}
 use Rattle.answer.specs.Refusals.{number_of}

@@ -2,7 +2,8 @@
 -- that word reaches few blocks.
 -- In order: one-word-each; below-part; scratch.
 -- Assumes nothing.
-use Rattle.laws.proofs.All.{◌≡◌, sym, subst, ◌∙◌, ◌⊎◌, inl, inr, List, ℕ, suc, ◌+◌, ◌-◌, ◌*◌, ◌/◌, ◌^◌, ◌≤◌, ◌<◌, arith}
+use Rattle.std.proofs.Common.{◌≡◌, ◌⊎◌, ◌+◌, ◌-◌, ◌*◌, ◌/◌, ◌^◌, ◌≤◌, ◌<◌}
+use Rattle.laws.proofs.All.{sym, subst, ◌∙◌, inl, inr, List, ℕ, suc, arith}
 use Rattle.laws.proofs.All.{dec_lt, T, length, get_or, pow_pos, Below, below_all, below-any, le-div_iff_mul-le}
 use Rattle.laws.proofs.All.{div-lt_iff_lt-mul}
 use Rattle.answer.specs.Outcomes.{done}

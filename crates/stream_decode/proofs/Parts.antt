@@ -2,8 +2,9 @@
 -- these in the output.
 -- In order: skip-in, part-holds, part-reach; part-read; part_end.
 -- Assumes nothing.
-use Rattle.laws.proofs.All.{◌≡◌, sym, ap, ap₂, ◌∙◌, ◌⊎◌, inl, inr, List, [], ◌++◌, map, append_assoc, append-nil, ℕ}
-use Rattle.laws.proofs.All.{◌+◌, ◌-◌, ◌*◌, ◌/◌, ◌%◌, ◌≤◌, ◌<◌, min, min-le_left, min-le_right, le-min}
+use Rattle.std.proofs.Common.{◌≡◌, ◌⊎◌, ◌++◌, ◌+◌, ◌-◌, ◌*◌, ◌/◌, ◌%◌, ◌≤◌, ◌<◌}
+use Rattle.laws.proofs.All.{sym, ap, ap₂, ◌∙◌, inl, inr, List, [], map, append_assoc, append-nil, ℕ}
+use Rattle.laws.proofs.All.{min, min-le_left, min-le_right, le-min}
 use Rattle.laws.proofs.All.{mul-le-mul_right, arith, dec_le, length, take, drop, drop_of_length-le, length-drop}
 use Rattle.laws.proofs.All.{length-take-le, take_at, drop-drop, from, map-from-same, take_rest}
 use Rattle.table.specs.Rows.{Code}

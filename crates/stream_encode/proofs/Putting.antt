@@ -2,8 +2,9 @@
 -- In order: Puts, puts_none, puts-more, puts-room, puts-end; closed, length-closed, closed-datum, closed-below;
 -- recorded-size, recorded-in, a recording under a table by value.
 -- Assumes nothing.
-use Rattle.laws.proofs.All.{◌≡◌, refl, sym, ap, subst, ◌∙◌, List, [], ◌∷◌, ◌++◌, ℕ, ◌+◌, ◌-◌, ◌*◌, ◌≤◌, ◌<◌, arith}
-use Rattle.laws.proofs.All.{◌^◌, length, take, drop, get_or, replicate, length-append, length-replicate, length-take-le}
+use Rattle.std.proofs.Common.{◌≡◌, ◌∷◌, ◌++◌, ◌+◌, ◌-◌, ◌*◌, ◌≤◌, ◌<◌, ◌^◌}
+use Rattle.laws.proofs.All.{refl, sym, ap, subst, ◌∙◌, List, [], ℕ, arith}
+use Rattle.laws.proofs.All.{length, take, drop, get_or, replicate, length-append, length-replicate, length-take-le}
 use Rattle.laws.proofs.All.{take_all, below-append, below_at, below-replicate, get_d_any, get_or-padded, Below}
 use Rattle.bits.specs.Fields.{bits, uniform}
 use Rattle.table.specs.declared.Table.{Table}

@@ -3,8 +3,9 @@
 -- In order: told-width, told-stream, stream-numbers, the checks of 1 and 15; pack-calls; unpack-calls; pack-returns,
 -- unpack-returns.
 -- Assumes nothing.
-use Rattle.laws.proofs.All.{◌≡◌, sym, ap, subst, ◌∙◌, ◌↔◌, ◌⊎◌, ◌&&◌, List, ℕ, ◌+◌, ◌*◌, ◌-◌, ◌/◌, ◌^◌}
-use Rattle.laws.proofs.All.{◌≤◌, ◌<◌, arith, T, leb, eqb, length, take, get_or, Below}
+use Rattle.std.proofs.Common.{◌≡◌, ◌↔◌, ◌⊎◌, ◌&&◌, ◌+◌, ◌*◌, ◌-◌, ◌/◌, ◌^◌, ◌≤◌, ◌<◌}
+use Rattle.laws.proofs.All.{sym, ap, subst, ◌∙◌, List, ℕ}
+use Rattle.laws.proofs.All.{arith, T, leb, eqb, length, take, get_or, Below}
 use Rattle.answer.specs.declared.Refusal.TheVariants.{Parameters, BadByte, ShortOutput, Stream}
 use Rattle.answer.specs.Outcomes.{Outcome, done, refused, unless}
 use Rattle.answer.specs.FirstBad.{all_below}

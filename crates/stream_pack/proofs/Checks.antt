@@ -2,7 +2,8 @@
 -- In order: width→, stream-long, stream-other, stream-fill; pack-1, pack-15, pack-13, pack-11, pack-done; unpack-1,
 -- unpack-15, unpack-13, unpack-done.
 -- Assumes nothing.
-use Rattle.laws.proofs.All.{◌≡◌, sym, subst, ◌∙◌, true, false, List, ℕ, ◌-◌, ◌*◌, ◌^◌, ◌≤◌, ◌<◌}
+use Rattle.std.proofs.Common.{◌≡◌, ◌-◌, ◌*◌, ◌^◌, ◌≤◌, ◌<◌}
+use Rattle.laws.proofs.All.{sym, subst, ◌∙◌, true, false, List, ℕ}
 use Rattle.laws.proofs.All.{lt-leb, le-leb, eq-eqb, ne_eqb, T, leb, eqb, leb→le, length, and→}
 use Rattle.answer.specs.declared.Refusal.TheVariants.{Parameters, BadByte, ShortOutput, Stream}
 use Rattle.answer.specs.Outcomes.{done, refused}

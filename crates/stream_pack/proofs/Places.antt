@@ -1,8 +1,9 @@
 -- Bit by bit: where each bit of the words stands in a stream, the highest bit of a byte and of a word first.
 -- In order: none-of-0, bits_at, zeros-at, uniform-bit, bit-of; value-more, field-bits; below-packed; packed-bits.
 -- Assumes nothing.
-use Rattle.laws.proofs.All.{◌≡◌, refl, sym, ap, ap₂, subst, ◌∙◌, List, [], ◌∷◌, ◌++◌, ℕ, zero, suc, ◌+◌, ◌*◌, ◌-◌, ◌/◌}
-use Rattle.laws.proofs.All.{◌%◌, ◌^◌, ◌≤◌, ◌<◌, arith, dec_lt, pow_pos, div-eq_of_lt, div-add-mod', div-lt_iff_lt-mul}
+use Rattle.std.proofs.Common.{◌≡◌, ◌∷◌, ◌++◌, ◌+◌, ◌*◌, ◌-◌, ◌/◌, ◌%◌, ◌^◌, ◌≤◌, ◌<◌}
+use Rattle.laws.proofs.All.{refl, sym, ap, ap₂, subst, ◌∙◌, List, [], ℕ, zero, suc}
+use Rattle.laws.proofs.All.{arith, dec_lt, pow_pos, div-eq_of_lt, div-add-mod', div-lt_iff_lt-mul}
 use Rattle.laws.proofs.All.{mod-lt, pow-suc, length, length-append, length-take-le, length-drop, take, drop, get_or}
 use Rattle.laws.proofs.All.{get_or-drop, get_or-append, get_or-append-add, get_or-eq_default, Below}
 use Rattle.bits.specs.Fields.{bits, value, write, uniform, bits_of, field}

@@ -1,7 +1,8 @@
 -- How many bytes and bits of fill words take, and bytes that are their stream.
 -- In order: stream-holds, stream-sized; stream_bits; packed-is.
 -- Assumes nothing.
-use Rattle.laws.proofs.All.{◌≡◌, sym, ap, ap₂, ◌∙◌, List, [], ◌∷◌, ◌++◌, append-nil, ℕ, ◌+◌, ◌*◌, ◌≤◌, ◌<◌, arith}
+use Rattle.std.proofs.Common.{◌≡◌, ◌∷◌, ◌++◌, ◌+◌, ◌*◌, ◌≤◌, ◌<◌}
+use Rattle.laws.proofs.All.{sym, ap, ap₂, ◌∙◌, List, [], append-nil, ℕ, arith}
 use Rattle.laws.proofs.All.{length, length-append, length-replicate, replicate, Below}
 use Rattle.bits.specs.Fields.{bits, read, write, uniform, bits_of}
 use Rattle.bits.proofs.Fields.{length-bits, write-append, read_back, fits-uniform}

@@ -3,8 +3,9 @@
 -- In order: packed-size, uniform-packed; few_bits, place_in, word_of, length-unpacked, below-unpacked, unpacked-at,
 -- unpacked-map, unpacked-part; Good, good-stream→, →good-stream; unpacked-packed, packed-unpacked; good-streams.
 -- Assumes nothing.
-use Rattle.laws.proofs.All.{◌≡◌, sym, ap, ap₂, subst, ◌∙◌, ◌↔◌, ◌&&◌, List, [], ◌∷◌, ◌++◌, map, ℕ, ◌+◌, ◌*◌, ◌/◌, ◌%◌}
-use Rattle.laws.proofs.All.{◌^◌, ◌≤◌, ◌<◌, mod-eq_of_lt, mul-le-mul, mul-le-mul_right, arith, T, leb, eqb, le→leb}
+use Rattle.std.proofs.Common.{◌≡◌, ◌↔◌, ◌&&◌, ◌∷◌, ◌++◌, ◌+◌, ◌*◌, ◌/◌, ◌%◌, ◌^◌, ◌≤◌, ◌<◌}
+use Rattle.laws.proofs.All.{sym, ap, ap₂, subst, ◌∙◌, List, [], map, ℕ}
+use Rattle.laws.proofs.All.{mod-eq_of_lt, mul-le-mul, mul-le-mul_right, arith, T, leb, eqb, le→leb}
 use Rattle.laws.proofs.All.{leb→le, eqb→eq, eqb_refl, length, take, drop, get_or, replicate, length-append, length-drop}
 use Rattle.laws.proofs.All.{length-take-le, take_all, drop_at, drop-drop, ext_get_or, get_or-take, get_or-drop, pow_pos}
 use Rattle.laws.proofs.All.{and→, →and, sum, sum-append, sum-replicate, below-append, range, is-map, Below}

@@ -2,8 +2,9 @@
 -- In order: waiting; waits-none; length-waits; waits-more, waits-full, one word; waits-word, waits-room; waits-whole,
 -- waits-filled, the end.
 -- Assumes nothing.
-use Rattle.laws.proofs.All.{◌≡◌, refl, sym, ap, ap₂, ◌∙◌, List, [], ◌∷◌, ◌++◌, append_assoc, append-nil, ℕ, suc}
-use Rattle.laws.proofs.All.{◌+◌, ◌*◌, ◌-◌, ◌/◌, ◌%◌, ◌^◌, ◌≤◌, ◌<◌, add-zero, add-one, add-mul, mod-lt, arith, length}
+use Rattle.std.proofs.Common.{◌≡◌, ◌∷◌, ◌++◌, ◌+◌, ◌*◌, ◌-◌, ◌/◌, ◌%◌, ◌^◌, ◌≤◌, ◌<◌}
+use Rattle.laws.proofs.All.{refl, sym, ap, ap₂, ◌∙◌, List, [], append_assoc, append-nil, ℕ, suc}
+use Rattle.laws.proofs.All.{add-zero, add-one, add-mul, mod-lt, arith, length}
 use Rattle.laws.proofs.All.{mul-le-mul_right, take, drop, set, length-append, length-set, length-take-le, take-suc-set}
 use Rattle.laws.proofs.All.{set_split, drop-set-lt, drop-drop, take-append-drop, append_snoc, pow_pos, shl_exact}
 use Rattle.laws.proofs.All.{below-append, below-take, Below}

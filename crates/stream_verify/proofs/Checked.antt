@@ -1,7 +1,8 @@
 -- Verifying a stream under a table by value, check by check, and under a record that was loaded.
 -- In order: stream-7 to stream-done; streamed, what the count asks for; stream-read.
 -- Assumes nothing.
-use Rattle.laws.proofs.All.{◌≡◌, refl, sym, ap, ◌∙◌, true, false, List, ℕ, ◌*◌, ◌%◌, ◌^◌, ◌≤◌, ◌<◌, lt-leb, le-leb}
+use Rattle.std.proofs.Common.{◌≡◌, ◌*◌, ◌%◌, ◌^◌, ◌≤◌, ◌<◌}
+use Rattle.laws.proofs.All.{refl, sym, ap, ◌∙◌, true, false, List, ℕ, lt-leb, le-leb}
 use Rattle.laws.proofs.All.{T, arith, length, get_or}
 use Rattle.answer.specs.declared.Answer.TheVariants.{Done}
 use Rattle.answer.specs.declared.Refusal.TheVariants.{Field, TooFewWords, Stream}

@@ -1,7 +1,8 @@
 -- The words of a part of a stream, unpacked, hold its words and the windows of its blocks.
 -- In order: part_held.
 -- Assumes nothing.
-use Rattle.laws.proofs.All.{◌≡◌, sym, ap, ◌∙◌, ◌⊎◌, inl, inr, List, ◌++◌, ℕ, ◌+◌, ◌-◌, ◌*◌, ◌/◌, ◌%◌, ◌≤◌, ◌<◌, min}
+use Rattle.std.proofs.Common.{◌≡◌, ◌⊎◌, ◌++◌, ◌+◌, ◌-◌, ◌*◌, ◌/◌, ◌%◌, ◌≤◌, ◌<◌}
+use Rattle.laws.proofs.All.{sym, ap, ◌∙◌, inl, inr, List, ℕ, min}
 use Rattle.laws.proofs.All.{le-min, min-le_left, arith, dec_le, length, get_or, take, drop, length-drop, length-append}
 use Rattle.laws.proofs.All.{length-take-le, take_at, get_or-take, get_or-drop}
 use Rattle.table.specs.Rows.{Code}

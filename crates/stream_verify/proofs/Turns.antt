@@ -1,7 +1,8 @@
 -- Part by part: what comes back before a part, and in it.
 -- In order: part-stops, part-passes, all-passed.
 -- Assumes nothing.
-use Rattle.laws.proofs.All.{◌≡◌, sym, ap, ◌∙◌, List, ℕ, ◌+◌, ◌≤◌, ◌<◌, min, min-eq_left, min-eq_right, arith}
+use Rattle.std.proofs.Common.{◌≡◌, ◌+◌, ◌≤◌, ◌<◌}
+use Rattle.laws.proofs.All.{sym, ap, ◌∙◌, List, ℕ, min, min-eq_left, min-eq_right, arith}
 use Rattle.laws.proofs.All.{length, drop}
 use Rattle.table.specs.Edges.{Arrays, rows_of}
 use Rattle.codec_verify.specs.Counting.{agreed}

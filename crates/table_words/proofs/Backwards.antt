@@ -2,7 +2,8 @@
 -- all edges give, a what those passed give, and f tests an edge still to come, below c.
 -- In order: left-jump, left-more, left-done.
 -- Assumes nothing.
-use Rattle.laws.proofs.All.{◌≡◌, refl, sym, ap, ◌∙◌, Bool, true, false, ◌||◌, or-false, or_comm, ℕ, ◌+◌, ◌-◌, ◌<◌}
+use Rattle.std.proofs.Common.{◌≡◌, ◌||◌, ◌+◌, ◌-◌, ◌<◌}
+use Rattle.laws.proofs.All.{refl, sym, ap, ◌∙◌, Bool, true, false, or-false, or_comm, ℕ}
 use Rattle.laws.proofs.All.{arith}
 use Rattle.table.specs.Marks.{some}
 use Rattle.table.proofs.Marks.{none-start, some_more}

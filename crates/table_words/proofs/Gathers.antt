@@ -2,8 +2,9 @@
 -- In order: leaves-no, leaves-yes; put-led; Partly, what the loop has gathered, part-start, part-jump, part_edge,
 -- part-done.
 -- Assumes nothing.
-use Rattle.laws.proofs.All.{◌≡◌, refl, sym, ap, ap₂, subst, ◌∙◌, true, false, not, ◌&&◌, ◌||◌, or-false, List, ℕ}
-use Rattle.laws.proofs.All.{◌-◌, ◌/◌, ◌%◌, ◌<◌, eqb, eq-eqb, ne_eqb, length, Whether, so, nay, eqb_is}
+use Rattle.std.proofs.Common.{◌≡◌, ◌&&◌, ◌||◌, ◌-◌, ◌/◌, ◌%◌, ◌<◌}
+use Rattle.laws.proofs.All.{refl, sym, ap, ap₂, subst, ◌∙◌, true, false, not, or-false, List, ℕ}
+use Rattle.laws.proofs.All.{eqb, eq-eqb, ne_eqb, length, Whether, so, nay, eqb_is}
 use mathlib.Core.Bool.{or-true}
 use Rattle.table.specs.Marks.{some}
 use Rattle.table.specs.Edges.{Arrays, places, next_of, bears, last_below}

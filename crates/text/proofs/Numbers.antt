@@ -1,11 +1,11 @@
 -- The fewest digits that hold a number are as many as it has; and how many that can be.
 -- In order: Sized, size-sized; fewest-size; decimal-is, hex-is; decimal-long, decimal-short.
 -- Assumes nothing.
-use Rattle.laws.proofs.All.{◌≡◌, refl, sym, ap, subst, ◌∙◌, Bool, true, false, [], ◌∷◌, ℕ, zero, suc, ◌*◌, ◌-◌, ◌/◌}
-use Rattle.laws.proofs.All.{◌%◌, ◌^◌, ◌≤◌, ◌<◌, min, max, pow-suc, pow-zero, pow-le-pow_right, le-div_iff_mul-le}
+use Rattle.std.proofs.Common.{◌≡◌, ◌∷◌, ◌*◌, ◌-◌, ◌/◌, ◌%◌, ◌^◌, ◌≤◌, ◌<◌, if◌then◌else◌}
+use Rattle.laws.proofs.All.{refl, sym, ap, subst, ◌∙◌, Bool, true, false, [], ℕ, zero, suc}
+use Rattle.laws.proofs.All.{min, max, pow-suc, pow-zero, pow-le-pow_right, le-div_iff_mul-le}
 use Rattle.laws.proofs.All.{div-lt_iff_lt-mul, max-eq_left, max-eq_right, one-mul, le-max_right, min-eq_left}
 use Rattle.laws.proofs.All.{min-eq_right, arith, dec_lt, dec_le, ltb-true, ltb-false, ltb, length, length-append}
-use Rattle.laws.proofs.All.{if◌then◌else◌}
 use Rattle.io.specs.Digits.{hex_digit_ascii, last_digits, IsDigitCount}
 use Rattle.text.specs.Texts.{size, decimal, hex}
 

@@ -1,7 +1,8 @@
 -- Texts of numbers in a row.
 -- In order: rows_short.
 -- Assumes nothing.
-use Rattle.laws.proofs.All.{◌≡◌, ap, subst, ◌∙◌, List, map, ℕ, zero, suc, ◌+◌, ◌*◌, ◌≤◌, ◌<◌, arith, length}
+use Rattle.std.proofs.Common.{◌≡◌, ◌+◌, ◌*◌, ◌≤◌, ◌<◌}
+use Rattle.laws.proofs.All.{ap, subst, ◌∙◌, List, map, ℕ, zero, suc, arith, length}
 use Rattle.laws.proofs.All.{length-append, range, concat, concat-more}
 
 -- n texts of at most k bytes

@@ -1,9 +1,10 @@
 -- Words in binary digit by digit, and when two texts are the same.
 -- In order: bit-none, bit-one; binary-more; length-binary; same_refl, same→, same-is.
 -- Assumes nothing.
-use Rattle.laws.proofs.All.{◌≡◌, refl, sym, ap, ap₂, subst, ◌∙◌, Bool, true, false, List, [], ◌∷◌, ◌++◌}
-use Rattle.laws.proofs.All.{append_assoc, ℕ, zero, suc, ◌-◌, ◌/◌, ◌%◌, ◌^◌, ◌<◌, arith, eqb-true, eq-eqb, T, eqb}
-use Rattle.laws.proofs.All.{length, length-map, if◌then◌else◌}
+use Rattle.std.proofs.Common.{◌≡◌, ◌∷◌, ◌++◌, ◌-◌, ◌/◌, ◌%◌, ◌^◌, ◌<◌, if◌then◌else◌}
+use Rattle.laws.proofs.All.{refl, sym, ap, ap₂, subst, ◌∙◌, Bool, true, false, List, []}
+use Rattle.laws.proofs.All.{append_assoc, ℕ, zero, suc, arith, eqb-true, eq-eqb, T, eqb}
+use Rattle.laws.proofs.All.{length, length-map}
 use Rattle.bits.specs.Fields.{bits}
 use Rattle.bits.proofs.Fields.{length-bits}
 use Rattle.text.specs.Words.{digit, binary, same}

@@ -1,9 +1,8 @@
 -- Words with a number, words in binary, and whether two texts are the same.
 -- In order: told; digit, binary; same.
 -- Assumes nothing.
-use Rattle.std.specs.Prelude.{Bool, true, false, List, [], ◌∷◌, ◌++◌, map, ℕ, ◌+◌, eqb}
+use Rattle.std.specs.Prelude.{if◌then◌else◌, Bool, true, false, List, [], ◌∷◌, ◌++◌, map, ℕ, ◌+◌, eqb}
 use Prim.Native.String.{String}
-use Rattle.laws.specs.Lists.{if◌then◌else◌}
 use Rattle.bits.specs.Fields.{bits}
 use Rattle.text.specs.Texts.{bytes, decimal}
 

@@ -11,9 +11,9 @@
 -- encode-calls, decode-calls, checked-calls; info-numbers, phrase-words, phrases, with-tail; refusal-numbers,
 -- answer-words, word-numbers, set_words, outputs.
 -- Assumes nothing.
-use Rattle.std.specs.Prelude.{◌≡◌, ◌⊎◌, ◌↔◌, true, not, ◌&&◌, List, [], ◌∷◌, ◌++◌, map, ℕ, ◌+◌, ◌*◌, ◌-◌, ◌/◌, ◌%◌, ◌^◌, ◌≤◌, ◌<◌, min, T, eqb, length, get_or, take, drop, replicate}
+use Rattle.std.specs.Prelude.{if◌then◌else◌, ◌≡◌, ◌⊎◌, ◌↔◌, true, not, ◌&&◌, List, [], ◌∷◌, ◌++◌, map, ℕ, ◌+◌, ◌*◌, ◌-◌, ◌/◌, ◌%◌, ◌^◌, ◌≤◌, ◌<◌, min, T, eqb, length, get_or, take, drop, replicate}
 use Rattle.std.specs.Int.Count.{ones, count_trailing_zeros}
-use Rattle.laws.specs.Lists.{if◌then◌else◌, range, concat, sum, elem}
+use Rattle.laws.specs.Lists.{range, concat, sum, elem}
 use Rattle.laws.specs.Sums.{Each, Once, Below}
 use Rattle.answer.specs.declared.Refusal.{Refusal}
 use Rattle.answer.specs.declared.Refusal.TheVariants.{Parameters, States, NoCode, TooHeavy, TooManyEdges, NoWindow}

@@ -1,7 +1,8 @@
 -- The component of a job, as the code holds it.
 -- In order: members-are; splits-ready.
 -- Assumes nothing.
-use Rattle.laws.proofs.All.{◌≡◌, sym, ap, subst, subst₂, ◌∙◌, Bool, false, List, ℕ, ◌*◌, ◌/◌, ◌%◌, ◌≤◌, ◌<◌, arith}
+use Rattle.std.proofs.Common.{◌≡◌, ◌*◌, ◌/◌, ◌%◌, ◌≤◌, ◌<◌}
+use Rattle.laws.proofs.All.{sym, ap, subst, subst₂, ◌∙◌, Bool, false, List, ℕ, arith}
 use Rattle.laws.proofs.All.{length, get_or, take, length-take-le, sum, filter, first}
 use Rattle.compile_graph.specs.Weights.{weights}
 use Rattle.compile_graph.specs.declared.Graph.{Graph}

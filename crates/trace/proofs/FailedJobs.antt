@@ -2,8 +2,8 @@
 -- In order: held-ready; held-words, held-graph; own, failing-weights, failing-not, failing-told; passed-text,
 -- failed-text.
 -- Assumes nothing.
-use Rattle.laws.proofs.All.{◌≡◌, refl, sym, ap, ap₂, subst, ◌∙◌, Bool, true, false, List, ℕ, ◌^◌, T, take}
-use Rattle.laws.proofs.All.{if◌then◌else◌}
+use Rattle.std.proofs.Common.{◌≡◌, ◌^◌, if◌then◌else◌}
+use Rattle.laws.proofs.All.{refl, sym, ap, ap₂, subst, ◌∙◌, Bool, true, false, List, ℕ, T, take}
 use Rattle.answer.specs.declared.Refusal.TheVariants.{BadWeights}
 use Rattle.answer.specs.Outcomes.{done}
 use Rattle.text.specs.Texts.{Added}

@@ -1,7 +1,8 @@
 -- The trace of bytes by what their reading comes to.
 -- In order: traced_job-read, traced_job-refused; traced_run_length-read, traced_run_length-refused.
 -- Assumes nothing.
-use Rattle.laws.proofs.All.{◌≡◌, sym, ap, ◌∙◌, Bool, true, false, List, ℕ, T→true, if◌then◌else◌}
+use Rattle.std.proofs.Common.{◌≡◌, if◌then◌else◌}
+use Rattle.laws.proofs.All.{sym, ap, ◌∙◌, Bool, true, false, List, ℕ, T→true}
 use Rattle.answer.specs.declared.Refusal.{Refusal}
 use Rattle.answer.specs.declared.Refusal.TheVariants.{BadWeights}
 use Rattle.answer.specs.Outcomes.{Outcome, done, refused, unless, onward}

@@ -1,8 +1,9 @@
 -- The steps of a job from its weights on.
 -- In order: stages-none, stages-heavy, stages-crowded, stages-all.
 -- Assumes nothing.
-use Rattle.laws.proofs.All.{◌≡◌, refl, sym, ap, ap₂, subst, ◌∙◌, true, false, ◌||◌, List, ◌++◌, append_assoc}
-use Rattle.laws.proofs.All.{append-nil, ℕ, ◌≤◌, ◌<◌, eq-eqb, ne_eqb, lt-ltb, le-ltb, ltb, eqb, take, sum}
+use Rattle.std.proofs.Common.{◌≡◌, ◌||◌, ◌++◌, ◌≤◌, ◌<◌}
+use Rattle.laws.proofs.All.{refl, sym, ap, ap₂, subst, ◌∙◌, true, false, List, append_assoc}
+use Rattle.laws.proofs.All.{append-nil, ℕ, eq-eqb, ne_eqb, lt-ltb, le-ltb, ltb, eqb, take, sum}
 use Rattle.compile_graph.specs.Component.{component_states}
 use Rattle.compile_graph.specs.Splitting.{crowded}
 use Rattle.compile_graph.specs.Value.{work_in}

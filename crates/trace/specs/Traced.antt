@@ -2,8 +2,8 @@
 -- In order: stages, all steps; window_line, ending, the last line; traced; failing, where weights that come with a job
 -- fail; tracing, traced_job, traced_run_length, from bytes.
 -- Assumes nothing.
-use Rattle.std.specs.Prelude.{◌||◌, List, [], ◌∷◌, ◌++◌, ℕ, ltb, eqb}
-use Rattle.laws.specs.Lists.{if◌then◌else◌, sum}
+use Rattle.std.specs.Prelude.{if◌then◌else◌, ◌||◌, List, [], ◌∷◌, ◌++◌, ℕ, ltb, eqb}
+use Rattle.laws.specs.Lists.{sum}
 use Rattle.answer.specs.declared.Refusal.TheVariants.{BadWeights}
 use Rattle.answer.specs.Outcomes.{Outcome, done, refused}
 use Rattle.table.specs.Rows.{Code}

@@ -1,7 +1,8 @@
 -- The choice that the code finds is the rule's.
 -- In order: chosen-in; chosen-line.
 -- Assumes nothing.
-use Rattle.laws.proofs.All.{◌≡◌, sym, ap, ap₂, ◌∙◌, List, map, ℕ, ◌+◌, ◌/◌, ◌≤◌, arith, get_or, take, length-map-range}
+use Rattle.std.proofs.Common.{◌≡◌, ◌+◌, ◌/◌, ◌≤◌}
+use Rattle.laws.proofs.All.{sym, ap, ap₂, ◌∙◌, List, map, ℕ, arith, get_or, take, length-map-range}
 use Rattle.compile_graph.specs.declared.Graph.{Graph}
 use Rattle.compile_order.specs.declared.keys.Keys.{Keys}
 use Rattle.compile_choice.specs.declared.find_run.Run.{Run}

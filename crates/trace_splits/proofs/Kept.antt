@@ -1,7 +1,8 @@
 -- The edges of a run of keys.
 -- In order: kept_run, the run in the list; keys_text, keys-more, kept-told, one after the other.
 -- Assumes nothing.
-use Rattle.laws.proofs.All.{◌≡◌, sym, ap, ◌∙◌, List, map, ℕ, ◌+◌, ◌-◌, ◌≤◌, arith, length, get_or, take, drop}
+use Rattle.std.proofs.Common.{◌≡◌, ◌+◌, ◌-◌, ◌≤◌}
+use Rattle.laws.proofs.All.{sym, ap, ◌∙◌, List, map, ℕ, arith, length, get_or, take, drop}
 use Rattle.laws.proofs.All.{length-drop, length-take-le, get_or-take, get_or-drop, take-take, range, concat, drop-take}
 use Rattle.laws.proofs.All.{is-map, map-map, concat-more}
 use Rattle.compile_order.specs.declared.keys.Keys.{Keys}

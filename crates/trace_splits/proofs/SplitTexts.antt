@@ -2,8 +2,9 @@
 -- In order: lines-on, lines-off; Told, told-start, told-end, told-ripe, told-crowded, told_more, told-less;
 -- split-ends, split-crowded, split_done.
 -- Assumes nothing.
-use Rattle.laws.proofs.All.{◌≡◌, refl, sym, ap, ap₂, ◌∙◌, Bool, true, false, not, ◌&&◌, List, [], ◌++◌, append_assoc}
-use Rattle.laws.proofs.All.{append-nil, ℕ, zero, suc, ◌+◌, ◌-◌, ◌≤◌, ◌<◌, arith, length, sum, length-map-range}
+use Rattle.std.proofs.Common.{◌≡◌, ◌&&◌, ◌++◌, ◌+◌, ◌-◌, ◌≤◌, ◌<◌}
+use Rattle.laws.proofs.All.{refl, sym, ap, ap₂, ◌∙◌, Bool, true, false, not, List, [], append_assoc}
+use Rattle.laws.proofs.All.{append-nil, ℕ, zero, suc, arith, length, sum, length-map-range}
 use Rattle.compile_graph.specs.declared.Graph.{Graph}
 use Rattle.compile_graph.specs.declared.NextGraph.{NextGraph}
 use Rattle.compile_graph.specs.Arcs.{Work}

@@ -1,9 +1,10 @@
 -- Why weights fail, as the searches of the code find it.
 -- In order: short-told; all-low, fail-over; fail-zero, fail-short, not-met; unmet-below, unmet-first.
 -- Assumes nothing.
-use Rattle.laws.proofs.All.{◌≡◌, sym, ap, ap₂, subst, ◌∙◌, true, false, not, ◌&&◌, List, [], ◌∷◌, ℕ, ◌*◌, ◌/◌, ◌%◌}
-use Rattle.laws.proofs.All.{◌≤◌, ◌<◌, arith, eq-eqb, ne_eqb, eqb-false, leb, length, get_or, take, length-take-le}
-use Rattle.laws.proofs.All.{get_or-take, if◌then◌else◌, range, all, any, first}
+use Rattle.std.proofs.Common.{◌≡◌, ◌&&◌, ◌∷◌, ◌*◌, ◌/◌, ◌%◌, ◌≤◌, ◌<◌, if◌then◌else◌}
+use Rattle.laws.proofs.All.{sym, ap, ap₂, subst, ◌∙◌, true, false, not, List, [], ℕ}
+use Rattle.laws.proofs.All.{arith, eq-eqb, ne_eqb, eqb-false, leb, length, get_or, take, length-take-le}
+use Rattle.laws.proofs.All.{get_or-take, range, all, any, first}
 use Rattle.text.specs.Texts.{Added}
 use Rattle.text.proofs.Adding.{added-same}
 use Rattle.sentences.specs.Sentences.{said}

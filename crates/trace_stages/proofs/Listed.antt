@@ -1,7 +1,8 @@
 -- Numbers with a blank in front of each are a sentence.
 -- In order: items, items-long; listed-told, component-told.
 -- Assumes nothing.
-use Rattle.laws.proofs.All.{◌≡◌, refl, sym, ap, ◌∙◌, List, [], ◌∷◌, ◌++◌, ℕ, zero, suc, ◌*◌, ◌≤◌, arith, length, get_or}
+use Rattle.std.proofs.Common.{◌≡◌, ◌∷◌, ◌++◌, ◌*◌, ◌≤◌}
+use Rattle.laws.proofs.All.{refl, sym, ap, ◌∙◌, List, [], ℕ, zero, suc, arith, length, get_or}
 use Rattle.laws.proofs.All.{take, length-take-le}
 use Rattle.text.specs.Texts.{bytes, Added}
 use Rattle.text.specs.Words.{told}

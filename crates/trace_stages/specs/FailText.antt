@@ -1,8 +1,8 @@
 -- The line of a trace that says why weights that are brought fail.
 -- In order: over_line, zero_line, short_line; fail_line, the first of them that holds.
 -- Assumes nothing.
-use Rattle.std.specs.Prelude.{List, [], ◌∷◌, ℕ, ◌*◌, length, get_or}
-use Rattle.laws.specs.Lists.{if◌then◌else◌, range, all, any, first}
+use Rattle.std.specs.Prelude.{if◌then◌else◌, List, [], ◌∷◌, ℕ, ◌*◌, length, get_or}
+use Rattle.laws.specs.Lists.{range, all, any, first}
 use Rattle.text.specs.Texts.{bytes}
 use Rattle.sentences.specs.Sentences.{said}
 use Rattle.compile_graph.specs.Arcs.{Arc}

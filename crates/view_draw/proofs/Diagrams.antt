@@ -2,9 +2,10 @@
 -- In order: added-here; opens-so, opens_not; others-none, others-joined, others_apart; arrows-none, arrows-open,
 -- arrows-same; diagram-is, diagram-drawn, matrix-drawn, nothing-drawn.
 -- Assumes nothing.
-use Rattle.laws.proofs.All.{◌≡◌, refl, sym, ap, ap₂, subst, ◌∙◌, true, false, not, ◌&&◌, and-false, List, []}
-use Rattle.laws.proofs.All.{◌∷◌, ◌++◌, append-nil, ℕ, zero, suc, ◌+◌, ◌*◌, ◌/◌, ◌%◌, ◌^◌, ◌≤◌, ◌<◌, arith, lt-ltb}
-use Rattle.laws.proofs.All.{le-ltb, lt-leb, le-leb, eqb, ltb, if◌then◌else◌, concat, any-range-same, concat-more}
+use Rattle.std.proofs.Common.{◌≡◌, ◌&&◌, ◌∷◌, ◌++◌, ◌+◌, ◌*◌, ◌/◌, ◌%◌, ◌^◌, ◌≤◌, ◌<◌, if◌then◌else◌}
+use Rattle.laws.proofs.All.{refl, sym, ap, ap₂, subst, ◌∙◌, true, false, not, and-false, List, []}
+use Rattle.laws.proofs.All.{append-nil, ℕ, zero, suc, arith, lt-ltb}
+use Rattle.laws.proofs.All.{le-ltb, lt-leb, le-leb, eqb, ltb, concat, any-range-same, concat-more}
 use Rattle.constraint.proofs.Values.{map_below}
 use Rattle.table.specs.declared.Table.{Table}
 use Rattle.table.specs.Edges.{lent}

@@ -1,7 +1,8 @@
 -- What the listing of a run-length job answers, exactly.
 -- In order: listing-done, listing-refused; listing-reads.
 -- Assumes nothing.
-use Rattle.laws.proofs.All.{◌≡◌, ◌⊎◌, inl, inr, ◌↔◌, List, [], ◌∷◌, ℕ, ◌≤◌, leb, eqb, ne_eqb, length}
+use Rattle.std.proofs.Common.{◌≡◌, ◌⊎◌, ◌↔◌, ◌∷◌, ◌≤◌}
+use Rattle.laws.proofs.All.{inl, inr, List, [], ℕ, leb, eqb, ne_eqb, length}
 use Rattle.answer.specs.declared.Refusal.{Refusal}
 use Rattle.answer.specs.declared.Refusal.TheVariants.{Length, ShortOutput}
 use Rattle.answer.specs.Outcomes.{done, refused, onward, fitting}

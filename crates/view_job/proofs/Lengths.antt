@@ -1,7 +1,8 @@
 -- How long the texts are: 43,028 bytes hold what the listing program prints.
 -- In order: refusal_is, refusal-short; compiled-short, never-short, room-enough.
 -- Assumes nothing.
-use Rattle.laws.proofs.All.{◌≡◌, refl, ap, ◌⊎◌, inl, inr, List, [], ◌∷◌, ◌++◌, ℕ, ◌≤◌, arith, length, length-append}
+use Rattle.std.proofs.Common.{◌≡◌, ◌⊎◌, ◌∷◌, ◌++◌, ◌≤◌}
+use Rattle.laws.proofs.All.{refl, ap, inl, inr, List, [], ℕ, arith, length, length-append}
 use Rattle.answer.specs.declared.Refusal.{Refusal}
 use Rattle.answer.specs.declared.Refusal.TheVariants.{ShortOutput}
 use Rattle.answer.specs.Refusals.{number_of}

@@ -1,7 +1,8 @@
 -- The listing of a run-length job is the reading of the job, and then the listing of its code.
 -- In order: listed-so.
 -- Assumes nothing.
-use Rattle.laws.proofs.All.{◌≡◌, refl, ap, ◌∙◌, List, ℕ}
+use Rattle.std.proofs.Common.{◌≡◌}
+use Rattle.laws.proofs.All.{refl, ap, ◌∙◌, List, ℕ}
 use Rattle.answer.specs.declared.Answer.{Answer}
 use Rattle.answer.specs.Outcomes.{Outcome, done, refused, onward, fitting, answer_of, output_of}
 use Rattle.compile_job.specs.Jobs.{Job, read_listed}

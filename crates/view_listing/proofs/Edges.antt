@@ -1,8 +1,9 @@
 -- The lines of all edges in a row are those of the code that a table stands for.
 -- In order: edges_few; EdgeAt, edge-good; rows-flat; edges_are; lines_none, lines_more, line_of, lines_are.
 -- Assumes nothing.
-use Rattle.laws.proofs.All.{◌≡◌, refl, sym, ap, ap₂, subst, ◌∙◌, List, [], ◌++◌, map, append_assoc, append-nil, ℕ}
-use Rattle.laws.proofs.All.{zero, suc, ◌+◌, ◌*◌, ◌/◌, ◌%◌, ◌^◌, ◌≤◌, ◌<◌, mod-lt, mod-eq_of_lt, div-lt_iff_lt-mul}
+use Rattle.std.proofs.Common.{◌≡◌, ◌++◌, ◌+◌, ◌*◌, ◌/◌, ◌%◌, ◌^◌, ◌≤◌, ◌<◌}
+use Rattle.laws.proofs.All.{refl, sym, ap, ap₂, subst, ◌∙◌, List, [], map, append_assoc, append-nil, ℕ}
+use Rattle.laws.proofs.All.{zero, suc, mod-lt, mod-eq_of_lt, div-lt_iff_lt-mul}
 use Rattle.laws.proofs.All.{add-mul-div_right, mul-add-mod_self_right, div-eq_of_lt, add_comm, mul-le-mul, arith}
 use Rattle.laws.proofs.All.{pow_pos, pow_mono, range, concat, concat-more}
 use Rattle.constraint.proofs.Values.{map_below}

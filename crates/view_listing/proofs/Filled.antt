@@ -1,7 +1,8 @@
 -- A text as the result of a call.
 -- In order: fill-short, fill_done; fill-same.
 -- Assumes nothing.
-use Rattle.laws.proofs.All.{◌≡◌, sym, ap, subst, ◌∙◌, List, ◌++◌, ℕ, ◌≤◌, ◌<◌, arith, lt-leb, length, take, drop}
+use Rattle.std.proofs.Common.{◌≡◌, ◌++◌, ◌≤◌, ◌<◌}
+use Rattle.laws.proofs.All.{sym, ap, subst, ◌∙◌, List, ℕ, arith, lt-leb, length, take, drop}
 use Rattle.laws.proofs.All.{take_all}
 use Rattle.answer.specs.declared.Answer.{Answer}
 use Rattle.answer.specs.declared.Answer.TheVariants.{Done, Refused}

@@ -1,7 +1,8 @@
 -- The listing as it is put, and how long it can be: 43,028 bytes hold that of every record.
 -- In order: listing-is; Small, listing-short, listing-most; ready-small, formed-short.
 -- Assumes nothing.
-use Rattle.laws.proofs.All.{◌≡◌, sym, ap, subst, ◌∙◌, List, [], ◌∷◌, ◌++◌, ℕ, ◌+◌, ◌*◌, ◌^◌, ◌≤◌, ◌<◌, arith}
+use Rattle.std.proofs.Common.{◌≡◌, ◌∷◌, ◌++◌, ◌+◌, ◌*◌, ◌^◌, ◌≤◌, ◌<◌}
+use Rattle.laws.proofs.All.{sym, ap, subst, ◌∙◌, List, [], ℕ, arith}
 use Rattle.laws.proofs.All.{length, length-append}
 use Rattle.table.specs.declared.Table.{Table}
 use Rattle.table.specs.Rows.{edges, at, Code}

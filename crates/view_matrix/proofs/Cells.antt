@@ -1,7 +1,8 @@
 -- The matrix of the code that a table stands for.
 -- In order: column-is, row_small, row_is; row-none, row_more; words-few, heading-is, matrix-is.
 -- Assumes nothing.
-use Rattle.laws.proofs.All.{◌≡◌, refl, sym, ap, ◌∙◌, List, [], ◌++◌, ℕ, ◌+◌, ◌*◌, ◌^◌, ◌≤◌, mul-le-mul, arith}
+use Rattle.std.proofs.Common.{◌≡◌, ◌++◌, ◌+◌, ◌*◌, ◌^◌, ◌≤◌}
+use Rattle.laws.proofs.All.{refl, sym, ap, ◌∙◌, List, [], ℕ, mul-le-mul, arith}
 use Rattle.laws.proofs.All.{pow_mono, concat-more}
 use Rattle.table.specs.declared.Table.{Table}
 use Rattle.table.specs.Edges.{lent}

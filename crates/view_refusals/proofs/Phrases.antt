@@ -1,7 +1,8 @@
 -- The condition of a refusal is the words of its number, with the place or alone.
 -- In order: with-place; alone.
 -- Assumes nothing.
-use Rattle.laws.proofs.All.{◌≡◌, sym, ap, ap₂, ◌∙◌, ◌++◌, append-nil, ℕ, eq-eqb, ne_eqb}
+use Rattle.std.proofs.Common.{◌≡◌, ◌++◌}
+use Rattle.laws.proofs.All.{sym, ap, ap₂, ◌∙◌, append-nil, ℕ, eq-eqb, ne_eqb}
 use Rattle.answer.specs.declared.Refusal.{Refusal}
 use Rattle.answer.specs.Refusals.{number_of, place_of}
 use Rattle.text.specs.Texts.{decimal}

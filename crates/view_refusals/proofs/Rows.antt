@@ -1,8 +1,9 @@
 -- The code's lines of words are the phrases: computed once for the whole table. How long the words are.
 -- In order: row; line-is; no_words; words-short; words-none; words_are.
 -- Assumes nothing.
-use Rattle.laws.proofs.All.{◌≡◌, refl, sym, ap, ◌∙◌, ◌⊎◌, inl, inr, ◌↔◌, Bool, List, [], ◌∷◌, ◌++◌, map, ℕ, zero, suc}
-use Rattle.laws.proofs.All.{◌≤◌, ◌<◌, arith, dec_le, T, leb, leb→le, ltb, ltb→lt, length, get_or, drop}
+use Rattle.std.proofs.Common.{◌≡◌, ◌⊎◌, ◌↔◌, ◌∷◌, ◌++◌, ◌≤◌, ◌<◌}
+use Rattle.laws.proofs.All.{refl, sym, ap, ◌∙◌, inl, inr, Bool, List, [], map, ℕ, zero, suc}
+use Rattle.laws.proofs.All.{arith, dec_le, T, leb, leb→le, ltb, ltb→lt, length, get_or, drop}
 use Rattle.laws.proofs.All.{get_or-eq_default, range, all, all→, map-range-at}
 use Rattle.answer.specs.Refusals.{most}
 use Rattle.text.specs.Texts.{bytes}

@@ -1,7 +1,8 @@
 -- The lines of a text, byte by byte.
 -- In order: end-here, end_on, end_none; rest-next.
 -- Assumes nothing.
-use Rattle.laws.proofs.All.{◌≡◌, sym, ap, ◌∙◌, List, ℕ, suc, ◌+◌, ◌≤◌, ◌<◌, min, add-one}
+use Rattle.std.proofs.Common.{◌≡◌, ◌+◌, ◌≤◌, ◌<◌}
+use Rattle.laws.proofs.All.{sym, ap, ◌∙◌, List, ℕ, suc, min, add-one}
 use Rattle.laws.proofs.All.{arith, eq-eqb, ne_eqb, length, get_or, drop, drop_of_length-le, drop-cons}
 use Rattle.laws.proofs.All.{drop-drop, drop_min}
 use Rattle.view_refusals.specs.TextLines.{line_end, rest}

@@ -2,8 +2,9 @@
 -- In order: states-none, states-more; same_runs; run-least, run_none; runs-told, states-told;
 -- runs_so, runs-found.
 -- Assumes nothing.
-use Rattle.laws.proofs.All.{◌≡◌, refl, sym, ap, ap₂, subst, ◌∙◌, true, false, and-false, [], ◌++◌, ℕ, ◌+◌, ◌-◌, ◌≤◌}
-use Rattle.laws.proofs.All.{◌<◌, arith, eqb-true, eq-eqb, lt-ltb, le-ltb, lt-leb, le-leb, T, eqb, length, get_or}
+use Rattle.std.proofs.Common.{◌≡◌, ◌++◌, ◌+◌, ◌-◌, ◌≤◌, ◌<◌}
+use Rattle.laws.proofs.All.{refl, sym, ap, ap₂, subst, ◌∙◌, true, false, and-false, [], ℕ}
+use Rattle.laws.proofs.All.{arith, eqb-true, eq-eqb, lt-ltb, le-ltb, lt-leb, le-leb, T, eqb, length, get_or}
 use Rattle.laws.proofs.All.{range, all, and→, T→true, bool_eq, all-below→, →all-below, map-range-at}
 use Rattle.laws.proofs.All.{length-map-range, is-map, all-range-true, all-range-false, first-range-none}
 use Rattle.laws.proofs.All.{first-least, concat-more}

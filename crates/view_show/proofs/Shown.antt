@@ -1,7 +1,8 @@
 -- The text of `show`, part by part.
 -- In order: whole→; shown-is, nothing-shown.
 -- Assumes nothing.
-use Rattle.laws.proofs.All.{◌≡◌, true, false, ◌&&◌, [], ◌++◌, T, leb, and→}
+use Rattle.std.proofs.Common.{◌≡◌, ◌&&◌, ◌++◌}
+use Rattle.laws.proofs.All.{true, false, [], T, leb, and→}
 use Rattle.table.specs.declared.Table.{Table}
 use Rattle.table.specs.Edges.{lent}
 use Rattle.table.specs.Value.{code_in, Ready, ready}

@@ -2,8 +2,8 @@
 -- In order: alike, alike_at, is_runs, least_run; state_line, state_of, states_to; runs_line, count_line;
 -- constraint_lines.
 -- Assumes nothing.
-use Rattle.std.specs.Prelude.{Bool, ◌&&◌, List, [], ◌∷◌, ◌++◌, map, ℕ, ◌-◌, eqb, ltb, length, get_or}
-use Rattle.laws.specs.Lists.{if◌then◌else◌, range, all, first, concat}
+use Rattle.std.specs.Prelude.{if◌then◌else◌, Bool, ◌&&◌, List, [], ◌∷◌, ◌++◌, map, ℕ, ◌-◌, eqb, ltb, length, get_or}
+use Rattle.laws.specs.Lists.{range, all, first, concat}
 use Rattle.constraint.specs.Walking.{NextStates, Constraint, none, nowhere, run_length}
 use Rattle.text.specs.Texts.{bytes}
 use Rattle.sentences.specs.Sentences.{said}

@@ -1,6 +1,6 @@
 // A constraint in words: its (d, k) if it is one, otherwise its next states.
-ghost use Rattle.std.specs.Prelude.{◌≡◌, ◌&&◌, ◌≤◌, ◌<◌, eqb};
-ghost use Rattle.laws.specs.Lists.{if◌then◌else◌, range, all};
+ghost use Rattle.std.specs.Prelude.{if◌then◌else◌, ◌≡◌, ◌&&◌, ◌≤◌, ◌<◌, eqb};
+ghost use Rattle.laws.specs.Lists.{range, all};
 ghost use Rattle.constraint.specs.Value.{next_states_at, constraint_of};
 ghost use Rattle.text.specs.Texts.{Added};
 ghost use Rattle.sentences.specs.Sentences.{sentence};

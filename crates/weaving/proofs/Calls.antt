@@ -3,7 +3,8 @@
 -- In order: told-depth, depth-numbers, the check of 16; into, both ways; weave-calls, unweave-calls; weave-spreads,
 -- unweave-spreads; weave-returns, unweave-returns.
 -- Assumes nothing.
-use Rattle.laws.proofs.All.{◌≡◌, sym, ap, subst, ◌∙◌, ◌↔◌, ◌⊎◌, ◌&&◌, List, ℕ, ◌+◌, ◌*◌, ◌/◌, ◌%◌, ◌≤◌, ◌<◌, arith, T}
+use Rattle.std.proofs.Common.{◌≡◌, ◌↔◌, ◌⊎◌, ◌&&◌, ◌+◌, ◌*◌, ◌/◌, ◌%◌, ◌≤◌, ◌<◌}
+use Rattle.laws.proofs.All.{sym, ap, subst, ◌∙◌, List, ℕ, arith, T}
 use Rattle.laws.proofs.All.{refl, inl, inr, leb, eqb, length, get_or}
 use Rattle.answer.specs.declared.Refusal.TheVariants.{Depth, ShortOutput}
 use Rattle.answer.specs.Outcomes.{Outcome, done, refused, unless, onward}

@@ -1,7 +1,8 @@
 -- The checks of weaving and unweaving, one by one.
 -- In order: depth_low, depth-high, depth-rest; checked-16, checked-13, checked-done; Passed, passed.
 -- Assumes nothing.
-use Rattle.laws.proofs.All.{◌≡◌, ◌∙◌, true, false, ℕ, ◌*◌, ◌/◌, ◌%◌, ◌≤◌, ◌<◌, mul_comm, lt-leb, le-leb, T, leb, eqb}
+use Rattle.std.proofs.Common.{◌≡◌, ◌*◌, ◌/◌, ◌%◌, ◌≤◌, ◌<◌}
+use Rattle.laws.proofs.All.{◌∙◌, true, false, ℕ, mul_comm, lt-leb, le-leb, T, leb, eqb}
 use Rattle.laws.proofs.All.{leb→le}
 use Rattle.answer.specs.declared.Refusal.TheVariants.{Depth, ShortOutput}
 use Rattle.answer.specs.declared.Verdict.{Verdict}

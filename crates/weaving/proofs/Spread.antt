@@ -1,8 +1,9 @@
 -- Lists spread over an array one after the other: at the end the array is the lists read across.
 -- In order: spread_none, spread-more; Lists, lists-none, lists-more, lists-all.
 -- Assumes nothing.
-use Rattle.laws.proofs.All.{◌≡◌, refl, sym, ap, ap₂, subst, ◌∙◌, List, ◌++◌, ℕ, ◌+◌, ◌-◌, ◌*◌, ◌/◌, ◌%◌}
-use Rattle.laws.proofs.All.{◌≤◌, ◌<◌, arith, dec_lt, mul_comm, mul-le-mul_right, div-add-mod', div-lt_iff_lt-mul, mod-lt}
+use Rattle.std.proofs.Common.{◌≡◌, ◌++◌, ◌+◌, ◌-◌, ◌*◌, ◌/◌, ◌%◌, ◌≤◌, ◌<◌}
+use Rattle.laws.proofs.All.{refl, sym, ap, ap₂, subst, ◌∙◌, List, ℕ}
+use Rattle.laws.proofs.All.{arith, dec_lt, mul_comm, mul-le-mul_right, div-add-mod', div-lt_iff_lt-mul, mod-lt}
 use Rattle.laws.proofs.All.{length, get_or, set, drop, length-set, length-append, length-drop, get_or-drop, ext_get_or}
 use Rattle.laws.proofs.All.{get_or-set_same, get_or-set_other, get_or-append-add, get_or-append, below_more, remainder_of}
 use Rattle.weaving.specs.Weaving.{transposed}

@@ -1,7 +1,8 @@
 -- Arrays read by columns: where each element goes, and that reading across twice gives the array back.
 -- In order: in_array, rows_in; cell, length-transposed, transposed-at; columns; transposed-back.
 -- Assumes nothing.
-use Rattle.laws.proofs.All.{◌≡◌, sym, ap, ap₂, subst, ◌∙◌, List, ℕ, zero, suc, ◌+◌, ◌*◌, ◌/◌, ◌%◌, ◌≤◌, ◌<◌, arith}
+use Rattle.std.proofs.Common.{◌≡◌, ◌+◌, ◌*◌, ◌/◌, ◌%◌, ◌≤◌, ◌<◌}
+use Rattle.laws.proofs.All.{sym, ap, ap₂, subst, ◌∙◌, List, ℕ, zero, suc, arith}
 use Rattle.laws.proofs.All.{mul_comm, mul-le-mul_right, div-add-mod', div-lt_iff_lt-mul, mod-lt, length, get_or, ext_get_or}
 use Rattle.laws.proofs.All.{length-map-range, map-range-at, quotient-of, remainder_of, place-lt}
 use Rattle.weaving.specs.Weaving.{transposed_at, transposed}

@@ -2,7 +2,8 @@
 -- In order: part_at, part-past, length_part, one recording of several; depth→, a good depth; length-woven,
 -- length-unwoven; weave-places, unweave-places; weaving.
 -- Assumes nothing.
-use Rattle.laws.proofs.All.{◌≡◌, sym, ap, ◌∙◌, List, ℕ, ◌+◌, ◌*◌, ◌/◌, ◌%◌, ◌≤◌, ◌<◌, ◌&&◌, arith, T, leb, eqb}
+use Rattle.std.proofs.Common.{◌≡◌, ◌+◌, ◌*◌, ◌/◌, ◌%◌, ◌≤◌, ◌<◌, ◌&&◌}
+use Rattle.laws.proofs.All.{sym, ap, ◌∙◌, List, ℕ, arith, T, leb, eqb}
 use Rattle.laws.proofs.All.{leb→le, eqb→eq, mul_comm, mul-le-mul_right, div-add-mod', length, get_or, drop, and→}
 use Rattle.laws.proofs.All.{length-drop, length-take, length-take-le, get_or-take, get_or-drop, get_or-eq_default}
 use Rattle.laws.proofs.All.{min-le_left}

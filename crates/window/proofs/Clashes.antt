@@ -2,7 +2,8 @@
 -- when lookahead a is enough.
 -- In order: Hit, hits→, →hits, the pairs that a clash leads to; clear-empty, empty-clear, each way; clear-by-hits.
 -- Assumes nothing.
-use Rattle.laws.proofs.All.{◌≡◌, sym, subst, subst₂, ◌↔◌, not, ◌&&◌, List, ℕ, ◌<◌, T, T_not, not_T, eqb, eqb→eq}
+use Rattle.std.proofs.Common.{◌≡◌, ◌↔◌, ◌&&◌, ◌<◌}
+use Rattle.laws.proofs.All.{sym, subst, subst₂, not, List, ℕ, T, T_not, not_T, eqb, eqb→eq}
 use Rattle.laws.proofs.All.{eqb_refl, length, range, any, iterate, and→, →and, →imp, any-below→, →any-below}
 use Rattle.laws.proofs.All.{all-below→, →all-below, Pairs, has, grid→, →grid}
 use Rattle.table.specs.Rows.{Rows, edges, at}

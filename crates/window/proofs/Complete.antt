@@ -2,8 +2,9 @@
 -- In order: same-join; Step, into→, AheadSame, ahead-same, words ahead; reversed→, Back, back_one, past_same, words
 -- before; no-clash, →clear, start_is, →works.
 -- Assumes nothing.
-use Rattle.laws.proofs.All.{◌≡◌, refl, sym, ap, subst, subst₂, ◌∙◌, Bool, false, not, ◌&&◌, List, [], ◌∷◌, ◌++◌}
-use Rattle.laws.proofs.All.{map, ℕ, zero, suc, ◌<◌, T, T_not, not_T, eqb, eqb→eq, eqb_refl, length, get_or, range}
+use Rattle.std.proofs.Common.{◌≡◌, ◌&&◌, ◌∷◌, ◌++◌, ◌<◌}
+use Rattle.laws.proofs.All.{refl, sym, ap, subst, subst₂, ◌∙◌, Bool, false, not, List, []}
+use Rattle.laws.proofs.All.{map, ℕ, zero, suc, T, T_not, not_T, eqb, eqb→eq, eqb_refl, length, get_or, range}
 use Rattle.laws.proofs.All.{any, all, iterate, and→, →and, →imp, any→, any-below→, →all-below, map-range-at, Pairs}
 use Rattle.laws.proofs.All.{has, iterate-suc}
 use Rattle.table.specs.Rows.{Edge, edge, Rows, edges, at, Size}

@@ -1,7 +1,8 @@
 -- The search for the least window, memory by memory.
 -- In order: later_trans; lead-start, lead-small, lead-take, lead-skip, lead-done, lead-rest; none_found.
 -- Assumes nothing.
-use Rattle.laws.proofs.All.{◌≡◌, refl, sym, ap, subst, ◌∙◌, ◌⊎◌, inl, inr, ⊎_elim, ℕ, ◌+◌, ◌-◌, ◌≤◌, ◌<◌, arith}
+use Rattle.std.proofs.Common.{◌≡◌, ◌⊎◌, ◌+◌, ◌-◌, ◌≤◌, ◌<◌}
+use Rattle.laws.proofs.All.{refl, sym, ap, subst, ◌∙◌, inl, inr, ⊎_elim, ℕ, arith}
 use Rattle.laws.proofs.All.{dec_lt, T, iterate}
 use Rattle.table.specs.Rows.{Rows, Size}
 use Rattle.window.specs.Works.{into, reversed, works}

@@ -1,7 +1,8 @@
 -- The lookahead at which the pairs of a clash are gone is the least that works.
 -- In order: works-further, fails-sooner, works-there; works-emptied.
 -- Assumes nothing.
-use Rattle.laws.proofs.All.{◌≡◌, sym, subst, ◌∙◌, Bool, true, false, ℕ, zero, suc, ◌+◌, ◌-◌, ◌≤◌, ◌<◌, arith}
+use Rattle.std.proofs.Common.{◌≡◌, ◌+◌, ◌-◌, ◌≤◌, ◌<◌}
+use Rattle.laws.proofs.All.{sym, subst, ◌∙◌, Bool, true, false, ℕ, zero, suc, arith}
 use Rattle.laws.proofs.All.{add-zero, dec_lt, le-leb, lt-leb, T, leb, length, T→true}
 use Rattle.table.specs.Rows.{Rows}
 use Rattle.table.specs.Paths.{Closed}

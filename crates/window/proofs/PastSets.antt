@@ -1,9 +1,10 @@
 -- All pairs whose next edges must agree, for one word of memory more.
 -- In order: all-grid, into-grid; into-union; starts_more; pasts-none, pasts-more, pasts-rest.
 -- Assumes nothing.
-use Rattle.laws.proofs.All.{◌≡◌, refl, sym, ap, ap₂, subst₂, ◌∙◌, inl, inr, Bool, true, false, ◌||◌, or_assoc}
-use Rattle.laws.proofs.All.{or_comm, ℕ, zero, suc, ◌+◌, ◌<◌, add-zero, add-one, arith, T, length, Pairs, has, or→}
-use Rattle.laws.proofs.All.{→or_l, →or_r, T→true, bool_eq, grid→, iterate-suc, map, ◌∷◌, [], List, from, range, grid}
+use Rattle.std.proofs.Common.{◌≡◌, ◌||◌, ◌+◌, ◌<◌, ◌∷◌}
+use Rattle.laws.proofs.All.{refl, sym, ap, ap₂, subst₂, ◌∙◌, inl, inr, Bool, true, false, or_assoc}
+use Rattle.laws.proofs.All.{or_comm, ℕ, zero, suc, add-zero, add-one, arith, T, length, Pairs, has, or→}
+use Rattle.laws.proofs.All.{→or_l, →or_r, T→true, bool_eq, grid→, iterate-suc, map, [], List, from, range, grid}
 use Rattle.laws.proofs.All.{map-range-same, map-range-at}
 use mathlib.Core.List.{map-map}
 use Rattle.table.specs.Rows.{Rows, at}

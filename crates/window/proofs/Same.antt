@@ -2,8 +2,9 @@
 -- In order: has-into, any-reversed; Same, same-append, two paths with equal words; has_all, same_ahead, ahead;
 -- onward, same-past, the past; clear_at; AgreeSame, WindowSame, end_lt, works→, the window.
 -- Assumes nothing.
-use Rattle.laws.proofs.All.{◌≡◌, refl, sym, ap, subst, ◌∙◌, Bool, true, false, not, ◌&&◌, List, [], ◌∷◌, ◌++◌, map}
-use Rattle.laws.proofs.All.{ℕ, zero, suc, ◌<◌, not-suc-le-zero, arith, T, T_not, eqb, eqb→eq, eqb_refl, length}
+use Rattle.std.proofs.Common.{◌≡◌, ◌&&◌, ◌∷◌, ◌++◌, ◌<◌}
+use Rattle.laws.proofs.All.{refl, sym, ap, subst, ◌∙◌, Bool, true, false, not, List, [], map}
+use Rattle.laws.proofs.All.{ℕ, zero, suc, not-suc-le-zero, arith, T, T_not, eqb, eqb→eq, eqb_refl, length}
 use Rattle.laws.proofs.All.{get_or, get_or-map, range, any, all, iterate, and→, →and, imp→, →any, all-below→}
 use Rattle.laws.proofs.All.{→any-below, get_or-map-lt, map-range-at, Pairs, has, any-concat, any_none, any-map}
 use Rattle.laws.proofs.All.{any-filter, iterate-suc}

@@ -1,7 +1,8 @@
 -- One set of pairs for each memory m, followed until it is empty, gives every lookahead that works with m.
 -- In order: works-by-hits.
 -- Assumes nothing.
-use Rattle.laws.proofs.All.{◌≡◌, subst, inl, inr, ◌↔◌, false, not, ◌||◌, ℕ, zero, suc, ◌<◌, arith, dec_lt, T, length}
+use Rattle.std.proofs.Common.{◌≡◌, ◌↔◌, ◌||◌, ◌<◌}
+use Rattle.laws.proofs.All.{subst, inl, inr, false, not, ℕ, zero, suc, arith, dec_lt, T, length}
 use Rattle.laws.proofs.All.{range, all, iterate, and→, →and, or→, →or_l, →or_r, imp→, →imp, all-below→, →all-below}
 use Rattle.laws.proofs.All.{Pairs, has, grid→, →grid}
 use Rattle.table.specs.Rows.{Rows}

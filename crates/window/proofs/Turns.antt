@@ -1,7 +1,8 @@
 -- One turn of the search for the least window: it goes on with one word of memory more, or the best is the least.
 -- In order: turn_small, turn_on, done, turn-off; turn.
 -- Assumes nothing.
-use Rattle.laws.proofs.All.{◌≡◌, sym, ap, ◌∙◌, ◌⊎◌, inl, inr, ℕ, ◌+◌, ◌≤◌, ◌<◌, arith, Pairs}
+use Rattle.std.proofs.Common.{◌≡◌, ◌⊎◌, ◌+◌, ◌≤◌, ◌<◌}
+use Rattle.laws.proofs.All.{sym, ap, ◌∙◌, inl, inr, ℕ, arith, Pairs}
 use Rattle.table.specs.Rows.{Rows, Size}
 use Rattle.table.specs.Paths.{Closed}
 use Rattle.window.specs.Search.{window, pasts}

@@ -1,7 +1,8 @@
 -- The sentence on two paths, said of paths step by step; and the test of a window is exact.
 -- In order: same→path, same→words, →same; window→same, same→window; works-sound, works-complete.
 -- Assumes nothing.
-use Rattle.laws.proofs.All.{◌≡◌, refl, sym, ap, ap₂, subst₂, ◌∙◌, List, [], ◌∷◌, ◌++◌, ℕ, zero, suc, ◌+◌, ◌<◌}
+use Rattle.std.proofs.Common.{◌≡◌, ◌∷◌, ◌++◌, ◌+◌, ◌<◌}
+use Rattle.laws.proofs.All.{refl, sym, ap, ap₂, subst₂, ◌∙◌, List, [], ℕ, zero, suc}
 use Rattle.laws.proofs.All.{arith, T, length, get_or, take, drop, length-append, length-drop, take-append-drop}
 use Rattle.laws.proofs.All.{length-take-le, drop-cons}
 use Rattle.table.specs.Rows.{Rows, at, Size}

@@ -1,7 +1,8 @@
 -- A window that works goes on working with more memory and with more lookahead.
 -- In order: more-memory; more-lookahead; works-grows.
 -- Assumes nothing.
-use Rattle.laws.proofs.All.{◌≡◌, sym, ap, subst, subst₂, ◌∙◌, List, [], ◌∷◌, ◌++◌, append_assoc, ℕ, suc, ◌<◌, arith}
+use Rattle.std.proofs.Common.{◌≡◌, ◌∷◌, ◌++◌, ◌<◌}
+use Rattle.laws.proofs.All.{sym, ap, subst, subst₂, ◌∙◌, List, [], append_assoc, ℕ, suc, arith}
 use Rattle.laws.proofs.All.{dec_lt, T, length, take, drop, take-append-drop, length-append, length-take-le}
 use Rattle.table.specs.Rows.{Rows, at}
 use Rattle.window.specs.Works.{works}

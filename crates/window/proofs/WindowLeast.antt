@@ -1,9 +1,10 @@
 -- The search gives the working window with least m + a, then least a; or none up to 15 and 15 works.
 -- In order: rank, rising, same, Least, first-least, Chosen, window-least.
 -- Assumes nothing.
-use Rattle.laws.proofs.All.{◌≡◌, refl, sym, ap, ap₂, subst, ◌∙◌, ◌⊎◌, inl, inr, Bool, true, false, ◌&&◌, List, []}
-use Rattle.laws.proofs.All.{◌∷◌, ℕ, suc, ◌+◌, ◌*◌, ◌≤◌, ◌<◌, le_refl, arith, dec_lt, T, leb, leb→le, ltb, ltb→lt}
-use Rattle.laws.proofs.All.{eqb, eqb→eq, eqb_refl, length, get_or, if◌then◌else◌, range, all, any, first, and→, →and}
+use Rattle.std.proofs.Common.{◌≡◌, ◌⊎◌, ◌&&◌, ◌∷◌, ◌+◌, ◌*◌, ◌≤◌, ◌<◌, if◌then◌else◌}
+use Rattle.laws.proofs.All.{refl, sym, ap, ap₂, subst, ◌∙◌, inl, inr, Bool, true, false, List, []}
+use Rattle.laws.proofs.All.{ℕ, suc, le_refl, arith, dec_lt, T, leb, leb→le, ltb, ltb→lt}
+use Rattle.laws.proofs.All.{eqb, eqb→eq, eqb_refl, length, get_or, range, all, any, first, and→, →and}
 use Rattle.laws.proofs.All.{or→, →or_l, →or_r, all→, any→, all-below→}
 use Rattle.table.specs.Rows.{Rows, Size}
 use Rattle.window.specs.Works.{works}

@@ -2,7 +2,8 @@
 -- search says so.
 -- In order: window-only; window-none.
 -- Assumes nothing.
-use Rattle.laws.proofs.All.{◌≡◌, ap₂, inl, inr, ◌<◌, arith, T}
+use Rattle.std.proofs.Common.{◌≡◌, ◌<◌}
+use Rattle.laws.proofs.All.{ap₂, inl, inr, arith, T}
 use Rattle.table.specs.Rows.{Rows, Size}
 use Rattle.window.specs.Window.{NoLater}
 use Rattle.window.specs.Works.{works}

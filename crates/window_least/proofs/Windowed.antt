@@ -1,7 +1,8 @@
 -- The table with its least window, as the code makes it.
 -- In order: window-found; windowed-none, windowed-found, whole_with.
 -- Assumes nothing.
-use Rattle.laws.proofs.All.{◌≡◌, sym, ap, ap₂, subst, ◌∙◌, inl, inr, Bool, true, ℕ, ◌≤◌, ◌<◌, arith, T, le-leb}
+use Rattle.std.proofs.Common.{◌≡◌, ◌≤◌, ◌<◌}
+use Rattle.laws.proofs.All.{sym, ap, ap₂, subst, ◌∙◌, inl, inr, Bool, true, ℕ, arith, T, le-leb}
 use Rattle.laws.proofs.All.{lt-leb, leb}
 use Rattle.answer.specs.declared.Refusal.TheVariants.{NoWindow}
 use Rattle.answer.specs.Outcomes.{Outcome, done, refused, unless}

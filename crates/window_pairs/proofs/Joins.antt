@@ -2,8 +2,9 @@
 -- In order: none-joined; beyond-joined, the states to which the second edges lead; joins-left, joins-only,
 -- joins-marked, one turn of the loop over the first edges.
 -- Assumes nothing.
-use Rattle.laws.proofs.All.{◌≡◌, sym, ap, ap₂, subst, ◌∙◌, Bool, true, false, not, ◌&&◌, and-false, List, ℕ}
-use Rattle.laws.proofs.All.{◌/◌, ◌%◌, ◌≤◌, ◌<◌, arith, T, eqb, eqb→eq, eqb_refl, any, bool_eq, and→, →and}
+use Rattle.std.proofs.Common.{◌≡◌, ◌&&◌, ◌/◌, ◌%◌, ◌≤◌, ◌<◌}
+use Rattle.laws.proofs.All.{sym, ap, ap₂, subst, ◌∙◌, Bool, true, false, not, and-false, List, ℕ}
+use Rattle.laws.proofs.All.{arith, T, eqb, eqb→eq, eqb_refl, any, bool_eq, and→, →and}
 use Rattle.table.specs.Marks.{some}
 use Rattle.table.specs.Edges.{Arrays, places, next_of, bears}
 use Rattle.table.proofs.Marks.{found, some_at}

@@ -1,7 +1,8 @@
 -- Sets of pairs in an array: what they hold.
 -- In order: has-pairs, pairs-grid.
 -- Assumes nothing.
-use Rattle.laws.proofs.All.{◌≡◌, Bool, List, ℕ, ◌<◌, has, grid}
+use Rattle.std.proofs.Common.{◌≡◌, ◌<◌}
+use Rattle.laws.proofs.All.{Bool, List, ℕ, has, grid}
 use Rattle.table.proofs.EqualGrids.{grid-same, has-grid}
 use Rattle.bitsets.specs.BitSets.{holds, set_at}
 use Rattle.window_pairs.specs.PairSets.{pairs_in}

@@ -2,8 +2,9 @@
 -- In order: mark-none, mark-more, mark-row, mark-clean; Left, the same from the last turn to the first, and row-start,
 -- row-jump, row_put, row-skip, row_done.
 -- Assumes nothing.
-use Rattle.laws.proofs.All.{◌≡◌, refl, sym, ap, ap₂, ◌∙◌, Bool, false, ◌||◌, or-false, or_assoc, List, ℕ, ◌+◌, ◌-◌}
-use Rattle.laws.proofs.All.{◌<◌, length}
+use Rattle.std.proofs.Common.{◌≡◌, ◌||◌, ◌+◌, ◌-◌, ◌<◌}
+use Rattle.laws.proofs.All.{refl, sym, ap, ap₂, ◌∙◌, Bool, false, or-false, or_assoc, List, ℕ}
+use Rattle.laws.proofs.All.{length}
 use Rattle.table.specs.Marks.{some}
 use Rattle.table.proofs.Marks.{none-start, some_more}
 use Rattle.bitsets.specs.BitSets.{holds, set_at}

@@ -1,8 +1,9 @@
 -- Laws of the sets of pairs that the code makes, copies and tests.
 -- In order: copied; same-pairs, replaced; cleared; row-meets; put-row, fill-row, one row written; eqb_swap.
 -- Assumes nothing.
-use Rattle.laws.proofs.All.{◌≡◌, refl, sym, ap, ap₂, subst, ◌∙◌, Bool, true, false, not, ◌&&◌, ◌||◌, or-false, List, ℕ}
-use Rattle.laws.proofs.All.{◌+◌, ◌*◌, ◌≤◌, ◌<◌, arith, T, eqb, eq-eqb, eqb-true, ltb, ltb→lt, lt→ltb, not-true}
+use Rattle.std.proofs.Common.{◌≡◌, ◌&&◌, ◌||◌, ◌+◌, ◌*◌, ◌≤◌, ◌<◌}
+use Rattle.laws.proofs.All.{refl, sym, ap, ap₂, subst, ◌∙◌, Bool, true, false, not, or-false, List, ℕ}
+use Rattle.laws.proofs.All.{arith, T, eqb, eq-eqb, eqb-true, ltb, ltb→lt, lt→ltb, not-true}
 use Rattle.laws.proofs.All.{not-false, get_or, Whether, so, nay, eqb_is, bool_eq, ℕ_discrete}
 use Rattle.table.specs.Marks.{some}
 use Rattle.table.proofs.Marks.{found, some_at, none-at}

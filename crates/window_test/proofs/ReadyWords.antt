@@ -1,7 +1,8 @@
 -- The words of a table that is ready are bytes.
 -- In order: bytes_ready; worded-lent, the arrays of such a table with their chains.
 -- Assumes nothing.
-use Rattle.laws.proofs.All.{◌≡◌, subst, List, ℕ, ◌*◌, ◌/◌, ◌%◌, ◌^◌, ◌≤◌, ◌<◌, arith, ltb-true, pow_mono, get_or}
+use Rattle.std.proofs.Common.{◌≡◌, ◌*◌, ◌/◌, ◌%◌, ◌^◌, ◌≤◌, ◌<◌}
+use Rattle.laws.proofs.All.{subst, List, ℕ, arith, ltb-true, pow_mono, get_or}
 use Rattle.table.specs.declared.Table.{Table}
 use Rattle.table.specs.Value.{Ready}
 use Rattle.table.specs.Edges.{arrays, lent, Chained}

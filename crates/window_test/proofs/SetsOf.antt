@@ -1,7 +1,8 @@
 -- Sets of pairs in an array, as the sets of the definitions: all pairs, the start's, and none.
 -- In order: all_of; start-put; empty_of.
 -- Assumes nothing.
-use Rattle.laws.proofs.All.{◌≡◌, sym, ap, ap₂, ◌∙◌, true, not, ◌&&◌, ◌||◌, List, ℕ, ◌<◌, T, T_not, not_T, eqb}
+use Rattle.std.proofs.Common.{◌≡◌, ◌&&◌, ◌||◌, ◌<◌}
+use Rattle.laws.proofs.All.{sym, ap, ap₂, ◌∙◌, true, not, List, ℕ, T, T_not, not_T, eqb}
 use Rattle.laws.proofs.All.{ltb, lt-ltb, length, has, grid, bool_eq, all-below→, →all-below}
 use Rattle.table.specs.Rows.{Rows}
 use Rattle.window.specs.Works.{into, reversed, all_pairs, start_pair}

@@ -2,7 +2,8 @@
 -- In order: step→, →step, one word on; hit→, →hit, a clash; by_two; step-pairs, a step forward; hits-pairs, a step by
 -- a clash.
 -- Assumes nothing.
-use Rattle.laws.proofs.All.{◌≡◌, sym, ap, subst₂, ◌∙◌, Bool, true, false, List, ℕ, ◌<◌, T, length, Pairs, has, grid}
+use Rattle.std.proofs.Common.{◌≡◌, ◌<◌}
+use Rattle.laws.proofs.All.{sym, ap, subst₂, ◌∙◌, Bool, true, false, List, ℕ, T, length, Pairs, has, grid}
 use Rattle.laws.proofs.All.{bool_eq}
 use Rattle.table.specs.Rows.{edges}
 use Rattle.window.specs.Works.{into, reversed}

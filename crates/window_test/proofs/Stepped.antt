@@ -1,7 +1,8 @@
 -- Steps until a set of pairs is empty.
 -- In order: iterate-add, step-more; Stepped, stepped_start to stepped-rest.
 -- Assumes nothing.
-use Rattle.laws.proofs.All.{◌≡◌, sym, ap, ◌∙◌, true, false, List, ℕ, zero, suc, ◌+◌, ◌-◌, ◌≤◌, ◌<◌, add-one}
+use Rattle.std.proofs.Common.{◌≡◌, ◌+◌, ◌-◌, ◌≤◌, ◌<◌}
+use Rattle.laws.proofs.All.{sym, ap, ◌∙◌, true, false, List, ℕ, zero, suc, add-one}
 use Rattle.laws.proofs.All.{zero-add, suc-add, arith, dec_lt, below_more, iterate, Pairs, iterate-suc, iterate_fixed}
 use Rattle.table.specs.Rows.{Rows}
 use Rattle.window.specs.Works.{into, reversed}

@@ -1,8 +1,9 @@
 -- Two edges with one word: by states, and by places, as the code marks them.
 -- In order: Bytes; Two, two edges; turned; by→, →by, by places; join→, →join, clash→, →clash, the code's tests.
 -- Assumes nothing.
-use Rattle.laws.proofs.All.{◌≡◌, sym, ap, subst, subst₂, ◌∙◌, Bool, true, false, not, ◌&&◌, List, ℕ, ◌+◌, ◌*◌, ◌/◌}
-use Rattle.laws.proofs.All.{◌%◌, ◌<◌, arith, T, T_not, not_T, eqb, eqb→eq, eqb_refl, ltb→lt, and→, →and, or→, →or_r}
+use Rattle.std.proofs.Common.{◌≡◌, ◌&&◌, ◌+◌, ◌*◌, ◌/◌, ◌%◌, ◌<◌}
+use Rattle.laws.proofs.All.{sym, ap, subst, subst₂, ◌∙◌, Bool, true, false, not, List, ℕ}
+use Rattle.laws.proofs.All.{arith, T, T_not, not_T, eqb, eqb→eq, eqb_refl, ltb→lt, and→, →and, or→, →or_r}
 use Rattle.laws.proofs.All.{⊎_elim}
 use Rattle.table.specs.Marks.{some}
 use Rattle.table.specs.Edges.{Arrays, Fits, places, is_edge, word_of, next_of, bears}

@@ -1,7 +1,8 @@
 -- Answers as numbers of 64 bits fit, and their parts are got back.
 -- In order: number-le; joined-parts; word-parts, word-done, word-refused, word-numbers, words-apart.
 -- Assumes nothing.
-use Rattle.laws.proofs.All.{◌≡◌, sym, ap, ◌∙◌, List, ℕ, ◌+◌, ◌*◌, ◌/◌, ◌%◌, ◌^◌, ◌≤◌, ◌<◌, zero-add, add-zero, arith}
+use Rattle.std.proofs.Common.{◌≡◌, ◌+◌, ◌*◌, ◌/◌, ◌%◌, ◌^◌, ◌≤◌, ◌<◌}
+use Rattle.laws.proofs.All.{sym, ap, ◌∙◌, List, ℕ, zero-add, add-zero, arith}
 use Rattle.laws.proofs.All.{digits_div, digits_mod, length}
 use Rattle.answer.specs.declared.Refusal.{Refusal}
 use Rattle.answer.specs.declared.Refusal.TheVariants.{BadByte}

@@ -1,5 +1,6 @@
 -- `bits::get` meets its contract: the field is shifted and masked out of the byte that holds it, or out of two bytes.
-use Rattle.laws.proofs.All.{◌∙◌, ◌+◌, ◌/◌, arith}
+use Rattle.std.proofs.Common.{◌+◌, ◌/◌}
+use Rattle.laws.proofs.All.{◌∙◌, arith}
 use Rattle.bits.proofs.Gets.{get-one, get-two}
 use Rattle.bits.proofs.get.Goals as goal
 

@@ -1,6 +1,7 @@
 -- `bits::put` meets its contract: the field is replaced in the byte that holds it, or its high bits in one byte and
 -- its low bits in the next.
-use Rattle.laws.proofs.All.{◌≡◌, refl, sym, ap, subst, ◌∙◌, ◌++◌, ◌+◌, ◌-◌, ◌/◌, ◌%◌, ◌^◌, ◌<◌, mod-lt, arith}
+use Rattle.std.proofs.Common.{◌≡◌, ◌++◌, ◌+◌, ◌-◌, ◌/◌, ◌%◌, ◌^◌, ◌<◌}
+use Rattle.laws.proofs.All.{refl, sym, ap, subst, ◌∙◌, mod-lt, arith}
 use Rattle.laws.proofs.All.{take, drop, get_or, set, length-set, pow_pos, shr_lt}
 use Rattle.bits.specs.Fields.{bits, bits_of}
 use Rattle.bits.specs.Bytes.{replaced}

@@ -1,5 +1,6 @@
 -- `bits::replace` meets its contract: the three runs of bits stand apart, so the ors add them.
-use Rattle.laws.proofs.All.{◌≡◌, refl, subst, ◌+◌, ◌-◌, ◌^◌, ◌<◌, arith}
+use Rattle.std.proofs.Common.{◌≡◌, ◌+◌, ◌-◌, ◌^◌, ◌<◌}
+use Rattle.laws.proofs.All.{refl, subst, arith}
 use Rattle.bits.specs.Bytes.{replaced}
 use Rattle.bits.proofs.Bytes.{replaced-or, replaced-lt}
 use Rattle.bits.proofs.replace.Goals as goal

@@ -1,5 +1,6 @@
 -- `count` meets its contract.
-use Rattle.laws.proofs.All.{sym, ◌^◌, ◌<◌, arith}
+use Rattle.std.proofs.Common.{◌^◌, ◌<◌}
+use Rattle.laws.proofs.All.{sym, arith}
 use lib.Count.{ones-le}
 use Rattle.bitsets.proofs.Words.{words_count}
 use Rattle.bitsets.proofs.count.Goals as goal

@@ -1,5 +1,6 @@
 -- `every` meets its contract: the words make the number 2 ^ n - 1.
-use Rattle.laws.proofs.All.{◌≡◌, sym, ap, ◌∙◌, ◌+◌, ◌-◌, ◌*◌, ◌^◌, zero-add, arith, ltb}
+use Rattle.std.proofs.Common.{◌≡◌, ◌+◌, ◌-◌, ◌*◌, ◌^◌}
+use Rattle.laws.proofs.All.{sym, ap, ◌∙◌, zero-add, arith, ltb}
 use lib.Pow.{ones_split}
 use Rattle.bitsets.specs.BitSets.{bit_at}
 use Rattle.bitsets.proofs.Digits.{ones_bit}

@@ -1,5 +1,6 @@
 -- `has` meets its contract.
-use Rattle.laws.proofs.All.{◌≡◌, sym, ap, ◌∙◌, ◌+◌, ◌-◌, ◌/◌, ◌^◌, ◌<◌, arith, and_mask, eqb}
+use Rattle.std.proofs.Common.{◌≡◌, ◌+◌, ◌-◌, ◌/◌, ◌^◌, ◌<◌}
+use Rattle.laws.proofs.All.{sym, ap, ◌∙◌, arith, and_mask, eqb}
 use Rattle.bitsets.specs.BitSets.{bit_at, value_of}
 use Rattle.bitsets.proofs.Digits.{bit-low, bit_high}
 use Rattle.bitsets.proofs.has.Goals as goal

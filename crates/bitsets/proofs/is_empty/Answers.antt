@@ -1,5 +1,6 @@
 -- `is_empty` meets its contract.
-use Rattle.laws.proofs.All.{sym, ap, ◌∙◌, ◌&&◌, ◌^◌, ◌<◌, arith, eqb, eq-eqb, ne_eqb}
+use Rattle.std.proofs.Common.{◌&&◌, ◌^◌, ◌<◌}
+use Rattle.laws.proofs.All.{sym, ap, ◌∙◌, arith, eqb, eq-eqb, ne_eqb}
 use Rattle.bitsets.proofs.Words.{words-empty}
 use Rattle.bitsets.proofs.is_empty.Goals as goal
 

@@ -1,5 +1,6 @@
 -- `join` meets its contract.
-use Rattle.laws.proofs.All.{sym, ap, ◌∙◌, ◌^◌, ◌<◌, arith}
+use Rattle.std.proofs.Common.{◌^◌, ◌<◌}
+use Rattle.laws.proofs.All.{sym, ap, ◌∙◌, arith}
 use lib.Bits.{or_block}
 use Rattle.bitsets.specs.BitSets.{bit_at, value_of}
 use Rattle.bitsets.proofs.Digits.{or-bit}

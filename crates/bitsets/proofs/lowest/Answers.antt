@@ -1,5 +1,6 @@
 -- `lowest` meets its contract.
-use Rattle.laws.proofs.All.{sym, ◌^◌, ◌<◌, arith}
+use Rattle.std.proofs.Common.{◌^◌, ◌<◌}
+use Rattle.laws.proofs.All.{sym, arith}
 use lib.Count.{trailing_le}
 use Rattle.bitsets.proofs.Words.{first-low, first-high}
 use Rattle.bitsets.proofs.lowest.Goals as goal

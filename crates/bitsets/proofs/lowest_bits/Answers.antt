@@ -1,5 +1,6 @@
 -- `lowest_bits` meets its contract.
-use Rattle.laws.proofs.All.{◌≡◌, ap, ◌∙◌, ℕ, ◌-◌, ◌*◌, ◌%◌, ◌^◌, ◌<◌, one-mul, arith, lit<, shl_exact, pow_pos}
+use Rattle.std.proofs.Common.{◌≡◌, ◌-◌, ◌*◌, ◌%◌, ◌^◌, ◌<◌}
+use Rattle.laws.proofs.All.{ap, ◌∙◌, ℕ, one-mul, arith, lit<, shl_exact, pow_pos}
 use Rattle.bitsets.proofs.lowest_bits.Goals as goal
 
 -- the bit is not shifted out

@@ -1,5 +1,6 @@
 -- `rest` meets its contract: a word and the number before it have in common all bits of the word but its lowest.
-use Rattle.laws.proofs.All.{◌^◌, ◌<◌, arith}
+use Rattle.std.proofs.Common.{◌^◌, ◌<◌}
+use Rattle.laws.proofs.All.{arith}
 use Rattle.bitsets.proofs.Words.{rest-low, rest-high, some-high}
 use Rattle.bitsets.proofs.rest.Goals as goal
 

@@ -1,5 +1,6 @@
 -- `same` meets its contract: both words are the same, or one is not.
-use Rattle.laws.proofs.All.{sym, ap, ap₂, subst, ◌&&◌, T, eqb, eqb-true, eq-eqb, ne_eqb}
+use Rattle.std.proofs.Common.{◌&&◌}
+use Rattle.laws.proofs.All.{sym, ap, ap₂, subst, T, eqb, eqb-true, eq-eqb, ne_eqb}
 use Rattle.bitsets.specs.BitSets.{set_of}
 use Rattle.bitsets.proofs.same.Goals as goal
 

@@ -1,5 +1,6 @@
 -- `with` meets its contract: the bit of the state is put into its word.
-use Rattle.laws.proofs.All.{◌≡◌, ap, ◌∙◌, ◌||◌, ◌+◌, ◌-◌, ◌^◌, ◌<◌, arith, bit_or}
+use Rattle.std.proofs.Common.{◌≡◌, ◌||◌, ◌+◌, ◌-◌, ◌^◌, ◌<◌}
+use Rattle.laws.proofs.All.{ap, ◌∙◌, arith, bit_or}
 use Rattle.bitsets.specs.BitSets.{bit_at, value_of}
 use Rattle.bitsets.proofs.Digits.{or-bit, pow-bit}
 use Rattle.bitsets.proofs.Words.{with-low, with-high}

@@ -1,5 +1,6 @@
 -- `with_if` meets its contract.
-use Rattle.laws.proofs.All.{sym, ap, ◌∙◌, ◌||◌, ◌&&◌, or-false, eqb}
+use Rattle.std.proofs.Common.{◌||◌, ◌&&◌}
+use Rattle.laws.proofs.All.{sym, ap, ◌∙◌, or-false, eqb}
 use Rattle.bitsets.specs.BitSets.{holds}
 use Rattle.bitsets.proofs.with_if.Goals as goal
 

@@ -1,4 +1,5 @@
-use Rattle.laws.proofs.All.{◌≡◌, refl, ap, ◌∙◌, ◌++◌, map, arith, drop, length-set}
+use Rattle.std.proofs.Common.{◌≡◌, ◌++◌}
+use Rattle.laws.proofs.All.{refl, ap, ◌∙◌, map, arith, drop, length-set}
 use Rattle.laws.proofs.All.{from, map_more}
 use Rattle.table.specs.Edges.{arrays, rows_of}
 use Rattle.codec_steps.specs.Reading.{block}

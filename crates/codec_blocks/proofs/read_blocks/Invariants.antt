@@ -1,5 +1,6 @@
 -- Each turn writes one block.
-use Rattle.laws.proofs.All.{◌≡◌, ◌++◌, map, ◌-◌, ◌≤◌, length, drop}
+use Rattle.std.proofs.Common.{◌≡◌, ◌++◌, ◌-◌, ◌≤◌}
+use Rattle.laws.proofs.All.{map, length, drop}
 use Rattle.laws.proofs.All.{from}
 use Rattle.table.specs.Edges.{arrays, rows_of}
 use Rattle.codec_steps.specs.Reading.{block}

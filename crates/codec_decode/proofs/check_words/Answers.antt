@@ -1,5 +1,6 @@
 -- `check_words` meets its contract: each return follows the check that it comes from, 12 before 13 before 11.
-use Rattle.laws.proofs.All.{sym, ap, ◌∙◌, ◌^◌, ◌-◌, arith}
+use Rattle.std.proofs.Common.{◌^◌, ◌-◌}
+use Rattle.laws.proofs.All.{sym, ap, ◌∙◌, arith}
 use Rattle.codec.proofs.Tabled.{decode-12, decode-13, decode-11, decode-done}
 use Rattle.codec_decode.proofs.check_words.Goals as goal
 

@@ -1,5 +1,6 @@
 -- The checks in their order, then the blocks.
-use Rattle.laws.proofs.All.{◌≡◌, sym, subst, ◌∙◌, true, ◌-◌, ◌≤◌, arith, T, length, drop}
+use Rattle.std.proofs.Common.{◌≡◌, ◌-◌, ◌≤◌}
+use Rattle.laws.proofs.All.{sym, subst, ◌∙◌, true, arith, T, length, drop}
 use Rattle.laws.proofs.All.{}
 use Rattle.answer.specs.declared.Refusal.TheVariants.{Field}
 use Rattle.table.specs.Value.{Ready, ready, code_in}

@@ -1,6 +1,7 @@
 -- The checks in their order, then the words of the blocks and the closing words.
-use Rattle.laws.proofs.All.{◌≡◌, sym, subst, ◌∙◌, true, ◌+◌, ◌≤◌, arith, ltb-true, ltb-false}
-use Rattle.laws.proofs.All.{◌^◌, ◌<◌, T, length, Below}
+use Rattle.std.proofs.Common.{◌≡◌, ◌+◌, ◌≤◌, ◌^◌, ◌<◌}
+use Rattle.laws.proofs.All.{sym, subst, ◌∙◌, true, arith, ltb-true, ltb-false}
+use Rattle.laws.proofs.All.{T, length, Below}
 use Rattle.answer.specs.declared.Refusal.TheVariants.{Field, BadByte, ShortOutput}
 use Rattle.table.specs.Paths.{recording}
 use Rattle.table.specs.Value.{Ready, ready, code_in}

@@ -1,5 +1,6 @@
 -- Compared by a difference, so that no sum can wrap.
-use Rattle.laws.proofs.All.{sym, ◌+◌, ◌-◌, arith, lt-ltb, ltb, ltb→lt, lt→ltb, bool_eq}
+use Rattle.std.proofs.Common.{◌+◌, ◌-◌}
+use Rattle.laws.proofs.All.{sym, arith, lt-ltb, ltb, ltb→lt, lt→ltb, bool_eq}
 use Rattle.codec_encode.proofs.lacks_room.Goals as goal
 
 pub returns-then-room-count : goal.returns-then-room-count

@@ -1,5 +1,6 @@
 -- As many members of the set are below s as are in it and among the first s states.
-use Rattle.laws.proofs.All.{◌≤◌, arith}
+use Rattle.std.proofs.Common.{◌≤◌}
+use Rattle.laws.proofs.All.{arith}
 use Rattle.bitsets.specs.BitSets.{value_of}
 use Rattle.bitsets.proofs.Places.{places-le}
 use Rattle.codec_groups.proofs.Ranks.{group-counted}

@@ -1,5 +1,6 @@
 -- Where one of the arrays is too short nothing is written.
-use Rattle.laws.proofs.All.{refl, ap₂, ◌+◌, arith, length-set, get_or-set_same, get_or-set_other}
+use Rattle.std.proofs.Common.{◌+◌}
+use Rattle.laws.proofs.All.{refl, ap₂, arith, length-set, get_or-set_same, get_or-set_other}
 use Rattle.bitsets.specs.BitSets.{set_of}
 use Rattle.codec_groups.proofs.put_have.Goals as goal
 

@@ -1,4 +1,5 @@
-use Rattle.laws.proofs.All.{refl, [], ◌+◌, ◌*◌, ◌<◌, arith, length, get_or, below_at}
+use Rattle.std.proofs.Common.{◌+◌, ◌*◌, ◌<◌}
+use Rattle.laws.proofs.All.{refl, [], arith, length, get_or, below_at}
 use Rattle.table.specs.Edges.{arrays, next_of}
 use Rattle.table.proofs.RowsOf.{place-next}
 use Rattle.codec_spell.proofs.Writing.{writes_start, writes_more, writes_end}

@@ -1,5 +1,6 @@
 -- Each turn writes the word of one block and steps to its next state.
-use Rattle.laws.proofs.All.{[], ◌-◌, ◌≤◌, length}
+use Rattle.std.proofs.Common.{◌-◌, ◌≤◌}
+use Rattle.laws.proofs.All.{[], length}
 use Rattle.table.specs.Edges.{arrays}
 use Rattle.codec_spell.proofs.Writing.{Writes}
 use Rattle.codec_spell.proofs.write_blocks.Given as goal

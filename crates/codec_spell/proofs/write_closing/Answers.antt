@@ -1,4 +1,5 @@
-use Rattle.laws.proofs.All.{◌≡◌, sym, ℕ, ◌+◌, ◌-◌, ◌*◌, ◌<◌, arith, length, get_or, take, replicate}
+use Rattle.std.proofs.Common.{◌≡◌, ◌+◌, ◌-◌, ◌*◌, ◌<◌}
+use Rattle.laws.proofs.All.{sym, ℕ, arith, length, get_or, take, replicate}
 use Rattle.laws.proofs.All.{length-replicate, get_or-replicate, take-append-drop, length-take-le}
 use Rattle.table.specs.Edges.{arrays, next_of}
 use Rattle.table.proofs.RowsOf.{place-next}

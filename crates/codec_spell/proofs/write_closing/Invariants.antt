@@ -1,5 +1,6 @@
 -- Each turn writes the word of the datum and steps to its next state.
-use Rattle.laws.proofs.All.{◌-◌, ◌≤◌, length, take, replicate}
+use Rattle.std.proofs.Common.{◌-◌, ◌≤◌}
+use Rattle.laws.proofs.All.{length, take, replicate}
 use Rattle.table.specs.Edges.{arrays}
 use Rattle.codec_spell.proofs.Writing.{Writes}
 use Rattle.codec_spell.proofs.write_closing.Given as goal

@@ -1,5 +1,6 @@
 -- The loop goes over the groups of the word, and joins the states of those that lead into the set.
-use Rattle.laws.proofs.All.{◌+◌, ◌-◌, get_or}
+use Rattle.std.proofs.Common.{◌+◌, ◌-◌}
+use Rattle.laws.proofs.All.{get_or}
 use Rattle.codec_groups.specs.Groups.{leads_into}
 use Rattle.codec_steps.proofs.GroupTurns.{Joining}
 use Rattle.codec_steps.proofs.back_by.Given as goal

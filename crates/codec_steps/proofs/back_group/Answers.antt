@@ -1,5 +1,6 @@
 -- The state of the group is put into the set where the group leads into the other.
-use Rattle.laws.proofs.All.{ap, ◌∙◌, ◌&&◌, ◌||◌, eqb}
+use Rattle.std.proofs.Common.{◌&&◌, ◌||◌}
+use Rattle.laws.proofs.All.{ap, ◌∙◌, eqb}
 use Rattle.bitsets.specs.BitSets.{holds, meeting}
 use Rattle.codec_groups.specs.Groups.{source_at}
 use Rattle.codec_steps.proofs.back_group.Goals as goal

@@ -1,4 +1,5 @@
-use Rattle.laws.proofs.All.{◌≡◌, sym, ap, ◌∙◌, ◌+◌, ◌-◌, arith, lt-ltb, get_or, slice}
+use Rattle.std.proofs.Common.{◌≡◌, ◌+◌, ◌-◌}
+use Rattle.laws.proofs.All.{sym, ap, ◌∙◌, arith, lt-ltb, get_or, slice}
 use Rattle.table.specs.Edges.{rows_of}
 use Rattle.table.proofs.RowsOf.{length-rows}
 use Rattle.codec_steps.specs.StateSets.{back, able}

@@ -1,4 +1,5 @@
-use Rattle.laws.proofs.All.{◌≡◌, refl, sym, ap, ◌∙◌, ◌+◌, arith, slice}
+use Rattle.std.proofs.Common.{◌≡◌, ◌+◌}
+use Rattle.laws.proofs.All.{refl, sym, ap, ◌∙◌, arith, slice}
 use Rattle.table.specs.Edges.{rows_of}
 use Rattle.bitsets.specs.BitSets.{yes_no}
 use Rattle.codec_steps.specs.StateSets.{along_all}

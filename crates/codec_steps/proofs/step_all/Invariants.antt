@@ -1,5 +1,6 @@
 -- Each turn steps the set by one word; the words from j on are left.
-use Rattle.laws.proofs.All.{◌≡◌, ◌-◌, ◌≤◌, slice}
+use Rattle.std.proofs.Common.{◌≡◌, ◌-◌, ◌≤◌}
+use Rattle.laws.proofs.All.{slice}
 use Rattle.table.specs.Edges.{Arrays, rows_of}
 use Rattle.bitsets.specs.BitSets.{yes_no}
 use Rattle.codec_groups.specs.Groups.{Grouped}

@@ -1,4 +1,5 @@
-use Rattle.laws.proofs.All.{◌+◌, ◌<◌, arith, get_or}
+use Rattle.std.proofs.Common.{◌+◌, ◌<◌}
+use Rattle.laws.proofs.All.{arith, get_or}
 use Rattle.codec_groups.specs.Groups.{Within}
 use Rattle.codec_steps.proofs.SetSteps.{step-bits}
 use Rattle.codec_steps.proofs.GroupTurns.{join-start, join-next, join-done, group-small}

@@ -1,5 +1,6 @@
 -- The loop goes over the groups of the word, and joins the targets of those whose states are in the set.
-use Rattle.laws.proofs.All.{◌+◌, ◌-◌, get_or}
+use Rattle.std.proofs.Common.{◌+◌, ◌-◌}
+use Rattle.laws.proofs.All.{get_or}
 use Rattle.codec_groups.specs.Groups.{steps_to}
 use Rattle.codec_steps.proofs.GroupTurns.{Joining}
 use Rattle.codec_steps.proofs.step_by.Given as goal

@@ -1,5 +1,6 @@
 -- The targets of the group are joined where its state is in the set.
-use Rattle.laws.proofs.All.{sym, ap, ◌∙◌, ◌&&◌, ◌||◌, or-false}
+use Rattle.std.proofs.Common.{◌&&◌, ◌||◌}
+use Rattle.laws.proofs.All.{sym, ap, ◌∙◌, or-false}
 use Rattle.bitsets.specs.BitSets.{holds}
 use Rattle.codec_groups.specs.Groups.{targets_at}
 use Rattle.codec_steps.proofs.step_group.Goals as goal

@@ -1,5 +1,6 @@
 -- The checks in their order, then the count.
-use Rattle.laws.proofs.All.{◌≡◌, sym, ap, subst, ◌∙◌, true, arith, T}
+use Rattle.std.proofs.Common.{◌≡◌}
+use Rattle.laws.proofs.All.{sym, ap, subst, ◌∙◌, true, arith, T}
 use Rattle.answer.specs.Outcomes.{answer_of}
 use Rattle.table.specs.Value.{Ready, ready}
 use Rattle.table.proofs.ReadyTables.{ready→}

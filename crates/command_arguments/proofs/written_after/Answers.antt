@@ -1,5 +1,6 @@
 -- `written_after` meets its contract: the tests are those of the definition.
-use Rattle.laws.proofs.All.{◌≤◌, min-eq_left, min-eq_right, arith, eq-eqb, ne_eqb}
+use Rattle.std.proofs.Common.{◌≤◌}
+use Rattle.laws.proofs.All.{min-eq_left, min-eq_right, arith, eq-eqb, ne_eqb}
 use Rattle.command_arguments.proofs.written_after.Goals as goal
 
 pub returns-then-weights-eq0 : goal.returns-then-weights-eq0

@@ -1,7 +1,8 @@
 -- `count_marks` meets its contract. The loop's invariant: n is the number of marks passed. The measure is what is left
 -- of the length.
 -- Assumes nothing.
-use Rattle.laws.proofs.All.{◌≡◌, refl, sym, ap, ap₂, ◌∙◌, ◌+◌, ◌-◌, ◌≤◌, le_refl, arith, now, eqb, length, take}
+use Rattle.std.proofs.Common.{◌≡◌, ◌+◌, ◌-◌, ◌≤◌}
+use Rattle.laws.proofs.All.{refl, sym, ap, ap₂, ◌∙◌, le_refl, arith, now, eqb, length, take}
 use Rattle.laws.proofs.All.{take_all, one, times, tot-take-more, needs}
 use Rattle.command_marks.proofs.count_marks.Statement.{statement}
 use Rattle.command_marks.proofs.count_marks.Tie as tie

@@ -1,6 +1,7 @@
 -- `put_marks` meets its contract: the numbers in the line are those of the two marks in the blocks.
 -- Assumes nothing.
-use Rattle.laws.proofs.All.{◌≡◌, subst₂, List, ℕ, arith, now, length, times, times-two, needs}
+use Rattle.std.proofs.Common.{◌≡◌}
+use Rattle.laws.proofs.All.{subst₂, List, ℕ, arith, now, length, times, times-two, needs}
 use Rattle.text.specs.Texts.{Added}
 use Rattle.codec_steps.specs.Reading.{mark_before, mark_ahead}
 use Rattle.command_marks.specs.Marking.{marks_said, marks_line}

@@ -1,7 +1,8 @@
 -- `folder` meets its contract. The loop's invariant: the folder is among the bytes that are left. The measure is the
 -- number itself, which falls.
 -- Assumes nothing.
-use Rattle.laws.proofs.All.{◌≡◌, refl, sym, ap, ◌∙◌, ◌≤◌, arith, now, length, needs}
+use Rattle.std.proofs.Common.{◌≡◌, ◌≤◌}
+use Rattle.laws.proofs.All.{refl, sym, ap, ◌∙◌, arith, now, length, needs}
 use Rattle.io.proofs.Counting.{prefix_len_of_le}
 use Rattle.command_store.specs.Storing.{folder_in, folder_of}
 use Rattle.command_store.proofs.Parts.{folder-here, folder-back}

@@ -1,7 +1,8 @@
 -- `write_bytes` meets its contract. The loop's invariant: what was taken is no more than there is. The measure is what
 -- is left.
 -- Assumes nothing.
-use Rattle.laws.proofs.All.{◌+◌, ◌-◌, ◌^◌, ◌≤◌, ◌<◌, arith, now, length, needs}
+use Rattle.std.proofs.Common.{◌+◌, ◌-◌, ◌^◌, ◌≤◌, ◌<◌}
+use Rattle.laws.proofs.All.{arith, now, length, needs}
 use Rattle.command_store.proofs.Parts.{rest-long}
 use Rattle.command_store.proofs.write_bytes.Statement.{statement}
 use Rattle.command_store.proofs.write_bytes.Tie as tie

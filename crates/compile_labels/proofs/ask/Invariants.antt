@@ -1,5 +1,6 @@
 -- `ask` meets its contract. Edge by edge; what the lowest earlier state with the word gave it is read off the columns.
-use Rattle.laws.proofs.All.{◌≡◌, [], ◌-◌, ◌≤◌, length, take}
+use Rattle.std.proofs.Common.{◌≡◌, ◌-◌, ◌≤◌}
+use Rattle.laws.proofs.All.{[], length, take}
 use Rattle.laws.proofs.All.{extend}
 use Rattle.table.specs.Rows.{Rows}
 use Rattle.compile_labels.specs.Labels.{asked}

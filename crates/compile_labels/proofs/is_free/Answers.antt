@@ -1,6 +1,6 @@
 -- `is_free` meets its contract. The place is k where the datum is not there.
-use Rattle.laws.proofs.All.{◌≡◌, sym, ap₂, ◌∙◌, arith, eqb, length, take, length-take-le, index-free}
-use Rattle.std.proofs.Common.{rules}
+use Rattle.laws.proofs.All.{sym, ap₂, ◌∙◌, arith, eqb, length, take, length-take-le, index-free}
+use Rattle.std.proofs.Common.{◌≡◌, rules}
 use Rattle.compile_labels.proofs.is_free.Goals as goal
 
 pub returns : goal.returns

@@ -1,5 +1,6 @@
 -- `is_given` meets its contract. The two answers of the test of a word.
-use Rattle.laws.proofs.All.{sym, ap, ◌∙◌, ◌&&◌, take, eq-eqb, ne_eqb}
+use Rattle.std.proofs.Common.{◌&&◌}
+use Rattle.laws.proofs.All.{sym, ap, ◌∙◌, take, eq-eqb, ne_eqb}
 use Rattle.compile_labels.specs.Labels.{free}
 use Rattle.compile_labels.proofs.is_given.Goals as goal
 

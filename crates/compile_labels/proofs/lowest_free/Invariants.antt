@@ -1,5 +1,6 @@
 -- `lowest_free` meets its contract. The loop's invariant: none of the data passed is free.
-use Rattle.laws.proofs.All.{◌≡◌, false, ℕ, ◌-◌, ◌≤◌, ◌<◌, take}
+use Rattle.std.proofs.Common.{◌≡◌, ◌-◌, ◌≤◌, ◌<◌}
+use Rattle.laws.proofs.All.{false, ℕ, take}
 use Rattle.compile_labels.specs.Labels.{free}
 use Rattle.compile_labels.proofs.lowest_free.Given as goal
 

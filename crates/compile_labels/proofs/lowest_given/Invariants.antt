@@ -1,5 +1,6 @@
 -- `lowest_given` meets its contract. The loop's invariant: none of the data passed is given and free.
-use Rattle.laws.proofs.All.{◌≡◌, false, ◌&&◌, ℕ, ◌-◌, ◌≤◌, ◌<◌, take}
+use Rattle.std.proofs.Common.{◌≡◌, ◌&&◌, ◌-◌, ◌≤◌, ◌<◌}
+use Rattle.laws.proofs.All.{false, ℕ, take}
 use Rattle.compile_labels.specs.Labels.{carries, free}
 use Rattle.compile_labels.proofs.lowest_given.Given as goal
 

@@ -1,5 +1,6 @@
 -- `note` meets its contract. Word by word: the homes are those with the words passed.
-use Rattle.laws.proofs.All.{◌≡◌, ℕ, ◌-◌, ◌≤◌, ◌<◌, length, get_or, take}
+use Rattle.std.proofs.Common.{◌≡◌, ◌-◌, ◌≤◌, ◌<◌}
+use Rattle.laws.proofs.All.{ℕ, length, get_or, take}
 use Rattle.compile_labels.specs.Parts.{noted}
 use Rattle.compile_labels.proofs.note.Given as goal
 

@@ -1,5 +1,6 @@
 -- `place_of` meets its contract. The loop's invariant: d is none of those passed.
-use Rattle.laws.proofs.All.{◌≡◌, ◌+◌, ◌-◌, ◌≤◌, length, take, drop, index_of}
+use Rattle.std.proofs.Common.{◌≡◌, ◌+◌, ◌-◌, ◌≤◌}
+use Rattle.laws.proofs.All.{length, take, drop, index_of}
 use Rattle.compile_labels.proofs.place_of.Given as goal
 
 abbrev pub invariant-loop-i : goal.invariant-loop-i

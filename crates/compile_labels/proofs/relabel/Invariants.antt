@@ -1,5 +1,5 @@
 -- `relabel` meets its contract. State by state: those passed have their data, and the homes are theirs.
-use Rattle.laws.proofs.All.{◌-◌, ◌≤◌}
+use Rattle.std.proofs.Common.{◌-◌, ◌≤◌}
 use Rattle.table.specs.Edges.{arrays, rows_of}
 use Rattle.compile_labels.proofs.Relabelling.{Relabels}
 use Rattle.compile_labels.proofs.relabel.Given as goal

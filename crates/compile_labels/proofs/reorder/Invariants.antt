@@ -1,5 +1,6 @@
 -- `reorder` meets its contract. Entry by entry.
-use Rattle.laws.proofs.All.{◌-◌, ◌≤◌, ◌<◌, take}
+use Rattle.std.proofs.Common.{◌-◌, ◌≤◌, ◌<◌}
+use Rattle.laws.proofs.All.{take}
 use Rattle.compile_labels.specs.Parts.{Reordered}
 use Rattle.compile_labels.proofs.reorder.Given as goal
 

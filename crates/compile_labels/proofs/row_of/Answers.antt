@@ -1,4 +1,5 @@
-use Rattle.laws.proofs.All.{◌-◌, ◌≡◌, refl, arith, fill_none, fill_more}
+use Rattle.std.proofs.Common.{◌-◌, ◌≡◌}
+use Rattle.laws.proofs.All.{refl, arith, fill_none, fill_more}
 use Rattle.compile_labels.proofs.Columns.{row-filled}
 use Rattle.compile_labels.proofs.row_of.Goals as goal
 

@@ -1,5 +1,6 @@
 -- `row_of` meets its contract. Entry by entry.
-use Rattle.laws.proofs.All.{◌+◌, ◌-◌, ◌*◌, ◌≤◌, ◌<◌, ◌≡◌, length, get_or, Filled}
+use Rattle.std.proofs.Common.{◌+◌, ◌-◌, ◌*◌, ◌≤◌, ◌<◌, ◌≡◌}
+use Rattle.laws.proofs.All.{length, get_or, Filled}
 use Rattle.compile_labels.proofs.row_of.Given as goal
 
 abbrev pub invariant-loop-d : goal.invariant-loop-d

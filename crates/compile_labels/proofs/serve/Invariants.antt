@@ -1,5 +1,6 @@
 -- `serve` meets its contract. Edge by edge: those passed have their data, and all others what they asked for.
-use Rattle.laws.proofs.All.{◌≡◌, [], ◌-◌, ◌≤◌, length, take, drop}
+use Rattle.std.proofs.Common.{◌≡◌, ◌-◌, ◌≤◌}
+use Rattle.laws.proofs.All.{[], length, take, drop}
 use Rattle.compile_labels.specs.Parts.{served}
 use Rattle.compile_labels.proofs.serve.Given as goal
 

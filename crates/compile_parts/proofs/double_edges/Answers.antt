@@ -1,7 +1,7 @@
-use Rattle.laws.proofs.All.{◌≡◌, refl, sym, subst, ◌∙◌, ⊎_elim, ◌-◌, ◌<◌, arith, length, get_or}
+use Rattle.laws.proofs.All.{refl, sym, subst, ◌∙◌, ⊎_elim, arith, length, get_or}
 use Rattle.compile_parts.proofs.Doubling.{Grown, target-kept, here-yes, here-no, grown-room, grown-end}
 use Rattle.compile_graph.proofs.Values.{appended-none}
-use Rattle.std.proofs.Common.{rules}
+use Rattle.std.proofs.Common.{◌≡◌, ◌-◌, ◌<◌, rules}
 use Rattle.compile_parts.proofs.double_edges.Goals.{At-loop-i}
 use Rattle.compile_parts.proofs.double_edges.Goals as goal
 use Rattle.compile_parts.proofs.double_edges.Goals.{else-wide-s, then-wide-s}

@@ -1,5 +1,5 @@
 -- Each edge into s is appended once more, to the new state. There is room, since the edges after it were counted.
-use Rattle.laws.proofs.All.{◌≡◌, ◌-◌, ◌≤◌}
+use Rattle.std.proofs.Common.{◌≡◌, ◌-◌, ◌≤◌}
 use Rattle.compile_parts.proofs.Doubling.{Grown}
 use Rattle.compile_parts.proofs.double_edges.Given as goal
 

@@ -1,4 +1,5 @@
-use Rattle.laws.proofs.All.{◌≡◌, refl, ap, ◌∙◌, ⊎_elim, ◌-◌, arith, length}
+use Rattle.std.proofs.Common.{◌≡◌, ◌-◌}
+use Rattle.laws.proofs.All.{refl, ap, ◌∙◌, ⊎_elim, arith, length}
 use Rattle.compile_parts.proofs.Doubling.{entered, count-taken, count_left}
 use Rattle.compile_parts.proofs.enter_count.Goals as goal
 use Rattle.compile_parts.proofs.enter_count.Goals.{else-g-i, then-g-i}

@@ -1,5 +1,6 @@
 -- The edges into s are counted.
-use Rattle.laws.proofs.All.{◌≡◌, ◌-◌, ◌≤◌, length}
+use Rattle.std.proofs.Common.{◌≡◌, ◌-◌, ◌≤◌}
+use Rattle.laws.proofs.All.{length}
 use Rattle.compile_parts.proofs.Doubling.{entered}
 use Rattle.compile_parts.proofs.enter_count.Given as goal
 

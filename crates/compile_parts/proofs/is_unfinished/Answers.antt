@@ -1,4 +1,5 @@
-use Rattle.laws.proofs.All.{sym, ◌-◌, arith, below_more}
+use Rattle.std.proofs.Common.{◌-◌}
+use Rattle.laws.proofs.All.{sym, arith, below_more}
 use Rattle.compile_parts.proofs.Counts.{unfinished-yes, unfinished-no}
 use Rattle.compile_parts.proofs.is_unfinished.Goals as goal
 

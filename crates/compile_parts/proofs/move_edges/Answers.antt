@@ -1,9 +1,9 @@
-use Rattle.laws.proofs.All.{◌≡◌, refl, subst, ◌-◌, arith, length, take, drop}
+use Rattle.laws.proofs.All.{refl, subst, arith, length, take, drop}
 use Rattle.compile_order.specs.EdgeKeys.{keys_in}
 use Rattle.compile_parts.specs.Parts.{kept_from}
 use Rattle.compile_parts.proofs.MovedSources.{Resourced, resource-none, resource-next, resource-end}
 use Rattle.compile_parts.proofs.MovedSources.{new_source}
-use Rattle.std.proofs.Common.{rules}
+use Rattle.std.proofs.Common.{◌≡◌, ◌-◌, rules}
 use Rattle.compile_parts.proofs.move_edges.Goals as goal
 
 pub loop-i-init : goal.loop-i-init

@@ -1,5 +1,5 @@
 -- The edges below i have their new source.
-use Rattle.laws.proofs.All.{◌≡◌, ◌-◌, ◌≤◌}
+use Rattle.std.proofs.Common.{◌≡◌, ◌-◌, ◌≤◌}
 use Rattle.compile_parts.specs.Parts.{kept_from}
 use Rattle.compile_parts.proofs.MovedSources.{Resourced}
 use Rattle.compile_parts.proofs.MovedSources.{new_source}

@@ -1,5 +1,6 @@
 -- The two tests of the definition, one after the other.
-use Rattle.laws.proofs.All.{sym, ◌∙◌, ◌+◌, ◌*◌, take, drop}
+use Rattle.std.proofs.Common.{◌+◌, ◌*◌}
+use Rattle.laws.proofs.All.{sym, ◌∙◌, take, drop}
 use Rattle.compile_order.specs.EdgeKeys.{keys_in}
 use Rattle.compile_parts.proofs.MovedSources.{source-other, source-kept, source-moved}
 use Rattle.compile_parts.proofs.moved_source.Goals as goal

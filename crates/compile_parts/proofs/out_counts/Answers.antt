@@ -1,4 +1,5 @@
-use Rattle.laws.proofs.All.{◌≡◌, refl, ap, ◌∙◌, ◌-◌, ◌<◌, arith, length, get_or}
+use Rattle.std.proofs.Common.{◌≡◌, ◌-◌, ◌<◌}
+use Rattle.laws.proofs.All.{refl, ap, ◌∙◌, arith, length, get_or}
 use Rattle.compile_parts.proofs.Counts.{counted_none, counted-more, left}
 use Rattle.compile_parts.proofs.out_counts.Goals.{In-loop-i}
 use Rattle.compile_parts.proofs.out_counts.Goals as goal

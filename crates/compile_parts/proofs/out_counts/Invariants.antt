@@ -1,5 +1,5 @@
 -- Each edge counts at its source.
-use Rattle.laws.proofs.All.{◌≡◌, ◌-◌, ◌≤◌}
+use Rattle.std.proofs.Common.{◌≡◌, ◌-◌, ◌≤◌}
 use Rattle.compile_parts.proofs.Counts.{Counted}
 use Rattle.compile_parts.proofs.out_counts.Given as goal
 

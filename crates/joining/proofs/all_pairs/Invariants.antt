@@ -1,6 +1,6 @@
 -- `all_pairs` meets its contract. The loop's invariant: the walks that are left lead to the pairs, and each walk added
 -- two pairs at most. The measure is what is left.
-use Rattle.laws.proofs.All.{◌≡◌, ◌+◌, ◌*◌, ◌-◌, ◌≤◌}
+use Rattle.std.proofs.Common.{◌≡◌, ◌+◌, ◌*◌, ◌-◌, ◌≤◌}
 use Rattle.constraint.specs.Value.{constraint_of}
 use Rattle.joining.specs.Joined.{walked_from, pairs}
 use Rattle.joining.specs.PairLists.{pairs_in}

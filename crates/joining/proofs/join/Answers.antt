@@ -1,9 +1,9 @@
 -- `join` meets its contract: the pairs are those of the definition, and so are their count and the states.
-use Rattle.laws.proofs.All.{◌≡◌, sym, ap, subst, ◌∙◌, map, arith, le-leb, lt-leb, T, length}
+use Rattle.laws.proofs.All.{sym, ap, subst, ◌∙◌, map, arith, le-leb, lt-leb, T, length}
 use Rattle.constraint.specs.Value.{constraint_of}
 use Rattle.joining.specs.Joined.{pairs, joined_state, joined}
 use Rattle.joining.proofs.PairLists.{pairs-long}
-use Rattle.std.proofs.Common.{rules}
+use Rattle.std.proofs.Common.{◌≡◌, rules}
 use Rattle.joining.proofs.join.Goals as goal
 
 pub returns-then-ps-gt16 : goal.returns-then-ps-gt16

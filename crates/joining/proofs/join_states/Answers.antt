@@ -1,11 +1,11 @@
-use Rattle.laws.proofs.All.{◌≡◌, sym, ap₂, ◌∙◌, arith, length, get_or, map-range-same}
+use Rattle.laws.proofs.All.{sym, ap₂, ◌∙◌, arith, length, get_or, map-range-same}
 use Rattle.constraint.specs.Walking.{none, NextStates, nowhere}
 use Rattle.constraint.specs.Value.{constraint_of}
 use Rattle.constraint.proofs.Values.{fill_none, fill_more, filled-read}
 use Rattle.joining.specs.Joined.{joined_state}
 use Rattle.joining.specs.PairLists.{pairs_in}
 use Rattle.joining.proofs.PairLists.{pairs-map}
-use Rattle.std.proofs.Common.{rules}
+use Rattle.std.proofs.Common.{◌≡◌, rules}
 use Rattle.joining.proofs.join_states.Goals as goal
 
 pub loop-s-init : goal.loop-s-init

@@ -1,6 +1,7 @@
 -- `join_states` meets its contract. The loop's invariant: the arrays hold the next pairs of every pair passed. The
 -- measure is what is left.
-use Rattle.laws.proofs.All.{◌-◌, ◌≤◌, get_or}
+use Rattle.std.proofs.Common.{◌-◌, ◌≤◌}
+use Rattle.laws.proofs.All.{get_or}
 use Rattle.constraint.specs.Walking.{none}
 use Rattle.constraint.specs.Value.{constraint_of}
 use Rattle.constraint.specs.PowerTable.{Filled}

@@ -1,8 +1,8 @@
-use Rattle.laws.proofs.All.{◌≡◌, sym, ◌∙◌, arith, length, index-here, index-later}
+use Rattle.laws.proofs.All.{sym, ◌∙◌, arith, length, index-here, index-later}
 use Rattle.laws.proofs.All.{index-end}
 use Rattle.joining.specs.PairLists.{pairs_in}
 use Rattle.joining.proofs.PairLists.{pairs-long, pairs-at}
-use Rattle.std.proofs.Common.{rules}
+use Rattle.std.proofs.Common.{◌≡◌, rules}
 use Rattle.joining.proofs.number_of.Goals as goal
 
 pub loop-i-init : goal.loop-i-init

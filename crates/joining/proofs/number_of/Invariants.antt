@@ -1,5 +1,6 @@
 -- `number_of` meets its contract. The loop's invariant: the pair is none of those passed. The measure is what is left.
-use Rattle.laws.proofs.All.{◌≡◌, ◌+◌, ◌-◌, ◌≤◌, length, drop, index_of}
+use Rattle.std.proofs.Common.{◌≡◌, ◌+◌, ◌-◌, ◌≤◌}
+use Rattle.laws.proofs.All.{length, drop, index_of}
 use Rattle.joining.specs.PairLists.{pairs_in}
 use Rattle.joining.proofs.number_of.Given as goal
 

@@ -1,9 +1,9 @@
 -- `walk_pair` meets its contract: beyond the list nothing is walked, and else both bits of the pair are met in turn.
-use Rattle.laws.proofs.All.{◌≡◌, sym, arith, length, get_or}
+use Rattle.laws.proofs.All.{sym, arith, length, get_or}
 use Rattle.constraint.specs.Value.{constraint_of}
 use Rattle.joining.specs.PairLists.{pairs_in}
 use Rattle.joining.proofs.PairLists.{pairs-long, pairs-at, walked-past, walked_at}
-use Rattle.std.proofs.Common.{rules}
+use Rattle.std.proofs.Common.{◌≡◌, rules}
 use Rattle.joining.proofs.walk_pair.Goals as goal
 
 pub returns-then-ps-i : goal.returns-then-ps-i

@@ -1,8 +1,8 @@
 -- `with_pair` meets its contract: a pair whose number is below the count is there, and any other is stored at the end.
-use Rattle.laws.proofs.All.{◌≡◌, sym, ◌∙◌, arith, length}
+use Rattle.laws.proofs.All.{sym, ◌∙◌, arith, length}
 use Rattle.joining.specs.PairLists.{pairs_in}
 use Rattle.joining.proofs.PairLists.{adjoin-old, adjoin-new, pairs-long, pairs-more}
-use Rattle.std.proofs.Common.{rules}
+use Rattle.std.proofs.Common.{◌≡◌, rules}
 use Rattle.joining.proofs.with_pair.Goals as goal
 
 pub returns-then-at-count : goal.returns-then-at-count

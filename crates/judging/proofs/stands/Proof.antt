@@ -1,7 +1,8 @@
 -- `stands` meets its contract. The loop's invariant: the bytes passed are as expected. The measure is what is left of
 -- the bytes.
 -- Assumes nothing.
-use Rattle.laws.proofs.All.{◌≡◌, sym, subst, ◌∙◌, ℕ, ◌-◌, ◌≤◌, ◌<◌, arith, below_more, needs, T, length, get_or}
+use Rattle.std.proofs.Common.{◌≡◌, ◌-◌, ◌≤◌, ◌<◌}
+use Rattle.laws.proofs.All.{sym, subst, ◌∙◌, ℕ, arith, below_more, needs, T, length, get_or}
 use Rattle.judging.proofs.stands.Statement.{statement}
 use Rattle.judging.proofs.stands.Tie as tie
 

@@ -1,4 +1,5 @@
-use Rattle.laws.proofs.All.{sym, ◌∙◌, ◌≤◌, ◌<◌, not-suc-le-zero, arith}
+use Rattle.std.proofs.Common.{◌≤◌, ◌<◌}
+use Rattle.laws.proofs.All.{sym, ◌∙◌, not-suc-le-zero, arith}
 use Rattle.laws.proofs.All.{get_or, member-lt}
 use Rattle.record_queue.specs.Places.{pair_after, finds_at}
 use Rattle.record_obeys.proofs.Reaching.{reach-start, reach-more, reach-done, reach-fail, reach-test}

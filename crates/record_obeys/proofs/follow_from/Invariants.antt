@@ -1,5 +1,6 @@
 -- The list holds the members of the set, and those before i have been tested and followed; at its end all have been.
-use Rattle.laws.proofs.All.{ℕ, ◌-◌, ◌≤◌, ◌<◌}
+use Rattle.std.proofs.Common.{◌-◌, ◌≤◌, ◌<◌}
+use Rattle.laws.proofs.All.{ℕ}
 use Rattle.laws.proofs.All.{T, get_or, range, all}
 use Rattle.record_queue.specs.Places.{pair_after, finds_at}
 use Rattle.record_obeys.proofs.Reaching.{Reaching}

@@ -1,5 +1,6 @@
 -- The data below d find their way; the first that does not ends the loop.
-use Rattle.laws.proofs.All.{ℕ, ◌-◌, ◌≤◌, ◌<◌, T}
+use Rattle.std.proofs.Common.{◌-◌, ◌≤◌, ◌<◌}
+use Rattle.laws.proofs.All.{ℕ, T}
 use Rattle.record_queue.specs.Places.{finds_at}
 use Rattle.record_queue.proofs.finds_all.Given as goal
 

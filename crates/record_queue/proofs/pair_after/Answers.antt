@@ -1,5 +1,6 @@
 -- Each return is one side of the definition's test.
-use Rattle.laws.proofs.All.{sym, ap₂, ◌∙◌, ◌+◌, ◌*◌}
+use Rattle.std.proofs.Common.{◌+◌, ◌*◌}
+use Rattle.laws.proofs.All.{sym, ap₂, ◌∙◌}
 use Rattle.record_queue.specs.Places.{state_after}
 use Rattle.record_queue.proofs.PairTests.{pick_same, pick_other}
 use Rattle.record_queue.proofs.pair_after.Goals as goal

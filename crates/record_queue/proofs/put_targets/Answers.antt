@@ -1,4 +1,5 @@
-use Rattle.laws.proofs.All.{◌≡◌, arith}
+use Rattle.std.proofs.Common.{◌≡◌}
+use Rattle.laws.proofs.All.{arith}
 use Rattle.record_queue.proofs.Queue.{grown-none, grown-more}
 use Rattle.record_queue.proofs.put_targets.Goals as goal
 

@@ -1,5 +1,5 @@
 -- Each turn puts the place of one datum.
-use Rattle.laws.proofs.All.{◌-◌, ◌≤◌}
+use Rattle.std.proofs.Common.{◌-◌, ◌≤◌}
 use Rattle.record_queue.specs.Places.{pair_after, Grown}
 use Rattle.record_queue.proofs.put_targets.Given as goal
 

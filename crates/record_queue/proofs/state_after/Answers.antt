@@ -1,5 +1,6 @@
 -- Both reads are at the places that the definition names.
-use Rattle.laws.proofs.All.{ap, ◌∙◌, ◌+◌, ◌*◌, ◌%◌, get_or}
+use Rattle.std.proofs.Common.{◌+◌, ◌*◌, ◌%◌}
+use Rattle.laws.proofs.All.{ap, ◌∙◌, get_or}
 use Rattle.record_queue.proofs.state_after.Goals as goal
 
 pub returns : goal.returns

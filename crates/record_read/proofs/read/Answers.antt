@@ -1,5 +1,6 @@
 -- `read` meets its contract: each return follows the checks before it, in document 01's order.
-use Rattle.laws.proofs.All.{true, ◌≡◌, sym, ap, ◌∙◌, not-true, not-false, lt-leb, le-leb, eq-eqb, ne_eqb}
+use Rattle.std.proofs.Common.{◌≡◌}
+use Rattle.laws.proofs.All.{true, sym, ap, ◌∙◌, not-true, not-false, lt-leb, le-leb, eq-eqb, ne_eqb}
 use Rattle.laws.proofs.All.{length, arith}
 use Rattle.answer.specs.Outcomes.{done}
 use Rattle.table.specs.Formed.{Ranges}

@@ -1,6 +1,6 @@
 -- `put_edges` meets its contract. The loop's invariant: the edges passed stand after the constraint, and all other
 -- bits are as lent. The measure is what is left.
-use Rattle.laws.proofs.All.{◌≡◌, ◌-◌, ◌≤◌}
+use Rattle.std.proofs.Common.{◌≡◌, ◌-◌, ◌≤◌}
 use Rattle.laws.proofs.All.{length}
 use Rattle.bits.specs.Bytes.{spliced}
 use Rattle.bits.specs.Fields.{bits_of}

@@ -1,5 +1,6 @@
 -- `put_front` meets its contract: the eight fields stand one after the other.
-use Rattle.laws.proofs.All.{◌≡◌, refl, ◌∙◌, arith, length}
+use Rattle.std.proofs.Common.{◌≡◌}
+use Rattle.laws.proofs.All.{refl, ◌∙◌, arith, length}
 use Rattle.bits.specs.Fields.{bits_of}
 use Rattle.bits.proofs.Puts.{length-bits_of}
 use Rattle.record.proofs.RecordParts.{front-spliced}

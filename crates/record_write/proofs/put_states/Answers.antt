@@ -1,4 +1,5 @@
-use Rattle.laws.proofs.All.{◌≡◌, refl, ap, ◌∙◌, map, arith, range}
+use Rattle.std.proofs.Common.{◌≡◌}
+use Rattle.laws.proofs.All.{refl, ap, ◌∙◌, map, arith, range}
 use Rattle.bits.specs.Bytes.{spliced}
 use Rattle.bits.specs.Fields.{bits_of}
 use Rattle.bits.proofs.Puts.{length-bits_of}

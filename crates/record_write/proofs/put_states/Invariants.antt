@@ -1,6 +1,7 @@
 -- `put_states` meets its contract. The loop's invariant: the states passed stand after the numbers in front, and all
 -- other bits are as lent. The measure is what is left.
-use Rattle.laws.proofs.All.{◌≡◌, map, ◌-◌, ◌≤◌, length, range}
+use Rattle.std.proofs.Common.{◌≡◌, ◌-◌, ◌≤◌}
+use Rattle.laws.proofs.All.{map, length, range}
 use Rattle.bits.specs.Bytes.{spliced}
 use Rattle.bits.specs.Fields.{bits_of}
 use Rattle.constraint.specs.Value.{next_states_at}

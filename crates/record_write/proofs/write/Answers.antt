@@ -1,5 +1,6 @@
 -- `write` meets its contract: refusals 7 and 13 before any byte is written, otherwise the whole record.
-use Rattle.laws.proofs.All.{◌≡◌, sym, ap, subst, ◌∙◌, true, not-true, not-false, T, length}
+use Rattle.std.proofs.Common.{◌≡◌}
+use Rattle.laws.proofs.All.{sym, ap, subst, ◌∙◌, true, not-true, not-false, T, length}
 use Rattle.answer.specs.declared.Answer.TheVariants.{Done}
 use Rattle.answer.specs.Outcomes.{answer_of, output_of}
 use Rattle.table.specs.Value.{table_head, ready, Ready}

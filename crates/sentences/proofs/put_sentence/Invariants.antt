@@ -1,6 +1,7 @@
 -- `put_sentence` meets its contract. The loop's invariant: what is put stands for the first i bytes of the pattern,
 -- which take k numbers. The measure is the bytes left.
-use Rattle.laws.proofs.All.{◌≡◌, ◌-◌, ◌≤◌, length, take}
+use Rattle.std.proofs.Common.{◌≡◌, ◌-◌, ◌≤◌}
+use Rattle.laws.proofs.All.{length, take}
 use Rattle.text.specs.Texts.{Added}
 use Rattle.sentences.specs.Sentences.{sentence}
 use Rattle.sentences.proofs.Sentences.{used}

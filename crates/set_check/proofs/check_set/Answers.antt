@@ -1,4 +1,5 @@
-use Rattle.laws.proofs.All.{sym, ◌∙◌, ◌-◌, arith}
+use Rattle.std.proofs.Common.{◌-◌}
+use Rattle.laws.proofs.All.{sym, ◌∙◌, arith}
 use Rattle.set_check.proofs.Walks.{set-empty, walking_start, walking-stop, walking_on}
 use Rattle.set_check.proofs.Walks.{walking-left, walking-end}
 use Rattle.set_check.proofs.check_set.Goals as goal

@@ -1,5 +1,5 @@
 -- `check_set` meets its contract: before each turn the answer of the whole set is that of the walk from the offset on.
-use Rattle.laws.proofs.All.{◌-◌, ◌≤◌}
+use Rattle.std.proofs.Common.{◌-◌, ◌≤◌}
 use Rattle.set_check.proofs.Walks.{Walking}
 use Rattle.set_check.proofs.check_set.Given as goal
 

@@ -1,5 +1,6 @@
 -- `step_at` meets its contract: 8 for a record that is cut off, otherwise the checker's answer on its bytes.
-use Rattle.laws.proofs.All.{sym, ◌∙◌, ◌+◌, ◌≤◌, arith, length}
+use Rattle.std.proofs.Common.{◌+◌, ◌≤◌}
+use Rattle.laws.proofs.All.{sym, ◌∙◌, arith, length}
 use Rattle.set_places.proofs.Offsets.{place→, nowhere→}
 use Rattle.set_check.proofs.Walks.{step_cut, step-stop, step-on}
 use Rattle.set_check.proofs.step_at.Goals.{In-At}

@@ -1,6 +1,7 @@
 -- `put_record` meets its contract: the record stands where it is found.
 -- Assumes nothing.
-use Rattle.laws.proofs.All.{sym, ◌∙◌, ◌+◌, ◌≤◌, arith, now, length, needs}
+use Rattle.std.proofs.Common.{◌+◌, ◌≤◌}
+use Rattle.laws.proofs.All.{sym, ◌∙◌, arith, now, length, needs}
 use Rattle.text.proofs.Adding.{added-same}
 use Rattle.set_lines.proofs.SetText.{record-within, text-nowhere, text_at, part-line}
 use Rattle.set_lines.proofs.put_record.Statement.{statement}

@@ -1,7 +1,8 @@
 -- `put_records` meets its contract. The loop's invariant: the lines of the records passed stand in front. The measure
 -- is how many records are left.
 -- Assumes nothing.
-use Rattle.laws.proofs.All.{◌≡◌, subst, ◌-◌, ◌≤◌, arith, now, needs}
+use Rattle.std.proofs.Common.{◌≡◌, ◌-◌, ◌≤◌}
+use Rattle.laws.proofs.All.{subst, arith, now, needs}
 use Rattle.text.specs.Texts.{Added}
 use Rattle.set_lines.specs.SetText.{lines_to}
 use Rattle.set_lines.proofs.SetText.{no_lines, lines_more}

@@ -1,4 +1,5 @@
-use Rattle.laws.proofs.All.{◌≡◌, refl, sym, ap, ◌∙◌, ◌+◌, ◌≤◌, arith, length}
+use Rattle.std.proofs.Common.{◌≡◌, ◌+◌, ◌≤◌}
+use Rattle.laws.proofs.All.{refl, sym, ap, ◌∙◌, arith, length}
 use Rattle.set_places.specs.Offsets.{place_at, offset_of}
 use Rattle.set_places.proofs.Offsets.{record-none, record-empty, record-at, record-cut, record-next}
 use Rattle.set_places.proofs.find.Goals.{In-At}

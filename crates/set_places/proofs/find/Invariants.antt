@@ -1,5 +1,6 @@
 -- `find` meets its contract: the loop goes from the offset of one record to that of the next.
-use Rattle.laws.proofs.All.{◌≡◌, ◌-◌, ◌≤◌, ◌<◌, get_or}
+use Rattle.std.proofs.Common.{◌≡◌, ◌-◌, ◌≤◌, ◌<◌}
+use Rattle.laws.proofs.All.{get_or}
 use Rattle.set_places.specs.Offsets.{offset_of}
 use Rattle.set_places.proofs.find.Given as goal
 

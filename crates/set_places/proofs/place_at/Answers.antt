@@ -1,5 +1,6 @@
 -- `place_at` meets its contract: the two bytes of the length and as many more lie within the set, or they do not.
-use Rattle.laws.proofs.All.{sym, ◌+◌, arith}
+use Rattle.std.proofs.Common.{◌+◌}
+use Rattle.laws.proofs.All.{sym, arith}
 use Rattle.set_places.proofs.Offsets.{place-whole, place-cut}
 use Rattle.set_places.proofs.place_at.Goals as goal
 

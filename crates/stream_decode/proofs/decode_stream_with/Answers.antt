@@ -1,5 +1,6 @@
 -- `stream_decode::decode_stream_with` meets its contract: the checks in their order, then the blocks part by part.
-use Rattle.laws.proofs.All.{◌≡◌, sym, subst, ◌∙◌, true, ◌-◌, arith, T, length, drop}
+use Rattle.std.proofs.Common.{◌≡◌, ◌-◌}
+use Rattle.laws.proofs.All.{sym, subst, ◌∙◌, true, arith, T, length, drop}
 use Rattle.answer.specs.declared.Refusal.TheVariants.{Field, TooFewWords, ShortOutput, Stream}
 use Rattle.answer.proofs.Answered.{declined, finished}
 use Rattle.table.specs.Value.{ready, code_in}

@@ -1,5 +1,6 @@
 -- `stream_decode::read_part` meets its contract: the part's words are unpacked, and its blocks are read from them.
-use Rattle.laws.proofs.All.{◌≡◌, ap, ◌+◌, ◌-◌, ◌*◌, ◌/◌, ◌≤◌, min-le_left, min-le_right, arith, length}
+use Rattle.std.proofs.Common.{◌≡◌, ◌+◌, ◌-◌, ◌*◌, ◌/◌, ◌≤◌}
+use Rattle.laws.proofs.All.{ap, min-le_left, min-le_right, arith, length}
 use Rattle.laws.proofs.All.{length-drop, take_rest}
 use Rattle.table.specs.Edges.{arrays, rows_of}
 use Rattle.codec_steps.specs.BlockParts.{under}

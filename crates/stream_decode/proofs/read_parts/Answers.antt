@@ -1,4 +1,5 @@
-use Rattle.laws.proofs.All.{◌≡◌, refl, sym, ap, ◌∙◌, ◌++◌, map, ◌-◌, min, zero-min, min-eq_left, min-eq_right}
+use Rattle.std.proofs.Common.{◌≡◌, ◌++◌, ◌-◌}
+use Rattle.laws.proofs.All.{refl, sym, ap, ◌∙◌, map, min, zero-min, min-eq_left, min-eq_right}
 use Rattle.laws.proofs.All.{arith, drop, range, piece-more}
 use Rattle.table.specs.Edges.{arrays, rows_of}
 use Rattle.codec_steps.specs.Reading.{block}

@@ -1,5 +1,6 @@
 -- `stream_decode::read_parts` meets its contract: each turn reads one part.
-use Rattle.laws.proofs.All.{◌≡◌, ◌++◌, map, ◌-◌, ◌%◌, min}
+use Rattle.std.proofs.Common.{◌≡◌, ◌++◌, ◌-◌, ◌%◌}
+use Rattle.laws.proofs.All.{map, min}
 use Rattle.laws.proofs.All.{length, drop, range}
 use Rattle.table.specs.Edges.{arrays, rows_of}
 use Rattle.codec_steps.specs.Reading.{block}

@@ -1,6 +1,7 @@
 -- The checks in their order, then the stream of the words of the blocks and of the closing words.
-use Rattle.laws.proofs.All.{◌≡◌, refl, sym, subst, ◌∙◌, true, ◌+◌, ◌≤◌, ◌<◌, arith, T}
-use Rattle.laws.proofs.All.{◌^◌, length, Below}
+use Rattle.std.proofs.Common.{◌≡◌, ◌+◌, ◌≤◌, ◌<◌, ◌^◌}
+use Rattle.laws.proofs.All.{refl, sym, subst, ◌∙◌, true, arith, T}
+use Rattle.laws.proofs.All.{length, Below}
 use Rattle.answer.specs.declared.Refusal.TheVariants.{Field, BadByte, ShortOutput, Stream}
 use Rattle.answer.proofs.FirstBad.{below-first_bad, bad-le}
 use Rattle.answer.proofs.Answered.{declined, finished}

@@ -1,4 +1,5 @@
-use Rattle.laws.proofs.All.{◌≡◌, ap, ◌∙◌, ◌++◌, ℕ, ◌+◌, ◌-◌, ◌*◌, ◌≤◌, ◌<◌, arith, length, get_or, drop}
+use Rattle.std.proofs.Common.{◌≡◌, ◌++◌, ◌+◌, ◌-◌, ◌*◌, ◌≤◌, ◌<◌}
+use Rattle.laws.proofs.All.{ap, ◌∙◌, ℕ, arith, length, get_or, drop}
 use Rattle.table.specs.Paths.{spells}
 use Rattle.table.specs.Edges.{arrays, rows_of, next_of}
 use Rattle.table.proofs.Paths.{length-spells}

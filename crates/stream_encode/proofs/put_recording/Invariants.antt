@@ -1,5 +1,5 @@
 -- Each turn puts the word of one datum and steps to its next state; the fill makes the stream.
-use Rattle.laws.proofs.All.{◌-◌, ◌≤◌}
+use Rattle.std.proofs.Common.{◌-◌, ◌≤◌}
 use Rattle.table.specs.Edges.{arrays}
 use Rattle.stream_encode.proofs.Putting.{Puts}
 use Rattle.stream_encode.proofs.Putting.{closed}

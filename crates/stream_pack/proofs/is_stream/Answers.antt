@@ -1,5 +1,6 @@
 -- `stream_pack::is_stream` meets its contract: the limit, the length, then the fill.
-use Rattle.laws.proofs.All.{◌≡◌, sym, ◌∙◌, arith, length}
+use Rattle.std.proofs.Common.{◌≡◌}
+use Rattle.laws.proofs.All.{sym, ◌∙◌, arith, length}
 use Rattle.stream_pack.specs.Streams.{stream_size}
 use Rattle.stream_pack.proofs.Streams.{few_bits}
 use Rattle.stream_pack.proofs.Checks.{stream-long, stream-other, stream-fill}

@@ -1,5 +1,6 @@
 -- `stream_pack::is_width` meets its contract.
-use Rattle.laws.proofs.All.{sym, ap, ◌&&◌, leb, lt-leb, le-leb}
+use Rattle.std.proofs.Common.{◌&&◌}
+use Rattle.laws.proofs.All.{sym, ap, leb, lt-leb, le-leb}
 use Rattle.stream_pack.proofs.is_width.Goals as goal
 
 pub returns-then-q-lt1 : goal.returns-then-q-lt1

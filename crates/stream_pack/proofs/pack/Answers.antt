@@ -1,5 +1,6 @@
 -- `stream_pack::pack` meets its contract: the checks in their order, then the stream.
-use Rattle.laws.proofs.All.{◌≡◌, sym, ap, ◌∙◌, true, ◌++◌, ◌^◌, arith, length, drop}
+use Rattle.std.proofs.Common.{◌≡◌, ◌++◌, ◌^◌}
+use Rattle.laws.proofs.All.{sym, ap, ◌∙◌, true, arith, length, drop}
 use Rattle.answer.specs.declared.Refusal.TheVariants.{Parameters, BadByte, ShortOutput, Stream}
 use Rattle.answer.proofs.Answered.{declined, finished}
 use Rattle.answer.proofs.FirstBad.{all-below}

@@ -1,5 +1,6 @@
 -- `stream_pack::unpack` meets its contract: the checks in their order, then the words.
-use Rattle.laws.proofs.All.{◌≡◌, sym, subst, ◌∙◌, true, T, length}
+use Rattle.std.proofs.Common.{◌≡◌}
+use Rattle.laws.proofs.All.{sym, subst, ◌∙◌, true, T, length}
 use Rattle.answer.specs.declared.Refusal.TheVariants.{Parameters, ShortOutput, Stream}
 use Rattle.answer.proofs.Answered.{declined, finished}
 use Rattle.stream_pack.specs.Streams.{good_width, good_stream, unpacked, unpack_into}

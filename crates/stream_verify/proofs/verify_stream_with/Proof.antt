@@ -1,6 +1,7 @@
 -- The checks in their order, then the count, part by part.
 -- Assumes nothing.
-use Rattle.laws.proofs.All.{◌≡◌, sym, ap, subst, ◌∙◌, true, not-true, not-false, now, T, needs}
+use Rattle.std.proofs.Common.{◌≡◌}
+use Rattle.laws.proofs.All.{sym, ap, subst, ◌∙◌, true, not-true, not-false, now, T, needs}
 use Rattle.answer.specs.Outcomes.{answer_of}
 use Rattle.table.specs.Value.{ready}
 use Rattle.table.proofs.ReadyTables.{ready→}

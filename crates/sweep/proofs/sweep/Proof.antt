@@ -1,6 +1,7 @@
 -- `sweep` is safe. The loop's invariant: i is within the numbers. The measure is what is left of them.
 -- Assumes nothing.
-use Rattle.laws.proofs.All.{◌-◌, ◌≤◌, arith, needs}
+use Rattle.std.proofs.Common.{◌-◌, ◌≤◌}
+use Rattle.laws.proofs.All.{arith, needs}
 use Rattle.sweep.proofs.sweep.Statement.{statement}
 use Rattle.sweep.proofs.sweep.Tie as tie
 

@@ -1,4 +1,5 @@
-use Rattle.laws.proofs.All.{◌≡◌, true, ◌-◌, ◌*◌, ◌<◌, arith, get_or}
+use Rattle.std.proofs.Common.{◌≡◌, ◌-◌, ◌*◌, ◌<◌}
+use Rattle.laws.proofs.All.{true, arith, get_or}
 use Rattle.table.specs.Edges.{arrays, next_of, bears, last_below}
 use Rattle.table.proofs.Edges.{bears-edge, link-below, on-le, on-bears}
 use Rattle.table_words.proofs.Gathers.{part-start, part-jump, part_edge, part-done}

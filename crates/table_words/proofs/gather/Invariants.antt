@@ -1,5 +1,6 @@
 -- The loop goes along the chain of the word from its last edge to its first; what is left to gather is below `cur`.
-use Rattle.laws.proofs.All.{◌≡◌, true, ◌-◌, ◌*◌, ◌≤◌, ◌<◌}
+use Rattle.std.proofs.Common.{◌≡◌, ◌-◌, ◌*◌, ◌≤◌, ◌<◌}
+use Rattle.laws.proofs.All.{true}
 use Rattle.table.specs.Edges.{arrays, bears}
 use Rattle.table_words.proofs.Gathers.{Partly}
 use Rattle.table_words.proofs.gather.Given as goal

@@ -1,5 +1,6 @@
 -- The two answers of the test of the state.
-use Rattle.laws.proofs.All.{sym, ap, ◌∙◌, ◌&&◌}
+use Rattle.std.proofs.Common.{◌&&◌}
+use Rattle.laws.proofs.All.{sym, ap, ◌∙◌}
 use Rattle.bitsets.specs.BitSets.{holds, set_at}
 use Rattle.table_words.proofs.known.Goals as goal
 

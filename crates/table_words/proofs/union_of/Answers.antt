@@ -1,4 +1,5 @@
-use Rattle.laws.proofs.All.{◌≡◌, refl, ap, ◌∙◌, ◌||◌, List, [], ◌∷◌, ℕ, ◌≤◌, ◌<◌, arith, length, get_or}
+use Rattle.std.proofs.Common.{◌≡◌, ◌||◌, ◌∷◌, ◌≤◌, ◌<◌}
+use Rattle.laws.proofs.All.{refl, ap, ◌∙◌, List, [], ℕ, arith, length, get_or}
 use Rattle.laws.proofs.All.{length-drop}
 use Rattle.bitsets.specs.BitSets.{value_of, holds, members_of}
 use Rattle.bitsets.proofs.Places.{places-each}

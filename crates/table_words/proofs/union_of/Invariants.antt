@@ -1,5 +1,6 @@
 -- The loop goes over the states of the set from the lowest on, as many as it has, and joins their sets.
-use Rattle.laws.proofs.All.{◌≡◌, T, length, get_or}
+use Rattle.std.proofs.Common.{◌≡◌}
+use Rattle.laws.proofs.All.{T, length, get_or}
 use Rattle.bitsets.specs.BitSets.{holds, members_of}
 use Rattle.bitsets.proofs.Members.{Walked}
 use Rattle.table_words.specs.Gathered.{holds_in}

@@ -1,5 +1,6 @@
 -- An edge that carries the datum changes nothing; another puts its target into the set of its state.
-use Rattle.laws.proofs.All.{◌≡◌, sym, ap, ◌∙◌, false, ◌&&◌, ◌||◌, or-false, ℕ, ◌/◌, eqb, get_or}
+use Rattle.std.proofs.Common.{◌≡◌, ◌&&◌, ◌||◌, ◌/◌}
+use Rattle.laws.proofs.All.{sym, ap, ◌∙◌, false, or-false, ℕ, eqb, get_or}
 use Rattle.bitsets.specs.BitSets.{holds}
 use Rattle.table_words.specs.Gathered.{leaves, led}
 use Rattle.table_words.proofs.Gathers.{leaves-no, leaves-yes, put-led}

@@ -1,4 +1,5 @@
-use Rattle.laws.proofs.All.{◌≡◌, sym, ap, ◌∙◌, ◌+◌, add-one, arith, set, get_or, length-set}
+use Rattle.std.proofs.Common.{◌≡◌, ◌+◌}
+use Rattle.laws.proofs.All.{sym, ap, ◌∙◌, add-one, arith, set, get_or, length-set}
 use Rattle.laws.proofs.All.{paste, paste-zero, paste-suc}
 use Rattle.text.proofs.copy.Goals as goal
 

@@ -1,6 +1,7 @@
 -- `copy` meets its contract. The loop's invariant: the first i bytes of the text stand at their place, and all other
 -- bytes are as they were. The measure is what is left of the n bytes.
-use Rattle.laws.proofs.All.{◌≡◌, ◌-◌, ◌≤◌, length}
+use Rattle.std.proofs.Common.{◌≡◌, ◌-◌, ◌≤◌}
+use Rattle.laws.proofs.All.{length}
 use Rattle.laws.proofs.All.{paste}
 use Rattle.text.proofs.copy.Given as goal
 

@@ -1,5 +1,6 @@
 -- `put_bit` meets its contract: the bit is 0 or 1.
-use Rattle.laws.proofs.All.{◌≡◌, subst, ◌/◌, ◌%◌, ◌^◌, arith, pow_pos}
+use Rattle.std.proofs.Common.{◌≡◌, ◌/◌, ◌%◌, ◌^◌}
+use Rattle.laws.proofs.All.{subst, arith, pow_pos}
 use Rattle.text.proofs.Adding.{added-same}
 use Rattle.text.proofs.Words.{bit-none, bit-one}
 use Rattle.text.proofs.put_bit.Goals as goal

@@ -1,4 +1,5 @@
-use Rattle.laws.proofs.All.{◌≡◌, refl, sym, ap, ◌∙◌, [], ◌∷◌, ◌++◌, append-nil, ◌-◌, ◌/◌, ◌%◌, ◌^◌}
+use Rattle.std.proofs.Common.{◌≡◌, ◌∷◌, ◌++◌, ◌-◌, ◌/◌, ◌%◌, ◌^◌}
+use Rattle.laws.proofs.All.{refl, sym, ap, ◌∙◌, [], append-nil}
 use Rattle.laws.proofs.All.{arith}
 use Rattle.text.proofs.Adding.{added-same, ◌then◌, begun}
 use Rattle.text.specs.Words.{digit, binary}

@@ -1,6 +1,7 @@
 -- `put_word` meets its contract. The loop's invariant: the text put since the loop began, with the last k
 -- digits after it, is the word. The measure is k.
-use Rattle.laws.proofs.All.{◌≡◌, List, ◌++◌, ℕ, ◌≤◌}
+use Rattle.std.proofs.Common.{◌≡◌, ◌++◌, ◌≤◌}
+use Rattle.laws.proofs.All.{List, ℕ}
 use Rattle.text.specs.Texts.{Added}
 use Rattle.text.specs.Words.{binary}
 use Rattle.text.proofs.put_word.Given as goal

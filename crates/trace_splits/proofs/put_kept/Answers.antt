@@ -1,8 +1,8 @@
-use Rattle.laws.proofs.All.{◌-◌, arith}
+use Rattle.laws.proofs.All.{arith}
 use Rattle.text.proofs.Adding.{added_more, begun}
 use Rattle.trace_splits.specs.SplitText.{kept_text}
 use Rattle.trace_splits.proofs.Kept.{keys-more, kept-told}
-use Rattle.std.proofs.Common.{rules}
+use Rattle.std.proofs.Common.{◌-◌, rules}
 use Rattle.trace_splits.proofs.put_kept.Goals as goal
 
 pub returns : goal.returns

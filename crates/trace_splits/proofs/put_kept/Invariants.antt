@@ -1,6 +1,7 @@
 -- `put_kept` meets its contract. The loop's invariant: the text put since the loop began has the edges passed. The
 -- measure is what is left of them.
-use Rattle.laws.proofs.All.{◌≡◌, ◌-◌, ◌≤◌, length}
+use Rattle.std.proofs.Common.{◌≡◌, ◌-◌, ◌≤◌}
+use Rattle.laws.proofs.All.{length}
 use Rattle.text.specs.Texts.{Added}
 use Rattle.trace_splits.proofs.Kept.{keys_text}
 use Rattle.trace_splits.proofs.put_kept.Given as goal

@@ -1,4 +1,4 @@
-use Rattle.laws.proofs.All.{◌-◌}
+use Rattle.std.proofs.Common.{◌-◌}
 use Rattle.text.proofs.Adding.{added_more, begun}
 use Rattle.trace_splits.specs.SplitText.{graph_line}
 use Rattle.trace_splits.proofs.SplitTexts.{told-start, told-end, told-ripe, told-crowded, told_more}

@@ -1,6 +1,6 @@
 -- `put_splits` meets its contract. The loop's invariant: the splits left lead from the graph in work to the end, and
 -- their lines are those that are left. Each split makes one state more, and there are at most 128.
-use Rattle.laws.proofs.All.{◌-◌}
+use Rattle.std.proofs.Common.{◌-◌}
 use Rattle.trace_splits.proofs.SplitTexts.{Told}
 use Rattle.trace_splits.proofs.put_splits.Given as goal
 

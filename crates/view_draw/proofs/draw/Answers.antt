@@ -1,5 +1,6 @@
 -- `draw` meets its contract: nothing, the diagram or the matrix.
-use Rattle.laws.proofs.All.{◌≡◌, sym, subst, ◌∙◌, true, T}
+use Rattle.std.proofs.Common.{◌≡◌}
+use Rattle.laws.proofs.All.{sym, subst, ◌∙◌, true, T}
 use Rattle.table.specs.Value.{Ready, ready}
 use Rattle.table.proofs.ReadyTables.{ready→}
 use Rattle.text.proofs.Adding.{added-same}

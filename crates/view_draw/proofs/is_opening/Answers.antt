@@ -1,4 +1,5 @@
-use Rattle.laws.proofs.All.{◌≡◌, sym, ap, ◌∙◌, false, ◌-◌, arith}
+use Rattle.std.proofs.Common.{◌≡◌, ◌-◌}
+use Rattle.laws.proofs.All.{sym, ap, ◌∙◌, false, arith}
 use Rattle.table.specs.Marks.{some}
 use Rattle.table.specs.Value.{next_at}
 use Rattle.table.proofs.Marks.{none-start, none_more}

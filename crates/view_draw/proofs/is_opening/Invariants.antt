@@ -1,5 +1,6 @@
 -- `is_opening` meets its contract: no datum below j leads where d leads; the first that does ends the loop.
-use Rattle.laws.proofs.All.{◌≡◌, false, ◌-◌, ◌≤◌, ◌<◌}
+use Rattle.std.proofs.Common.{◌≡◌, ◌-◌, ◌≤◌, ◌<◌}
+use Rattle.laws.proofs.All.{false}
 use Rattle.table.specs.Marks.{some}
 use Rattle.table.specs.Value.{next_at}
 use Rattle.view_draw.specs.Drawn.{joined}

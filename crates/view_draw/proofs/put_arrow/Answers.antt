@@ -1,4 +1,5 @@
-use Rattle.laws.proofs.All.{◌≡◌, sym, ap, ◌∙◌, ◌++◌, ◌+◌, ◌-◌, arith}
+use Rattle.std.proofs.Common.{◌≡◌, ◌++◌, ◌+◌, ◌-◌}
+use Rattle.laws.proofs.All.{sym, ap, ◌∙◌, arith}
 use Rattle.table.specs.Value.{word_at, next_at}
 use Rattle.text.specs.Words.{binary}
 use Rattle.text.proofs.Adding.{added-same, ◌then◌, begun}
@@ -56,7 +57,7 @@ loop-j-preserved c =
       omega (arith, l.invariant.0),
       omega (arith, c.loop-j-test.true),
       elim c.if-is_joined.branch [
-        then-is_joined w ↦ added-same (others-joined a.code.q word next a.d l.j l.invariant.0
+        | then-is_joined w ↦ added-same (others-joined a.code.q word next a.d l.j l.invariant.0
             (sym c.is_joined.ensures.answer ∙ w.if-is_joined.true))
             (added-here w.out-is w.at-is (l.invariant.2 then w.put_label-at-then-is_joined.ensures.written))
         | else-is_joined w ↦ added-same (others_apart a.code.q word next a.d l.j

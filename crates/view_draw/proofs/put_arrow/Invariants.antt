@@ -1,6 +1,6 @@
 -- `put_arrow` meets its contract. The loop's invariant: the text put since the loop began has what the data passed
 -- add.
-use Rattle.laws.proofs.All.{◌-◌, ◌≤◌, ◌<◌}
+use Rattle.std.proofs.Common.{◌-◌, ◌≤◌, ◌<◌}
 use Rattle.table.specs.Value.{word_at, next_at}
 use Rattle.text.specs.Texts.{Added}
 use Rattle.view_draw.specs.Drawn.{others}

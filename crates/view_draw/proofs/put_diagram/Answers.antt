@@ -1,4 +1,5 @@
-use Rattle.laws.proofs.All.{◌≡◌, sym, ap, ◌∙◌, ◌*◌, ◌-◌, mod-lt, arith}
+use Rattle.std.proofs.Common.{◌≡◌, ◌*◌, ◌-◌}
+use Rattle.laws.proofs.All.{sym, ap, ◌∙◌, mod-lt, arith}
 use Rattle.text.proofs.Adding.{added-same, ◌then◌, begun}
 use Rattle.view_draw.specs.Drawn.{arrows_to, opening}
 use Rattle.view_listing.proofs.Edges.{edges_few, EdgeAt, edge-good}
@@ -37,7 +38,7 @@ loop-e-preserved c =
     let l = c.loop-e in (
       omega (arith, c.loop-e-test.true),
       elim c.if-is_opening.branch [
-        then-is_opening w ↦ added-same (arrows-open c.args.t c.args.n l.e c.requires.1
+        | then-is_opening w ↦ added-same (arrows-open c.args.t c.args.n l.e c.requires.1
             (sym c.is_opening.ensures.answer ∙ w.if-is_opening.true))
             (added-here w.out-is w.at-is (l.invariant.1 then w.put_arrow-at.ensures.written))
         | else-is_opening w ↦ added-same (arrows-same c.args.t c.args.n l.e c.requires.1

@@ -1,6 +1,6 @@
 -- `put_diagram` meets its contract. The loop's invariant: the text put since the loop began has the arrows of the edges
 -- passed. The measure is what is left of the edges.
-use Rattle.laws.proofs.All.{◌-◌, ◌≤◌}
+use Rattle.std.proofs.Common.{◌-◌, ◌≤◌}
 use Rattle.text.specs.Texts.{Added}
 use Rattle.view_draw.specs.Drawn.{arrows_to}
 use Rattle.view_draw.proofs.put_diagram.Given as goal

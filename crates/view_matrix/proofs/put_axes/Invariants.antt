@@ -1,5 +1,5 @@
 -- `put_axes` meets its contract. The loop's invariant: the text put since the loop began has the states passed.
-use Rattle.laws.proofs.All.{◌-◌, ◌≤◌}
+use Rattle.std.proofs.Common.{◌-◌, ◌≤◌}
 use Rattle.text.specs.Texts.{Added}
 use Rattle.view_matrix.specs.Matrix.{row_text, in_row}
 use Rattle.view_matrix.proofs.put_axes.Given as goal

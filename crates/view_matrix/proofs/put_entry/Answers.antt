@@ -1,5 +1,6 @@
 -- `put_entry` meets its contract: its places are those of its column and its row.
-use Rattle.laws.proofs.All.{ap, ap₂, ◌∙◌, ◌+◌, ◌*◌, ◌/◌, ◌%◌}
+use Rattle.std.proofs.Common.{◌+◌, ◌*◌, ◌/◌, ◌%◌}
+use Rattle.laws.proofs.All.{ap, ap₂, ◌∙◌}
 use Rattle.text.proofs.Adding.{added-same}
 use Rattle.view_matrix.specs.Matrix.{column_x, entry}
 use Rattle.view_matrix.proofs.put_entry.Goals as goal

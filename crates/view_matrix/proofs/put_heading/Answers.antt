@@ -1,4 +1,5 @@
-use Rattle.laws.proofs.All.{◌≡◌, ap, ◌∙◌, ◌-◌, arith}
+use Rattle.std.proofs.Common.{◌≡◌, ◌-◌}
+use Rattle.laws.proofs.All.{ap, ◌∙◌, arith}
 use Rattle.text.proofs.Adding.{added-same, ◌then◌, begun}
 use Rattle.view_matrix.specs.Matrix.{column_text, in_row, sizes}
 use Rattle.view_matrix.proofs.Cells.{row-none, row_more, heading-is}

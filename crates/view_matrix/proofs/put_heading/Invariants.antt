@@ -1,5 +1,5 @@
 -- `put_heading` meets its contract. The loop's invariant: the text put since the loop began has the words passed.
-use Rattle.laws.proofs.All.{◌-◌, ◌≤◌}
+use Rattle.std.proofs.Common.{◌-◌, ◌≤◌}
 use Rattle.text.specs.Texts.{Added}
 use Rattle.view_matrix.specs.Matrix.{column_text, in_row}
 use Rattle.view_matrix.proofs.put_heading.Given as goal

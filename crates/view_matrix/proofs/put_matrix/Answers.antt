@@ -1,4 +1,5 @@
-use Rattle.laws.proofs.All.{◌≡◌, sym, ap, subst, ◌*◌, ◌-◌, ◌≤◌, arith}
+use Rattle.std.proofs.Common.{◌≡◌, ◌*◌, ◌-◌, ◌≤◌}
+use Rattle.laws.proofs.All.{sym, ap, subst, arith}
 use Rattle.table.proofs.RowsOf.{ways-small}
 use Rattle.text.proofs.Adding.{added-same, ◌then◌, begun}
 use Rattle.view_matrix.specs.Matrix.{cell}

@@ -1,6 +1,6 @@
 -- `put_matrix` meets its contract. The loop's invariant: the text put since the loop began has the entries of the edges
 -- passed. The measure is what is left of the edges.
-use Rattle.laws.proofs.All.{◌-◌, ◌≤◌}
+use Rattle.std.proofs.Common.{◌-◌, ◌≤◌}
 use Rattle.text.specs.Texts.{Added}
 use Rattle.view_matrix.specs.Matrix.{cell}
 use Rattle.view_listing.specs.Edges.{lines_to}

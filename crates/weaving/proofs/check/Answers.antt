@@ -1,5 +1,6 @@
 -- `check` meets its contract: the checks in their order.
-use Rattle.laws.proofs.All.{◌≡◌, sym, ◌∙◌, true, lt-leb, le-leb}
+use Rattle.std.proofs.Common.{◌≡◌}
+use Rattle.laws.proofs.All.{sym, ◌∙◌, true, lt-leb, le-leb}
 use Rattle.weaving.specs.Weaving.{good_depth}
 use Rattle.weaving.proofs.Checks.{checked-16, checked-13, checked-done}
 use Rattle.weaving.proofs.check.Goals.{Else-not-good}

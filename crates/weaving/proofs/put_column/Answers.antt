@@ -1,4 +1,5 @@
-use Rattle.laws.proofs.All.{◌≡◌, refl, sym, ap, ◌∙◌, ◌++◌, map, append-nil, ◌+◌, ◌*◌, ◌<◌, arith}
+use Rattle.std.proofs.Common.{◌≡◌, ◌++◌, ◌+◌, ◌*◌, ◌<◌}
+use Rattle.laws.proofs.All.{refl, sym, ap, ◌∙◌, map, append-nil, arith}
 use Rattle.laws.proofs.All.{take, drop, get_or, length-set, take-append-drop, mul-le-mul_right, place-lt, from}
 use Rattle.laws.proofs.All.{within_more}
 use Rattle.weaving.specs.Weaving.{transposed_at}

@@ -1,5 +1,6 @@
 -- `put_column` meets its contract: each turn puts one element after those before it.
-use Rattle.laws.proofs.All.{◌≡◌, ◌++◌, map, ◌+◌, ◌-◌, ◌*◌, ◌≤◌, length}
+use Rattle.std.proofs.Common.{◌≡◌, ◌++◌, ◌+◌, ◌-◌, ◌*◌, ◌≤◌}
+use Rattle.laws.proofs.All.{map, length}
 use Rattle.laws.proofs.All.{take, drop, from}
 use Rattle.weaving.specs.Weaving.{transposed_at}
 use Rattle.weaving.proofs.put_column.Given as goal

@@ -1,4 +1,5 @@
-use Rattle.laws.proofs.All.{◌≡◌, refl, ap, ◌∙◌, ◌++◌, map, ◌+◌, ◌-◌, ◌*◌, mul_comm, arith, take}
+use Rattle.std.proofs.Common.{◌≡◌, ◌++◌, ◌+◌, ◌-◌, ◌*◌}
+use Rattle.laws.proofs.All.{refl, ap, ◌∙◌, map, mul_comm, arith, take}
 use Rattle.laws.proofs.All.{drop, from, range, piece-more}
 use Rattle.weaving.specs.Weaving.{transposed_at, transposed}
 use Rattle.weaving.proofs.put_columns.Goals as goal

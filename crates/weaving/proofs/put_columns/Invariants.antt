@@ -1,5 +1,6 @@
 -- `put_columns` meets its contract: each turn puts one column after those before it.
-use Rattle.laws.proofs.All.{◌≡◌, ◌++◌, map, ◌-◌, ◌*◌, ◌≤◌, length}
+use Rattle.std.proofs.Common.{◌≡◌, ◌++◌, ◌-◌, ◌*◌, ◌≤◌}
+use Rattle.laws.proofs.All.{map, length}
 use Rattle.laws.proofs.All.{drop, range}
 use Rattle.weaving.specs.Weaving.{transposed_at}
 use Rattle.weaving.proofs.put_columns.Given as goal

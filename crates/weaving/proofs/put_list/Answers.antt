@@ -1,4 +1,5 @@
-use Rattle.laws.proofs.All.{◌≡◌, refl, sym, subst, ◌+◌, ◌*◌, ◌<◌, mul-le-mul_right, arith, get_or, set}
+use Rattle.std.proofs.Common.{◌≡◌, ◌+◌, ◌*◌, ◌<◌}
+use Rattle.laws.proofs.All.{refl, sym, subst, mul-le-mul_right, arith, get_or, set}
 use Rattle.laws.proofs.All.{place-lt}
 use Rattle.weaving.specs.Spread.{Spread}
 use Rattle.weaving.proofs.Transposed.{in_array}

@@ -1,5 +1,5 @@
 -- `put_list` meets its contract: each turn puts one element at its place.
-use Rattle.laws.proofs.All.{◌≡◌, ◌+◌, ◌-◌, ◌*◌, ◌≤◌}
+use Rattle.std.proofs.Common.{◌≡◌, ◌+◌, ◌-◌, ◌*◌, ◌≤◌}
 use Rattle.weaving.specs.Spread.{Spread}
 use Rattle.weaving.proofs.put_list.Given as goal
 

@@ -1,4 +1,5 @@
-use Rattle.laws.proofs.All.{◌≡◌, subst, arith}
+use Rattle.std.proofs.Common.{◌≡◌}
+use Rattle.laws.proofs.All.{subst, arith}
 use Rattle.weaving.proofs.Spread.{Lists, lists-none, lists-more, lists-all}
 use Rattle.weaving.proofs.put_lists.Goals as goal
 

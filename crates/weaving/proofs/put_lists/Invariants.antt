@@ -1,5 +1,5 @@
 -- `put_lists` meets its contract: each turn puts one list, and all of them are the words read across.
-use Rattle.laws.proofs.All.{◌-◌, ◌≤◌}
+use Rattle.std.proofs.Common.{◌-◌, ◌≤◌}
 use Rattle.weaving.proofs.Spread.{Lists}
 use Rattle.weaving.proofs.put_lists.Given as goal
 

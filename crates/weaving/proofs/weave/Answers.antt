@@ -1,5 +1,6 @@
 -- `weave` meets its contract: the checks, then the words read across.
-use Rattle.laws.proofs.All.{sym, ap, ◌∙◌, ◌++◌, arith, length, drop}
+use Rattle.std.proofs.Common.{◌++◌}
+use Rattle.laws.proofs.All.{sym, ap, ◌∙◌, arith, length, drop}
 use Rattle.answer.specs.Outcomes.{done, onward}
 use Rattle.answer.proofs.Answered.{ends-onward, finished}
 use Rattle.answer.proofs.Outcomes.{said-bad}

@@ -1,5 +1,6 @@
 -- The two answers of the test of 16.
-use Rattle.laws.proofs.All.{sym, ap, ◌||◌, ◌%◌, eqb, eq-eqb, ne_eqb}
+use Rattle.std.proofs.Common.{◌||◌, ◌%◌}
+use Rattle.laws.proofs.All.{sym, ap, eqb, eq-eqb, ne_eqb}
 use Rattle.window_pairs.proofs.is_taken.Goals as goal
 
 pub returns-then-k-eq16 : goal.returns-then-k-eq16

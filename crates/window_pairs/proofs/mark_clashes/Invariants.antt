@@ -1,5 +1,5 @@
 -- Each turn marks where the edges with the word lead of which one carries the datum d and the other does not.
-use Rattle.laws.proofs.All.{◌-◌, ◌≤◌}
+use Rattle.std.proofs.Common.{◌-◌, ◌≤◌}
 use Rattle.table.specs.Edges.{arrays}
 use Rattle.window_pairs.specs.PairSets.{Long, joins_by, Marked}
 use Rattle.window_pairs.proofs.mark_clashes.Given as goal

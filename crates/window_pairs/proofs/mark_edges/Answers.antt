@@ -1,4 +1,5 @@
-use Rattle.laws.proofs.All.{◌≡◌, sym, ap, ◌∙◌, true, ◌&&◌, ◌||◌, ℕ, ◌-◌, ◌*◌, ◌<◌, arith, get_or}
+use Rattle.std.proofs.Common.{◌≡◌, ◌&&◌, ◌||◌, ◌-◌, ◌*◌, ◌<◌}
+use Rattle.laws.proofs.All.{sym, ap, ◌∙◌, true, ℕ, arith, get_or}
 use Rattle.laws.proofs.All.{any}
 use Rattle.table.specs.Edges.{arrays, next_of, bears, last_below}
 use Rattle.table.proofs.Edges.{bears-edge, link-below, on-le, on-bears, on_some}

@@ -1,5 +1,6 @@
 -- The loop goes along the chain of the word from its last edge to its first; what is left to mark is below `cur`.
-use Rattle.laws.proofs.All.{◌≡◌, true, ℕ, ◌-◌, ◌*◌, ◌≤◌, ◌<◌}
+use Rattle.std.proofs.Common.{◌≡◌, ◌-◌, ◌*◌, ◌≤◌, ◌<◌}
+use Rattle.laws.proofs.All.{true, ℕ}
 use Rattle.laws.proofs.All.{any}
 use Rattle.table.specs.Edges.{arrays, bears}
 use Rattle.bitsets.specs.BitSets.{holds, members_of}

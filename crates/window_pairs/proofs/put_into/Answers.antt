@@ -1,5 +1,6 @@
 -- The row with the states, written over the row.
-use Rattle.laws.proofs.All.{ap, ◌∙◌, ◌||◌}
+use Rattle.std.proofs.Common.{◌||◌}
+use Rattle.laws.proofs.All.{ap, ◌∙◌}
 use Rattle.bitsets.specs.BitSets.{holds}
 use Rattle.window_pairs.proofs.SetLaws.{put-row}
 use Rattle.window_pairs.proofs.put_into.Goals as goal

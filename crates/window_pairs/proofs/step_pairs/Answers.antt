@@ -1,4 +1,5 @@
-use Rattle.laws.proofs.All.{refl, ◌∙◌, ℕ, ◌-◌, ◌*◌, arith, length-replicate}
+use Rattle.std.proofs.Common.{◌-◌, ◌*◌}
+use Rattle.laws.proofs.All.{refl, ◌∙◌, ℕ, arith, length-replicate}
 use Rattle.table.specs.Edges.{arrays}
 use Rattle.window_pairs.specs.PairSets.{joins, joins_by}
 use Rattle.window_pairs.proofs.RowMarks.{mark-none, mark-row, mark-clean}

@@ -1,5 +1,6 @@
 -- Each turn marks where the edges with one word lead; before the first no pair is marked.
-use Rattle.laws.proofs.All.{◌≡◌, false, ℕ, ◌-◌, ◌≤◌, ◌<◌}
+use Rattle.std.proofs.Common.{◌≡◌, ◌-◌, ◌≤◌, ◌<◌}
+use Rattle.laws.proofs.All.{false, ℕ}
 use Rattle.table.specs.Edges.{arrays}
 use Rattle.bitsets.specs.BitSets.{holds, set_at}
 use Rattle.window_pairs.specs.PairSets.{Long, joins_by, Marked}

@@ -1,4 +1,5 @@
-use Rattle.laws.proofs.All.{sym, subst, ◌∙◌, ℕ, ◌+◌, ◌-◌, arith, length-replicate}
+use Rattle.std.proofs.Common.{◌+◌, ◌-◌}
+use Rattle.laws.proofs.All.{sym, subst, ◌∙◌, ℕ, arith, length-replicate}
 use Rattle.table.specs.Edges.{arrays, rows_of}
 use Rattle.table.proofs.RowsOf.{length-rows, closed-rows}
 use Rattle.window_pairs.specs.PairSets.{pairs_in}

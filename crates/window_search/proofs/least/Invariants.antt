@@ -1,6 +1,6 @@
 -- While the search goes on, the best window with memory below m and the pairs of memory m are known; at its end, the
 -- best is the least.
-use Rattle.laws.proofs.All.{◌≡◌, ◌+◌, ◌-◌, ◌≤◌, ◌<◌}
+use Rattle.std.proofs.Common.{◌≡◌, ◌+◌, ◌-◌, ◌≤◌, ◌<◌}
 use Rattle.window.specs.Search.{window, pasts}
 use Rattle.table.specs.Edges.{arrays, rows_of}
 use Rattle.window_pairs.specs.PairSets.{pairs_in, Long}

@@ -1,5 +1,6 @@
 -- The chains of the table's edges serve the search; memory 16 is its mark for none.
-use Rattle.laws.proofs.All.{◌≡◌, sym, ap, ◌∙◌, ℕ, length-replicate}
+use Rattle.std.proofs.Common.{◌≡◌}
+use Rattle.laws.proofs.All.{sym, ap, ◌∙◌, ℕ, length-replicate}
 use Rattle.window.specs.Search.{window}
 use Rattle.table.specs.Value.{rows_in}
 use Rattle.table.specs.Edges.{arrays, rows_of}

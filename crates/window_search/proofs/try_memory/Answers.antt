@@ -1,5 +1,6 @@
 -- For memory m the least lookahead is found by steps; it is taken if the pairs of a clash are gone in time.
-use Rattle.laws.proofs.All.{ap, subst, ◌∙◌, arith, ◌≤◌, ◌<◌, length}
+use Rattle.std.proofs.Common.{◌≤◌, ◌<◌}
+use Rattle.laws.proofs.All.{ap, subst, ◌∙◌, arith, length}
 use Rattle.table.specs.Paths.{Closed}
 use Rattle.window.specs.Search.{hits, pasts}
 use Rattle.table.specs.Edges.{arrays, rows_of}

@@ -1,4 +1,5 @@
-use Rattle.laws.proofs.All.{◌+◌, ◌-◌, ◌≡◌, sym, ap, ◌∙◌, arith}
+use Rattle.std.proofs.Common.{◌+◌, ◌-◌, ◌≡◌}
+use Rattle.laws.proofs.All.{sym, ap, ◌∙◌, arith}
 use Rattle.table.specs.Paths.{Closed}
 use Rattle.window.specs.Search.{pasts}
 use Rattle.table.specs.Edges.{arrays, rows_of}

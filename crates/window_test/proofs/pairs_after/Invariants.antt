@@ -1,5 +1,5 @@
 -- After i turns the pairs are those of memory i; once they stay the same they are those of every larger memory.
-use Rattle.laws.proofs.All.{◌-◌, ◌≤◌, ◌≡◌}
+use Rattle.std.proofs.Common.{◌-◌, ◌≤◌, ◌≡◌}
 use Rattle.window.specs.Search.{pasts}
 use Rattle.table.specs.Edges.{arrays, rows_of}
 use Rattle.window_pairs.specs.PairSets.{pairs_in, Long}

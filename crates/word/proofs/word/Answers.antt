@@ -1,5 +1,6 @@
 -- `word` meets its contract: an answer's number is at most the largest of a refusal.
-use Rattle.laws.proofs.All.{sym, ap₂, subst, ◌∙◌, ◌≤◌}
+use Rattle.std.proofs.Common.{◌≤◌}
+use Rattle.laws.proofs.All.{sym, ap₂, subst, ◌∙◌}
 use Rattle.answer.specs.Refusals.{most}
 use Rattle.word.specs.Words.{joined, word_of}
 use Rattle.word.proofs.Words.{number-le}

@@ -1,4 +1,5 @@
-use Rattle.laws.proofs.All.{sym, ap, ◌∙◌, ◌+◌, add-zero, arith}
+use Rattle.std.proofs.Common.{◌+◌}
+use Rattle.laws.proofs.All.{sym, ap, ◌∙◌, add-zero, arith}
 use Rattle.answer.proofs.FirstBad.{bad-here, bad-later, bad-end}
 use Rattle.answer.proofs.bytes.find_bad.Goals as goal
 

@@ -1,5 +1,6 @@
 -- The bytes passed are below n; the first that is not ends the loop.
-use Rattle.laws.proofs.All.{◌≡◌, ◌+◌, ◌-◌, ◌≤◌, length, drop}
+use Rattle.std.proofs.Common.{◌≡◌, ◌+◌, ◌-◌, ◌≤◌}
+use Rattle.laws.proofs.All.{length, drop}
 use Rattle.answer.specs.FirstBad.{first_bad}
 use Rattle.answer.proofs.bytes.find_bad.Given as goal
 

@@ -1,4 +1,5 @@
-use Rattle.laws.proofs.All.{◌≡◌, sym, ap, ◌∙◌, ◌+◌, add-zero, arith, length}
+use Rattle.std.proofs.Common.{◌≡◌, ◌+◌}
+use Rattle.laws.proofs.All.{sym, ap, ◌∙◌, add-zero, arith, length}
 use Rattle.answer.proofs.FirstBad.{bad-later, bad-end}
 use Rattle.answer.proofs.bytes.greatest.Goals as goal
 

@@ -1,5 +1,6 @@
 -- The bytes passed are below every bound above `top`.
-use Rattle.laws.proofs.All.{◌≡◌, ℕ, ◌+◌, ◌-◌, ◌≤◌, ◌<◌, length, drop}
+use Rattle.std.proofs.Common.{◌≡◌, ◌+◌, ◌-◌, ◌≤◌, ◌<◌}
+use Rattle.laws.proofs.All.{ℕ, length, drop}
 use Rattle.answer.specs.FirstBad.{first_bad}
 use Rattle.answer.proofs.bytes.greatest.Given as goal
 

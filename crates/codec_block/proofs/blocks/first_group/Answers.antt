@@ -1,4 +1,5 @@
-use Rattle.laws.proofs.All.{sym, ap, ◌∙◌, ◌+◌, ◌<◌, arith, get_or}
+use Rattle.std.proofs.Common.{◌+◌, ◌<◌}
+use Rattle.laws.proofs.All.{sym, ap, ◌∙◌, arith, get_or}
 use Rattle.codec_groups.specs.Groups.{Within}
 use Rattle.codec_steps.specs.BlockParts.{no_place, joins_at}
 use Rattle.codec_steps.proofs.GroupTurns.{group-small}

@@ -1,5 +1,6 @@
 -- The groups of the word before k do not lead from the one set into the other.
-use Rattle.laws.proofs.All.{◌≡◌, ◌+◌, ◌-◌, ◌≤◌, get_or}
+use Rattle.std.proofs.Common.{◌≡◌, ◌+◌, ◌-◌, ◌≤◌}
+use Rattle.laws.proofs.All.{get_or}
 use Rattle.codec_steps.specs.BlockParts.{no_place, joins_at}
 use Rattle.codec_block.proofs.Scans.{scan}
 use Rattle.codec_block.proofs.blocks.first_group.Given as goal

@@ -1,4 +1,5 @@
-use Rattle.laws.proofs.All.{◌≡◌, sym, ap, ◌∙◌, ◌||◌, ◌+◌, ◌<◌, arith, get_or}
+use Rattle.std.proofs.Common.{◌≡◌, ◌||◌, ◌+◌, ◌<◌}
+use Rattle.laws.proofs.All.{sym, ap, ◌∙◌, arith, get_or}
 use Rattle.codec_groups.specs.Groups.{between}
 use Rattle.codec_groups.proofs.Between.{between-empty}
 use Rattle.codec_steps.specs.BlockParts.{holds_from}

@@ -1,5 +1,6 @@
 -- The groups of the word before k are not those of states of the set.
-use Rattle.laws.proofs.All.{◌≡◌, ◌+◌, ◌-◌, ◌≤◌, get_or}
+use Rattle.std.proofs.Common.{◌≡◌, ◌+◌, ◌-◌, ◌≤◌}
+use Rattle.laws.proofs.All.{get_or}
 use Rattle.codec_groups.specs.Groups.{between}
 use Rattle.codec_steps.specs.BlockParts.{holds_from}
 use Rattle.codec_block.proofs.blocks.has_word.Given as goal

@@ -1,5 +1,6 @@
 -- The group's state first, then its targets.
-use Rattle.laws.proofs.All.{sym, ap, ◌∙◌, ◌&&◌}
+use Rattle.std.proofs.Common.{◌&&◌}
+use Rattle.laws.proofs.All.{sym, ap, ◌∙◌}
 use Rattle.bitsets.specs.BitSets.{meeting}
 use Rattle.codec_groups.specs.Groups.{targets_at}
 use Rattle.codec_block.proofs.blocks.joins.Goals as goal

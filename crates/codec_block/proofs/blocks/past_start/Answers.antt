@@ -1,5 +1,6 @@
 -- State 0 alone below m, all states from m on.
-use Rattle.laws.proofs.All.{ap, ◌∙◌, ◌||◌, arith, eqb}
+use Rattle.std.proofs.Common.{◌||◌}
+use Rattle.laws.proofs.All.{ap, ◌∙◌, arith, eqb}
 use Rattle.codec_block.proofs.blocks.past_start.Goals as goal
 
 pub returns-then-i-m : goal.returns-then-i-m

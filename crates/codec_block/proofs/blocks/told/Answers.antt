@@ -1,5 +1,6 @@
 -- The first edge of the group, or the mark.
-use Rattle.laws.proofs.All.{sym, ap, ◌∙◌, ◌<◌, arith, get_or}
+use Rattle.std.proofs.Common.{◌<◌}
+use Rattle.laws.proofs.All.{sym, ap, ◌∙◌, arith, get_or}
 use Rattle.table.specs.Edges.{arrays, rows_of}
 use Rattle.bitsets.specs.BitSets.{yes_no}
 use Rattle.codec_groups.specs.Groups.{Within}

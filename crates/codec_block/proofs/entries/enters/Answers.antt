@@ -1,5 +1,6 @@
 -- The word first, then the next state.
-use Rattle.laws.proofs.All.{sym, ap, ◌∙◌, ◌&&◌, eq-eqb, ne_eqb, get_or}
+use Rattle.std.proofs.Common.{◌&&◌}
+use Rattle.laws.proofs.All.{sym, ap, ◌∙◌, eq-eqb, ne_eqb, get_or}
 use Rattle.bitsets.specs.BitSets.{holds}
 use Rattle.codec_block.proofs.entries.enters.Goals as goal
 

@@ -1,5 +1,5 @@
 -- The entries before j do not lead into the set by the word.
-use Rattle.laws.proofs.All.{◌≡◌, ◌-◌, ◌≤◌}
+use Rattle.std.proofs.Common.{◌≡◌, ◌-◌, ◌≤◌}
 use Rattle.codec_steps.specs.BlockParts.{no_place, enters_at}
 use Rattle.codec_block.proofs.Scans.{scan}
 use Rattle.codec_block.proofs.entries.first_into.Given as goal

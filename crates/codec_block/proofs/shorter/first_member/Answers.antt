@@ -1,4 +1,5 @@
-use Rattle.laws.proofs.All.{◌≡◌, ap, ◌∙◌, arith}
+use Rattle.std.proofs.Common.{◌≡◌}
+use Rattle.laws.proofs.All.{ap, ◌∙◌, arith}
 use Rattle.bitsets.specs.BitSets.{value_of, meeting}
 use Rattle.bitsets.proofs.Places.{places-each}
 use Rattle.codec_steps.specs.BlockParts.{into_at}

@@ -1,4 +1,5 @@
-use Rattle.laws.proofs.All.{sym, ◌∙◌, ◌+◌, ◌*◌, eq-eqb, ne_eqb}
+use Rattle.std.proofs.Common.{◌+◌, ◌*◌}
+use Rattle.laws.proofs.All.{sym, ◌∙◌, eq-eqb, ne_eqb}
 use Rattle.codec_groups.proofs.FirstEdges.{sought-start, sought-here, sought-next, sought-end}
 use Rattle.codec_groups.proofs.laying.first_edge.Goals as goal
 

@@ -1,5 +1,5 @@
 -- The search goes from the first entry of the state on.
-use Rattle.laws.proofs.All.{◌≡◌, ◌-◌}
+use Rattle.std.proofs.Common.{◌≡◌, ◌-◌}
 use Rattle.codec_groups.specs.Groups.{first_edge}
 use Rattle.codec_groups.proofs.FirstEdges.{sought_from}
 use Rattle.codec_groups.proofs.laying.first_edge.Given as goal

@@ -1,4 +1,5 @@
-use Rattle.laws.proofs.All.{◌≡◌, refl, ◌∙◌, ℕ, ◌+◌, ◌^◌, ◌≤◌, ◌<◌, arith, length, length-replicate}
+use Rattle.std.proofs.Common.{◌≡◌, ◌+◌, ◌^◌, ◌≤◌, ◌<◌}
+use Rattle.laws.proofs.All.{refl, ◌∙◌, ℕ, arith, length, length-replicate}
 use Rattle.laws.proofs.All.{pow_mono}
 use Rattle.table.specs.Edges.{arrays, places}
 use Rattle.bitsets.specs.BitSets.{members_of}

@@ -1,5 +1,6 @@
 -- Each turn writes the groups of one word after those of the words before it.
-use Rattle.laws.proofs.All.{◌≡◌, ◌-◌, ◌^◌, ◌≤◌, length}
+use Rattle.std.proofs.Common.{◌≡◌, ◌-◌, ◌^◌, ◌≤◌}
+use Rattle.laws.proofs.All.{length}
 use Rattle.table.specs.Edges.{arrays, Linked}
 use Rattle.codec_groups.proofs.AllGroups.{Laying}
 use Rattle.codec_groups.proofs.laying.lay.Given as goal

@@ -1,4 +1,5 @@
-use Rattle.laws.proofs.All.{◌≡◌, sym, ap, ◌-◌, ◌<◌, arith, T, length, get_or, length-drop, subst}
+use Rattle.std.proofs.Common.{◌≡◌, ◌-◌, ◌<◌}
+use Rattle.laws.proofs.All.{sym, ap, arith, T, length, get_or, length-drop, subst}
 use Rattle.bitsets.specs.BitSets.{holds, members_of}
 use Rattle.bitsets.proofs.Sets.{members-hold}
 use Rattle.codec_groups.proofs.Puts.{putting-start, putting-at, putting-some, putting-more}

@@ -1,4 +1,5 @@
-use Rattle.laws.proofs.All.{ap, ◌∙◌, ◌||◌, arith, T}
+use Rattle.std.proofs.Common.{◌||◌}
+use Rattle.laws.proofs.All.{ap, ◌∙◌, arith, T}
 use Rattle.bitsets.specs.BitSets.{value_of, holds}
 use Rattle.bitsets.proofs.Places.{places-each}
 use Rattle.bitsets.proofs.Members.{walk_start, walk-in, walk-some, walk-less, walk-next, walk-done}

@@ -1,5 +1,6 @@
 -- Each turn passes a word that the datum at its place spells; a mark or another word ends the loop.
-use Rattle.laws.proofs.All.{◌≡◌, sym, ap, ◌∙◌, List, ℕ, ◌+◌, ◌*◌, ◌-◌, ◌≤◌, ◌<◌, add-zero, zero-add, arith}
+use Rattle.std.proofs.Common.{◌≡◌, ◌+◌, ◌*◌, ◌-◌, ◌≤◌, ◌<◌}
+use Rattle.laws.proofs.All.{sym, ap, ◌∙◌, List, ℕ, add-zero, zero-add, arith}
 use Rattle.laws.proofs.All.{now, length, drop, get_or, needs}
 use Rattle.table.specs.Edges.{Arrays, rows_of, next_of}
 use Rattle.table.proofs.RowsOf.{place-next}

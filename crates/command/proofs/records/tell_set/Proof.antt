@@ -1,6 +1,7 @@
 -- `tell_set` meets its contract: a bad set fails, and one that is listed was good.
 -- Assumes nothing.
-use Rattle.laws.proofs.All.{◌≡◌, refl, sym, subst, ◌∙◌, List, ℕ, arith, now, needs}
+use Rattle.std.proofs.Common.{◌≡◌}
+use Rattle.laws.proofs.All.{refl, sym, subst, ◌∙◌, List, ℕ, arith, now, needs}
 use Rattle.table.specs.Rows.{Code}
 use Rattle.set_check.specs.declared.SetAnswer.TheVariants.{Good}
 use Rattle.set_check.specs.Sets.{Walk, codes, stopped, read_set}

@@ -1,6 +1,7 @@
 -- `view_bytes` meets its contract: a refused record fails, and one that is shown was accepted.
 -- Assumes nothing.
-use Rattle.laws.proofs.All.{◌≡◌, sym, ap, subst, ◌∙◌, now, needs}
+use Rattle.std.proofs.Common.{◌≡◌}
+use Rattle.laws.proofs.All.{sym, ap, subst, ◌∙◌, now, needs}
 use Rattle.answer.specs.declared.Verdict.TheVariants.{Good}
 use Rattle.answer.specs.Outcomes.{Outcome, verdict_on}
 use Rattle.table.specs.Rows.{Code}

@@ -1,5 +1,6 @@
 -- `action_of` meets its contract: the tests are those of the definition, in its order.
-use Rattle.laws.proofs.All.{◌≡◌, sym, ◌∙◌, true, false}
+use Rattle.std.proofs.Common.{◌≡◌}
+use Rattle.laws.proofs.All.{sym, ◌∙◌, true, false}
 use Rattle.text.specs.Texts.{bytes}
 use Rattle.text.specs.Words.{same}
 use Rattle.command_arguments.specs.Naming.{action_of}

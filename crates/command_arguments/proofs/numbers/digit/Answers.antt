@@ -1,5 +1,6 @@
 -- `digit` meets its contract, by cases on the byte.
-use Rattle.laws.proofs.All.{◌-◌, ◌≤◌, min-eq_left, min-eq_right, arith, lt-ltb, le-ltb}
+use Rattle.std.proofs.Common.{◌-◌, ◌≤◌}
+use Rattle.laws.proofs.All.{min-eq_left, min-eq_right, arith, lt-ltb, le-ltb}
 use Rattle.command_arguments.specs.Parsing.{digit_of}
 use Rattle.command_arguments.proofs.numbers.digit.Goals as goal
 

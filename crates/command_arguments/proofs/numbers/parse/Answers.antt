@@ -1,4 +1,5 @@
-use Rattle.laws.proofs.All.{sym, ap, ◌∙◌, ◌+◌, ◌*◌, arith, drop, lt-leb, le-leb}
+use Rattle.std.proofs.Common.{◌+◌, ◌*◌}
+use Rattle.laws.proofs.All.{sym, ap, ◌∙◌, arith, drop, lt-leb, le-leb}
 use Rattle.command_arguments.specs.Parsing.{number_in}
 use Rattle.command_arguments.proofs.Parsing.{number-held, number-on, number-off, number-end, parsed-none}
 use Rattle.command_arguments.proofs.Parsing.{parsed-some}

@@ -1,6 +1,7 @@
 -- `parse` meets its contract. The loop's invariant: the digits passed make n, and the bytes that are left decide. The
 -- measure is what is left of the length.
-use Rattle.laws.proofs.All.{◌≡◌, ◌+◌, ◌-◌, ◌≤◌, length, drop}
+use Rattle.std.proofs.Common.{◌≡◌, ◌+◌, ◌-◌, ◌≤◌}
+use Rattle.laws.proofs.All.{length, drop}
 use Rattle.command_arguments.specs.Parsing.{greatest, number_in, parsed}
 use Rattle.command_arguments.proofs.numbers.parse.Given as goal
 

@@ -1,6 +1,7 @@
 -- `five_said` meets its contract: five numbers, each of which a byte holds. The measure is how many are left.
 -- Assumes nothing.
-use Rattle.laws.proofs.All.{◌≡◌, ◌-◌, ◌≤◌, arith, length, needs}
+use Rattle.std.proofs.Common.{◌≡◌, ◌-◌, ◌≤◌}
+use Rattle.laws.proofs.All.{arith, length, needs}
 use Rattle.command_inputs.proofs.jobs.five_said.Statement.{statement}
 use Rattle.command_inputs.proofs.jobs.five_said.Tie as tie
 

@@ -1,7 +1,8 @@
 -- `weights_said` meets its contract: the five numbers stay, and each weight is one that a byte holds. The measure is
 -- how many are left.
 -- Assumes nothing.
-use Rattle.laws.proofs.All.{◌≡◌, refl, sym, subst, ◌∙◌, T, ◌+◌, ◌-◌, ◌≤◌, arith, length, take, length-set, needs}
+use Rattle.std.proofs.Common.{◌≡◌, ◌+◌, ◌-◌, ◌≤◌}
+use Rattle.laws.proofs.All.{refl, sym, subst, ◌∙◌, T, arith, length, take, length-set, needs}
 use lib.Seq.{take-set-le}
 use Rattle.command_inputs.proofs.jobs.weights_said.Statement.{statement}
 use Rattle.command_inputs.proofs.jobs.weights_said.Tie as tie

@@ -1,6 +1,7 @@
 -- `tell_reach` meets its contract: a refused reach fails, and bits in their order have led to one that is told.
 -- Assumes nothing.
-use Rattle.laws.proofs.All.{◌≡◌, sym, ◌∙◌, ℕ, ◌≤◌, arith, now, needs}
+use Rattle.std.proofs.Common.{◌≡◌, ◌≤◌}
+use Rattle.laws.proofs.All.{sym, ◌∙◌, ℕ, arith, now, needs}
 use Rattle.answer.specs.Outcomes.{Outcome, done, refused}
 use Rattle.stream_damage.specs.declared.BlockRange.{BlockRange}
 use Rattle.stream_damage.specs.declared.ReachAnswer.{ReachAnswer}

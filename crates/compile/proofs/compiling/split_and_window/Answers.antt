@@ -1,6 +1,7 @@
 -- `split_and_window` meets its contract: splitting ends with n ways out of each state or with too many edges, and the
 -- table of the finished graph, with its data, is the job's.
-use Rattle.laws.proofs.All.{sym, ◌∙◌, ◌≤◌, arith}
+use Rattle.std.proofs.Common.{◌≤◌}
+use Rattle.laws.proofs.All.{sym, ◌∙◌, arith}
 use Rattle.compile_job.specs.JobValues.{job_in}
 use Rattle.compile.proofs.CompileSteps.{compile-crowded, begun-splits, begun-crowded, begun-finished}
 use Rattle.compile.proofs.CompileTable.{table-ready, table-code}

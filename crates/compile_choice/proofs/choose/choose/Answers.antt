@@ -1,4 +1,5 @@
-use Rattle.laws.proofs.All.{◌≡◌, refl, sym, subst, ◌+◌, ◌-◌, arith}
+use Rattle.std.proofs.Common.{◌≡◌, ◌+◌, ◌-◌}
+use Rattle.laws.proofs.All.{refl, sym, subst, arith}
 use Rattle.compile_choice.proofs.Choosing.{Lowest, lowest-none, lowest-more, lightens, source_at, choose-is}
 use Rattle.compile_choice.proofs.choose.choose.Goals as goal
 

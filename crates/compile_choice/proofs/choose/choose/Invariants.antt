@@ -1,5 +1,5 @@
 -- The lowest source of an edge that leads from a state of the greatest weight to a lighter one.
-use Rattle.laws.proofs.All.{◌≡◌, ◌-◌, ◌≤◌}
+use Rattle.std.proofs.Common.{◌≡◌, ◌-◌, ◌≤◌}
 use Rattle.compile_choice.proofs.Choosing.{Lowest, lightens, source_at}
 use Rattle.compile_choice.proofs.choose.choose.Given as goal
 

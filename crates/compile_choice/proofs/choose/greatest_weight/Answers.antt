@@ -1,4 +1,5 @@
-use Rattle.laws.proofs.All.{◌≡◌, refl, ap, ◌∙◌, ⊎_elim, map, ◌-◌, arith, range}
+use Rattle.std.proofs.Common.{◌≡◌, ◌-◌}
+use Rattle.laws.proofs.All.{refl, ap, ◌∙◌, ⊎_elim, map, arith, range}
 use Rattle.compile_graph.specs.Splitting.{greatest}
 use Rattle.compile_graph.specs.Value.{weight_at}
 use Rattle.compile_choice.proofs.Choosing.{greatest-more}

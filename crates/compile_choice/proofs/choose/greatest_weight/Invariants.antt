@@ -1,5 +1,6 @@
 -- The greatest of the weights passed so far.
-use Rattle.laws.proofs.All.{◌≡◌, map, ◌-◌, ◌≤◌, range}
+use Rattle.std.proofs.Common.{◌≡◌, ◌-◌, ◌≤◌}
+use Rattle.laws.proofs.All.{map, range}
 use Rattle.compile_graph.specs.Splitting.{greatest}
 use Rattle.compile_graph.specs.Value.{weight_at}
 use Rattle.compile_choice.proofs.choose.greatest_weight.Given as goal

@@ -1,6 +1,6 @@
-use Rattle.laws.proofs.All.{◌≡◌, subst, ◌-◌, arith, length, take, length-take-le}
+use Rattle.laws.proofs.All.{subst, arith, length, take, length-take-le}
 use Rattle.compile_choice.proofs.RunSearch.{Without, without_more, first_found, first-nowhere}
-use Rattle.std.proofs.Common.{rules}
+use Rattle.std.proofs.Common.{◌≡◌, ◌-◌, rules}
 use Rattle.compile_choice.proofs.find_run.first_run.Goals as goal
 
 pub returns-then-r-gt0 : goal.returns-then-r-gt0

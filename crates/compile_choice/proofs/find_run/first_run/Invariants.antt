@@ -1,5 +1,6 @@
 -- The places are tried from the first on, and the first that ends a run ends the search.
-use Rattle.laws.proofs.All.{◌-◌, ◌≤◌, take}
+use Rattle.std.proofs.Common.{◌-◌, ◌≤◌}
+use Rattle.laws.proofs.All.{take}
 use Rattle.compile_choice.proofs.RunSearch.{Without}
 use Rattle.compile_choice.proofs.find_run.first_run.Given as goal
 

@@ -1,6 +1,6 @@
-use Rattle.laws.proofs.All.{◌≡◌, ◌-◌, arith, length, take}
+use Rattle.laws.proofs.All.{arith, length, take}
 use Rattle.compile_choice.proofs.RunSearch.{summed-more, stretch-small, run-found, run_none}
-use Rattle.std.proofs.Common.{rules}
+use Rattle.std.proofs.Common.{◌≡◌, ◌-◌, rules}
 use Rattle.compile_choice.proofs.find_run.run_to.Goals as goal
 
 pub overflow_add-total : goal.overflow_add-total

@@ -1,5 +1,6 @@
 -- The weights are summed from place j back, and the first sum that n divides is that of the shortest run.
-use Rattle.laws.proofs.All.{◌+◌, ◌-◌, ◌≤◌, take}
+use Rattle.std.proofs.Common.{◌+◌, ◌-◌, ◌≤◌}
+use Rattle.laws.proofs.All.{take}
 use Rattle.compile_choice.proofs.RunSearch.{Summed}
 use Rattle.compile_choice.proofs.find_run.run_to.Given as goal
 

@@ -1,5 +1,6 @@
 -- Where s is not in the component, nothing is added.
-use Rattle.laws.proofs.All.{sym, subst, [], false, le-ltb, lt-ltb, get_or, if◌then◌else◌}
+use Rattle.std.proofs.Common.{if◌then◌else◌}
+use Rattle.laws.proofs.All.{sym, subst, [], false, le-ltb, lt-ltb, get_or}
 use Rattle.compile_component.specs.ComponentParts.{row_arcs, Added}
 use Rattle.compile_component.proofs.AppendedRows.{added_none}
 use Rattle.compile_component.proofs.component_graph.add_state.Goals as goal

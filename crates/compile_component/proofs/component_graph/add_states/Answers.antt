@@ -1,4 +1,5 @@
-use Rattle.laws.proofs.All.{◌≡◌, refl, sym, subst, ◌-◌, arith, false, map, range, concat}
+use Rattle.std.proofs.Common.{◌≡◌, ◌-◌}
+use Rattle.laws.proofs.All.{refl, sym, subst, arith, false, map, range, concat}
 use Rattle.compile_component.specs.ComponentParts.{row_of_state, Added}
 use Rattle.compile_component.proofs.AppendedRows.{Done, done_none, done_more, done-over, done_end}
 use Rattle.compile_component.proofs.component_graph.add_states.Goals as goal

@@ -1,5 +1,6 @@
 -- State by state, until there are too many edges.
-use Rattle.laws.proofs.All.{◌≡◌, ◌-◌, ◌≤◌, false}
+use Rattle.std.proofs.Common.{◌≡◌, ◌-◌, ◌≤◌}
+use Rattle.laws.proofs.All.{false}
 use Rattle.compile_component.specs.ComponentParts.{row_of_state}
 use Rattle.compile_component.proofs.AppendedRows.{Done}
 use Rattle.compile_component.proofs.component_graph.add_states.Given as goal

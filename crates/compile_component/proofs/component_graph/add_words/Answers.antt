@@ -1,7 +1,7 @@
-use Rattle.laws.proofs.All.{◌≡◌, refl, subst, ⊎_elim, ◌-◌, arith, length}
+use Rattle.laws.proofs.All.{refl, subst, ⊎_elim, arith, length}
 use Rattle.compile_component.proofs.AppendedRows.{Rowed, rowed-yes, rowed-no, rowed-over, rowed-end}
 use Rattle.compile_graph.proofs.Values.{appended-none}
-use Rattle.std.proofs.Common.{rules}
+use Rattle.std.proofs.Common.{◌≡◌, ◌-◌, rules}
 use Rattle.compile_component.proofs.component_graph.add_words.Goals as goal
 use Rattle.compile_component.proofs.component_graph.add_words.Goals.{else-t-lt16, then-t-lt16+else-m-ge2048}
 

@@ -1,5 +1,6 @@
 -- Each word that leads into the component is appended; that there would be too many edges is said before a store.
-use Rattle.laws.proofs.All.{◌≡◌, ◌-◌, ◌≤◌, get_or}
+use Rattle.std.proofs.Common.{◌≡◌, ◌-◌, ◌≤◌}
+use Rattle.laws.proofs.All.{get_or}
 use Rattle.compile_component.proofs.AppendedRows.{Rowed}
 use Rattle.compile_component.proofs.component_graph.add_words.Given as goal
 

@@ -1,11 +1,11 @@
 -- The parts in their order; the law `found_in` puts them together.
-use Rattle.laws.proofs.All.{◌≡◌, length, take}
+use Rattle.laws.proofs.All.{length, take}
 use Rattle.compile_graph.specs.Component.{within, live, reachings}
 use Rattle.compile_weights.specs.PowerTable.{tabled}
 use Rattle.compile_reach.specs.ReachSets.{rows_of}
 use Rattle.compile_component.proofs.LiveArcs.{linked-is}
 use Rattle.compile_component.proofs.ComponentValue.{state-low, found_in}
-use Rattle.std.proofs.Common.{rules}
+use Rattle.std.proofs.Common.{◌≡◌, rules}
 use Rattle.compile_component.proofs.component_graph.find_component.Goals.{After-list_members-list}
 use Rattle.compile_component.proofs.component_graph.find_component.Goals as goal
 

@@ -1,6 +1,6 @@
-use Rattle.laws.proofs.All.{◌≡◌, refl, ap, ◌∙◌, map, ◌-◌, arith, length, get_or, take, sum, tot-take-more}
+use Rattle.laws.proofs.All.{refl, ap, ◌∙◌, map, arith, length, get_or, take, sum, tot-take-more}
 use Rattle.laws.proofs.All.{}
-use Rattle.std.proofs.Common.{rules}
+use Rattle.std.proofs.Common.{◌≡◌, ◌-◌, rules}
 use Rattle.compile_component.proofs.component_graph.total_weight.Goals as goal
 
 pub offset_bounds-v-list : goal.offset_bounds-v-list

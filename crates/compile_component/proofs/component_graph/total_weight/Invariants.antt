@@ -1,5 +1,6 @@
 -- The weights are summed one by one.
-use Rattle.laws.proofs.All.{◌≡◌, map, ◌-◌, ◌*◌, ◌≤◌, get_or, take, sum}
+use Rattle.std.proofs.Common.{◌≡◌, ◌-◌, ◌*◌, ◌≤◌}
+use Rattle.laws.proofs.All.{map, get_or, take, sum}
 use Rattle.compile_component.proofs.component_graph.total_weight.Given as goal
 
 abbrev pub invariant-loop-i : goal.invariant-loop-i

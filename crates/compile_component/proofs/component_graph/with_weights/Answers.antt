@@ -1,6 +1,6 @@
-use Rattle.laws.proofs.All.{◌≡◌, refl, subst, ◌-◌, arith, length, get_or, Filled, fill_more}
+use Rattle.laws.proofs.All.{refl, subst, arith, length, get_or, Filled, fill_more}
 use Rattle.compile_component.proofs.ComponentWeights.{weights-filled}
-use Rattle.std.proofs.Common.{rules}
+use Rattle.std.proofs.Common.{◌≡◌, ◌-◌, rules}
 use Rattle.compile_component.proofs.component_graph.with_weights.Goals as goal
 
 pub offset_bounds-v-list : goal.offset_bounds-v-list

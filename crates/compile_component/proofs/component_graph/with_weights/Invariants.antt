@@ -1,5 +1,6 @@
 -- Place i gets the weight of the component's state i.
-use Rattle.laws.proofs.All.{◌≡◌, ◌-◌, ◌≤◌, get_or, Filled}
+use Rattle.std.proofs.Common.{◌≡◌, ◌-◌, ◌≤◌}
+use Rattle.laws.proofs.All.{get_or, Filled}
 use Rattle.compile_component.proofs.component_graph.with_weights.Given as goal
 
 abbrev pub invariant-loop-i : goal.invariant-loop-i

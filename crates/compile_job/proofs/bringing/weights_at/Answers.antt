@@ -1,4 +1,5 @@
-use Rattle.laws.proofs.All.{refl, sym, ◌∙◌, ◌+◌, ◌-◌, arith, get_or, drop, length-drop, get_or-drop}
+use Rattle.std.proofs.Common.{◌+◌, ◌-◌}
+use Rattle.laws.proofs.All.{refl, sym, ◌∙◌, arith, get_or, drop, length-drop, get_or-drop}
 use Rattle.laws.proofs.All.{fill_more, take_same}
 use Rattle.compile_job.proofs.bringing.weights_at.Goals as goal
 

@@ -1,6 +1,7 @@
 -- `weights_at` meets its contract. The loop's invariant: the array holds the weights of every state passed. The measure
 -- is what is left.
-use Rattle.laws.proofs.All.{◌+◌, ◌-◌, ◌≤◌, get_or}
+use Rattle.std.proofs.Common.{◌+◌, ◌-◌, ◌≤◌}
+use Rattle.laws.proofs.All.{get_or}
 use Rattle.laws.proofs.All.{Filled}
 use Rattle.compile_job.proofs.bringing.weights_at.Given as goal
 

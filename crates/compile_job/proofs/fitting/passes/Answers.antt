@@ -1,5 +1,6 @@
 -- `passes` meets its contract: a job that brings no weights passes, and others where the test of their weights does.
-use Rattle.laws.proofs.All.{sym, ap, ap₂, ◌∙◌, arith, pow_pos, not-true, not-false, take, if◌then◌else◌}
+use Rattle.std.proofs.Common.{if◌then◌else◌}
+use Rattle.laws.proofs.All.{sym, ap, ap₂, ◌∙◌, arith, pow_pos, not-true, not-false, take}
 use Rattle.compile_graph.specs.Weights.{passing}
 use Rattle.compile_weights.proofs.Powers.{held-powers, held-tabled}
 use Rattle.compile_job.specs.Jobs.{computed, brought, fit}

@@ -1,5 +1,6 @@
 -- `front_verdict` meets its contract: each return follows the first check that fails, or all of them.
-use Rattle.laws.proofs.All.{sym, subst, ◌∙◌, ◌≤◌, arith, T, not-true, not-false, length}
+use Rattle.std.proofs.Common.{◌≤◌}
+use Rattle.laws.proofs.All.{sym, subst, ◌∙◌, arith, T, not-true, not-false, length}
 use Rattle.answer.specs.Outcomes.{done}
 use Rattle.compile_job.proofs.Fronts.{front-short, front-parameters, front-passed}
 use Rattle.laws.proofs.All.{ap, not}

@@ -1,5 +1,6 @@
 -- `hold_job` meets its contract: a refusal of the front ends the call, otherwise the constraint after it decides.
-use Rattle.laws.proofs.All.{◌≡◌, sym, ap, ◌∙◌, ◌≤◌, arith, length, drop}
+use Rattle.std.proofs.Common.{◌≡◌, ◌≤◌}
+use Rattle.laws.proofs.All.{sym, ap, ◌∙◌, arith, length, drop}
 use borrow.Author.Rules.{part_to_end}
 use Rattle.answer.specs.Outcomes.{done, onward}
 use Rattle.compile_job.specs.Jobs.{constraint_from, job_bringing, held_job}

@@ -1,5 +1,6 @@
 -- `hold_run_length` meets its contract: each return follows the checks before it, in the documents' order.
-use Rattle.laws.proofs.All.{◌≡◌, sym, ap, subst, ◌∙◌, ◌&&◌, ◌||◌, true, ◌+◌, ◌≤◌, arith, le-leb, lt-leb, T}
+use Rattle.std.proofs.Common.{◌≡◌, ◌&&◌, ◌||◌, ◌+◌, ◌≤◌}
+use Rattle.laws.proofs.All.{sym, ap, subst, ◌∙◌, true, arith, le-leb, lt-leb, T}
 use Rattle.laws.proofs.All.{or→, inl, inr, eqb→eq, not-true, not-false, leb, eqb, length, get_or}
 use Rattle.constraint.specs.Value.{constraint_of}
 use Rattle.constraint.proofs.Values.{length-constraint_of}

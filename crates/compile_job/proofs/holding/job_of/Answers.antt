@@ -1,5 +1,6 @@
 -- `job_of` meets its contract: a refusal stays, and a constraint makes a job with the weights after it.
-use Rattle.laws.proofs.All.{sym, ap, ◌∙◌, arith, ◌+◌, ◌*◌, ◌≤◌, length, get_or}
+use Rattle.std.proofs.Common.{◌+◌, ◌*◌, ◌≤◌}
+use Rattle.laws.proofs.All.{sym, ap, ◌∙◌, arith, length, get_or}
 use Rattle.answer.specs.Outcomes.{done}
 use Rattle.constraint.specs.Value.{constraint_of}
 use Rattle.constraint.proofs.Values.{length-constraint_of}

@@ -1,5 +1,5 @@
 -- `read_joined` meets its contract: a refusal of the front ends the call, otherwise both constraints after it decide.
-use Rattle.laws.proofs.All.{◌≡◌, sym, ap₂, ◌∙◌, ap, ◌≤◌, arith, leb, eqb, length, drop}
+use Rattle.laws.proofs.All.{sym, ap₂, ◌∙◌, ap, arith, leb, eqb, length, drop}
 use borrow.Author.Rules.{part_to_end}
 use Rattle.answer.specs.Outcomes.{onward}
 use Rattle.compile_job.specs.Jobs.{constraint_from, joined_job, read_joined}
@@ -8,7 +8,7 @@ use Rattle.compile_job.proofs.Fronts.{front-bad, front-good, front_long}
 use Rattle.compile_job.proofs.Joining.{joined-from}
 use Rattle.compile_job.proofs.Jobs.{read_joined-allowed}
 use Rattle.compile_job.proofs.JobSteps.{ready-kept}
-use Rattle.std.proofs.Common.{rules}
+use Rattle.std.proofs.Common.{◌≡◌, ◌≤◌, rules}
 use Rattle.compile_job.proofs.reading.read_joined.Goals.{In-Good}
 use Rattle.compile_job.proofs.reading.read_joined.Goals as goal
 

@@ -1,4 +1,5 @@
-use Rattle.laws.proofs.All.{sym, subst, ◌∙◌, true, ◌-◌, arith, below_more, not-true, not-false}
+use Rattle.std.proofs.Common.{◌-◌}
+use Rattle.laws.proofs.All.{sym, subst, ◌∙◌, true, arith, below_more, not-true, not-false}
 use Rattle.laws.proofs.All.{T}
 use Rattle.table.proofs.LoopTests.{all-passed, all-failed}
 use Rattle.compile_job.specs.JobValues.{good_state_at}

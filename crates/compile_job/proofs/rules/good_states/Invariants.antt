@@ -1,6 +1,7 @@
 -- `good_states` meets its contract. The loop's invariant: the next states of every state passed are states or none.
 -- The measure is what is left.
-use Rattle.laws.proofs.All.{◌≡◌, true, ℕ, ◌-◌, ◌≤◌, ◌<◌}
+use Rattle.std.proofs.Common.{◌≡◌, ◌-◌, ◌≤◌, ◌<◌}
+use Rattle.laws.proofs.All.{true, ℕ}
 use Rattle.compile_job.specs.JobValues.{good_state_at}
 use Rattle.compile_job.proofs.rules.good_states.Given as goal
 

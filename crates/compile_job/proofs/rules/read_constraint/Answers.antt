@@ -1,5 +1,6 @@
 -- `read_constraint` meets its contract: each return follows the checks before it, in the documents' order.
-use Rattle.laws.proofs.All.{◌≡◌, sym, ◌∙◌, ◌&&◌, true, ◌+◌, ◌*◌, ◌≤◌, arith, not-true, not-false}
+use Rattle.std.proofs.Common.{◌≡◌, ◌&&◌, ◌+◌, ◌*◌, ◌≤◌}
+use Rattle.laws.proofs.All.{sym, ◌∙◌, true, arith, not-true, not-false}
 use Rattle.laws.proofs.All.{le-leb, lt-leb, leb, length, get_or}
 use Rattle.answer.specs.declared.Verdict.TheVariants.{Good}
 use Rattle.compile_job.specs.JobValues.{sized}

@@ -1,4 +1,5 @@
-use Rattle.laws.proofs.All.{refl, ap₂, ◌-◌, arith, map-range-same}
+use Rattle.std.proofs.Common.{◌-◌}
+use Rattle.laws.proofs.All.{refl, ap₂, arith, map-range-same}
 use Rattle.constraint.specs.Walking.{none, NextStates}
 use Rattle.constraint.proofs.Values.{fill_none, fill_more, filled-read}
 use Rattle.compile_job.specs.JobValues.{state_at}

@@ -1,6 +1,7 @@
 -- `states_of` meets its contract. The loop's invariant: the arrays hold the next states of every state passed. The
 -- measure is what is left.
-use Rattle.laws.proofs.All.{◌+◌, ◌*◌, ◌-◌, ◌≤◌, get_or}
+use Rattle.std.proofs.Common.{◌+◌, ◌*◌, ◌-◌, ◌≤◌}
+use Rattle.laws.proofs.All.{get_or}
 use Rattle.constraint.specs.Walking.{none}
 use Rattle.constraint.specs.PowerTable.{Filled}
 use Rattle.compile_job.proofs.rules.states_of.Given as goal

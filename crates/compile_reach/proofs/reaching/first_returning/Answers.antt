@@ -1,6 +1,6 @@
-use Rattle.laws.proofs.All.{◌≡◌, sym, ◌∙◌, false, ◌-◌, arith, below_more, length}
+use Rattle.laws.proofs.All.{sym, ◌∙◌, false, arith, below_more, length}
 use Rattle.compile_reach.proofs.ComponentMembers.{lowest-at, lowest-none}
-use Rattle.std.proofs.Common.{rules}
+use Rattle.std.proofs.Common.{◌≡◌, ◌-◌, rules}
 use Rattle.compile_reach.proofs.reaching.first_returning.Goals as goal
 
 pub loop-s-init : goal.loop-s-init

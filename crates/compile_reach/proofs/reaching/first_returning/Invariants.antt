@@ -1,5 +1,6 @@
 -- The states are tried from the lowest on.
-use Rattle.laws.proofs.All.{◌≡◌, false, ◌&&◌, ℕ, ◌-◌, ◌≤◌, ◌<◌, take}
+use Rattle.std.proofs.Common.{◌≡◌, ◌&&◌, ◌-◌, ◌≤◌, ◌<◌}
+use Rattle.laws.proofs.All.{false, ℕ, take}
 use Rattle.compile_graph.specs.Component.{returning, weighs, live}
 use Rattle.compile_reach.specs.ReachSets.{rows_of}
 use Rattle.compile_reach.proofs.reaching.first_returning.Given as goal

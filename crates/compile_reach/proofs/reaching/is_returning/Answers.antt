@@ -1,9 +1,9 @@
 -- The two tests one after the other.
-use Rattle.laws.proofs.All.{◌≡◌, sym, ap, ◌∙◌, true, false, ◌&&◌, arith, le-ltb, lt-ltb, length, get_or, take}
+use Rattle.laws.proofs.All.{sym, ap, ◌∙◌, true, false, arith, le-ltb, lt-ltb, length, get_or, take}
 use Rattle.compile_graph.specs.Component.{returning, weighs, live}
 use Rattle.compile_reach.specs.ReachSets.{rows_of}
 use Rattle.compile_reach.proofs.ComponentMembers.{weighs-at}
-use Rattle.std.proofs.Common.{rules}
+use Rattle.std.proofs.Common.{◌≡◌, ◌&&◌, rules}
 use Rattle.compile_reach.proofs.reaching.is_returning.Goals as goal
 
 pub returns-then-v-s-eq0 : goal.returns-then-v-s-eq0

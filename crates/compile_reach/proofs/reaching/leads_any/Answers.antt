@@ -1,4 +1,5 @@
-use Rattle.laws.proofs.All.{◌≡◌, refl, sym, ap, ap₂, ◌∙◌, ⊎_elim, true, false, ◌&&◌, ◌+◌, ◌-◌, ◌*◌, arith}
+use Rattle.std.proofs.Common.{◌≡◌, ◌&&◌, ◌+◌, ◌-◌, ◌*◌}
+use Rattle.laws.proofs.All.{refl, sym, ap, ap₂, ◌∙◌, ⊎_elim, true, false, arith}
 use Rattle.laws.proofs.All.{get_or, range, any, T→true, →any-below, any-range-no}
 use Rattle.compile_reach.specs.ReachSets.{passes_on}
 use Rattle.compile_reach.proofs.reaching.leads_any.Goals as goal

@@ -1,5 +1,6 @@
 -- The states are tried one by one.
-use Rattle.laws.proofs.All.{◌≡◌, false, ◌-◌, ◌≤◌}
+use Rattle.std.proofs.Common.{◌≡◌, ◌-◌, ◌≤◌}
+use Rattle.laws.proofs.All.{false}
 use Rattle.laws.proofs.All.{range, any}
 use Rattle.compile_reach.specs.ReachSets.{passes_on}
 use Rattle.compile_reach.proofs.reaching.leads_any.Given as goal

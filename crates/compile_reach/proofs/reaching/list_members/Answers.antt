@@ -1,8 +1,8 @@
-use Rattle.laws.proofs.All.{◌≡◌, sym, subst, ◌∙◌, ⊎_elim, Bool, ◌&&◌, ℕ, ◌-◌, arith, ltb, length, get_or}
+use Rattle.laws.proofs.All.{sym, subst, ◌∙◌, ⊎_elim, Bool, ℕ, arith, ltb, length, get_or}
 use Rattle.compile_reach.specs.ReachSets.{reach_at}
 use Rattle.compile_reach.proofs.ComponentMembers.{component-is}
 use Rattle.compile_reach.proofs.Numbering.{Numbered, numbered-none, numbered-yes, numbered-no, numbered-end}
-use Rattle.std.proofs.Common.{rules}
+use Rattle.std.proofs.Common.{◌≡◌, ◌&&◌, ◌-◌, rules}
 use Rattle.compile_reach.proofs.reaching.list_members.Goals as goal
 use Rattle.compile_reach.proofs.reaching.list_members.Goals.{else-is_member, then-is_member}
 

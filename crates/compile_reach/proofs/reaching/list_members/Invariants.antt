@@ -1,5 +1,6 @@
 -- The states that pass are appended, and each gets its place as its number.
-use Rattle.laws.proofs.All.{◌&&◌, ◌-◌, ◌≤◌, ltb, get_or}
+use Rattle.std.proofs.Common.{◌&&◌, ◌-◌, ◌≤◌}
+use Rattle.laws.proofs.All.{ltb, get_or}
 use Rattle.compile_reach.specs.ReachSets.{reach_at}
 use Rattle.compile_reach.proofs.Numbering.{Numbered}
 use Rattle.compile_reach.proofs.reaching.list_members.Given as goal

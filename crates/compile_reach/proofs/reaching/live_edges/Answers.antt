@@ -1,4 +1,5 @@
-use Rattle.laws.proofs.All.{false, ◌-◌, div-lt_iff_lt-mul, mod-lt, arith, lit<, fill_none}
+use Rattle.std.proofs.Common.{◌-◌}
+use Rattle.laws.proofs.All.{false, div-lt_iff_lt-mul, mod-lt, arith, lit<, fill_none}
 use Rattle.laws.proofs.All.{fill_more}
 use Rattle.compile_reach.specs.ReachSets.{live_edge}
 use Rattle.compile_reach.proofs.reaching.live_edges.Goals as goal

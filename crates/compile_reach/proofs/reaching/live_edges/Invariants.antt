@@ -1,5 +1,6 @@
 -- Place x is for the state x / 16 and the state x % 16.
-use Rattle.laws.proofs.All.{false, ◌-◌, ◌≤◌, Filled}
+use Rattle.std.proofs.Common.{◌-◌, ◌≤◌}
+use Rattle.laws.proofs.All.{false, Filled}
 use Rattle.compile_reach.specs.ReachSets.{live_edge}
 use Rattle.compile_reach.proofs.reaching.live_edges.Given as goal
 

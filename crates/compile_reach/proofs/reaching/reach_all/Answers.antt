@@ -1,6 +1,6 @@
-use Rattle.laws.proofs.All.{◌≡◌, ◌-◌, arith, length}
+use Rattle.laws.proofs.All.{arith, length}
 use Rattle.compile_reach.proofs.ReachRounds.{rounds-start, rounds-more, rounds-still, rounds-end}
-use Rattle.std.proofs.Common.{rules}
+use Rattle.std.proofs.Common.{◌≡◌, ◌-◌, rules}
 use Rattle.compile_reach.proofs.reaching.reach_all.Goals as goal
 
 pub loop-i-init : goal.loop-i-init

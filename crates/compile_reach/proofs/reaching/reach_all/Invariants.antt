@@ -1,5 +1,5 @@
 -- Rounds until nothing changes; further rounds change nothing, and as many as states are always enough.
-use Rattle.laws.proofs.All.{◌-◌, ◌≤◌}
+use Rattle.std.proofs.Common.{◌-◌, ◌≤◌}
 use Rattle.compile_reach.proofs.ReachRounds.{Rounds}
 use Rattle.compile_reach.proofs.reaching.reach_all.Given as goal
 

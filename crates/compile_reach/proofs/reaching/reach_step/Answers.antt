@@ -1,4 +1,5 @@
-use Rattle.laws.proofs.All.{false, ◌||◌, ◌-◌, ◌/◌, ◌%◌, arith, get_or, range, any, fill_none}
+use Rattle.std.proofs.Common.{◌||◌, ◌-◌, ◌/◌, ◌%◌}
+use Rattle.laws.proofs.All.{false, arith, get_or, range, any, fill_none}
 use Rattle.laws.proofs.All.{fill_more}
 use Rattle.compile_reach.specs.ReachSets.{passes_on}
 use Rattle.compile_reach.proofs.reaching.reach_step.Goals as goal

@@ -1,5 +1,6 @@
 -- The new places go into a fresh array.
-use Rattle.laws.proofs.All.{false, ◌||◌, ◌-◌, ◌/◌, ◌%◌, ◌≤◌, get_or, range, any, Filled}
+use Rattle.std.proofs.Common.{◌||◌, ◌-◌, ◌/◌, ◌%◌, ◌≤◌}
+use Rattle.laws.proofs.All.{false, get_or, range, any, Filled}
 use Rattle.compile_reach.specs.ReachSets.{passes_on}
 use Rattle.compile_reach.proofs.reaching.reach_step.Given as goal
 

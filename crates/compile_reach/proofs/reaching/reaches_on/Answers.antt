@@ -1,5 +1,6 @@
 -- The two tests one after the other.
-use Rattle.laws.proofs.All.{sym, ap, ◌∙◌, ◌||◌, ◌/◌, ◌%◌, ◌<◌, div-lt_iff_lt-mul, mod-lt, arith, lit<, range}
+use Rattle.std.proofs.Common.{◌||◌, ◌/◌, ◌%◌, ◌<◌}
+use Rattle.laws.proofs.All.{sym, ap, ◌∙◌, div-lt_iff_lt-mul, mod-lt, arith, lit<, range}
 use Rattle.laws.proofs.All.{any}
 use Rattle.compile_reach.specs.ReachSets.{passes_on}
 use Rattle.compile_reach.proofs.reaching.reaches_on.Goals as goal

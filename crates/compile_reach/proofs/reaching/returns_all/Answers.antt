@@ -1,6 +1,6 @@
-use Rattle.laws.proofs.All.{◌≡◌, sym, ◌∙◌, false, ◌-◌, arith, below_more, length}
+use Rattle.laws.proofs.All.{sym, ◌∙◌, false, arith, below_more, length}
 use Rattle.compile_reach.proofs.ReturnTests.{fails-yes, fails-no}
-use Rattle.std.proofs.Common.{rules}
+use Rattle.std.proofs.Common.{◌≡◌, ◌-◌, rules}
 use Rattle.compile_reach.proofs.reaching.returns_all.Goals as goal
 
 pub returns-then-no_return : goal.returns-then-no_return

@@ -1,5 +1,6 @@
 -- The states are tried one by one.
-use Rattle.laws.proofs.All.{◌≡◌, false, ℕ, ◌-◌, ◌≤◌, ◌<◌}
+use Rattle.std.proofs.Common.{◌≡◌, ◌-◌, ◌≤◌, ◌<◌}
+use Rattle.laws.proofs.All.{false, ℕ}
 use Rattle.compile_reach.proofs.ReturnTests.{fails_at}
 use Rattle.compile_reach.proofs.reaching.returns_all.Given as goal
 

@@ -1,4 +1,5 @@
-use Rattle.laws.proofs.All.{◌≡◌, false, ℕ, ◌-◌, arith, below_more}
+use Rattle.std.proofs.Common.{◌≡◌, ◌-◌}
+use Rattle.laws.proofs.All.{false, ℕ, arith, below_more}
 use Rattle.compile_reach.proofs.ReachRounds.{same_bool}
 use Rattle.compile_reach.proofs.reaching.same_places.Goals as goal
 

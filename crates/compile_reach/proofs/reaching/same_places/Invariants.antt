@@ -1,5 +1,6 @@
 -- The places are compared one by one.
-use Rattle.laws.proofs.All.{◌≡◌, false, ℕ, ◌-◌, ◌≤◌, ◌<◌, get_or}
+use Rattle.std.proofs.Common.{◌≡◌, ◌-◌, ◌≤◌, ◌<◌}
+use Rattle.laws.proofs.All.{false, ℕ, get_or}
 use Rattle.compile_reach.proofs.reaching.same_places.Given as goal
 
 abbrev pub invariant-loop-x : goal.invariant-loop-x

@@ -1,4 +1,5 @@
-use Rattle.laws.proofs.All.{refl, false, ◌-◌, ◌/◌, ◌%◌, arith, eqb, fill_none, fill_more}
+use Rattle.std.proofs.Common.{◌-◌, ◌/◌, ◌%◌}
+use Rattle.laws.proofs.All.{refl, false, arith, eqb, fill_none, fill_more}
 use Rattle.compile_reach.proofs.reaching.themselves.Goals as goal
 
 pub loop-x-init : goal.loop-x-init

@@ -1,5 +1,6 @@
 -- Place x is for the state x / 16 and the state x % 16.
-use Rattle.laws.proofs.All.{false, ◌-◌, ◌/◌, ◌%◌, ◌≤◌, eqb, Filled}
+use Rattle.std.proofs.Common.{◌-◌, ◌/◌, ◌%◌, ◌≤◌}
+use Rattle.laws.proofs.All.{false, eqb, Filled}
 use Rattle.compile_reach.proofs.reaching.themselves.Given as goal
 
 abbrev pub invariant-loop-x : goal.invariant-loop-x

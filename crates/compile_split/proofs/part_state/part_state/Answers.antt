@@ -1,8 +1,8 @@
 -- The steps of the rule in their order; the law `parted-is` puts them together.
-use Rattle.laws.proofs.All.{◌≡◌, sym, ap, subst, ◌∙◌, ◌≤◌, arith, length, get_or, map-range-at}
+use Rattle.laws.proofs.All.{sym, ap, subst, ◌∙◌, arith, length, get_or, map-range-at}
 use Rattle.compile_graph.specs.Value.{weight_at}
 use Rattle.compile_split.proofs.SplitState.{Keyed, weights-low, inside-run, share-le, room_moved, parted-is}
-use Rattle.std.proofs.Common.{rules}
+use Rattle.std.proofs.Common.{◌≡◌, ◌≤◌, rules}
 use Rattle.compile_split.proofs.part_state.part_state.Goals.{After-candidate_keys-list}
 use Rattle.compile_split.proofs.part_state.part_state.Goals as goal
 

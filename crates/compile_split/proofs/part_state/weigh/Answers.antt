@@ -1,7 +1,7 @@
 -- Two stores: the weight of s, and that of the new state.
-use Rattle.laws.proofs.All.{◌≡◌, length, arith}
+use Rattle.laws.proofs.All.{length, arith}
 use Rattle.compile_split.proofs.Weighing.{weigh-is}
-use Rattle.std.proofs.Common.{rules}
+use Rattle.std.proofs.Common.{◌≡◌, rules}
 use Rattle.compile_split.proofs.part_state.weigh.Goals as goal
 
 pub returns : goal.returns

@@ -1,4 +1,5 @@
-use Rattle.laws.proofs.All.{◌≡◌, refl, sym, subst, ◌∙◌, ◌-◌, arith, true, false}
+use Rattle.std.proofs.Common.{◌≡◌, ◌-◌}
+use Rattle.laws.proofs.All.{refl, sym, subst, ◌∙◌, arith, true, false}
 use Rattle.compile_graph.specs.Splitting.{unfinished}
 use Rattle.compile_graph.specs.Value.{work_in}
 use Rattle.compile_split.specs.SplitParts.{SplitAllInto}

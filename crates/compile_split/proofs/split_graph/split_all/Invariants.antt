@@ -1,6 +1,7 @@
 -- Each split makes one state more, and no state weighs 0, so the loop ends; the splits left lead from the graph in
 -- work to the end.
-use Rattle.laws.proofs.All.{◌≡◌, ◌-◌, false}
+use Rattle.std.proofs.Common.{◌≡◌, ◌-◌}
+use Rattle.laws.proofs.All.{false}
 use Rattle.compile_graph.specs.Splitting.{unfinished}
 use Rattle.compile_graph.specs.Value.{work_in}
 use Rattle.compile_split.proofs.SplitLoop.{Going}

@@ -1,5 +1,6 @@
 -- The row is that of the state's first edges.
-use Rattle.laws.proofs.All.{◌≡◌, sym, subst, ◌%◌, ◌<◌, get_or}
+use Rattle.std.proofs.Common.{◌≡◌, ◌%◌, ◌<◌}
+use Rattle.laws.proofs.All.{sym, subst, get_or}
 use Rattle.compile_table.proofs.Tables.{list-long, list_at, key-lt, key-inside}
 use Rattle.compile_table.proofs.RowPuts.{put-keys}
 use Rattle.compile_table.proofs.finish_table.add_row.Goals as goal

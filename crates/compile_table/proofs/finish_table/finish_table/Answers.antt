@@ -1,4 +1,5 @@
-use Rattle.laws.proofs.All.{◌≡◌, refl, subst, ⊎_elim, ℕ, ◌-◌, arith, length-replicate}
+use Rattle.std.proofs.Common.{◌≡◌, ◌-◌}
+use Rattle.laws.proofs.All.{refl, subst, ⊎_elim, ℕ, arith, length-replicate}
 use Rattle.compile_table.proofs.Ranks.{rank-small}
 use Rattle.compile_table.proofs.Tables.{Laid, laid_none, laid-yes, laid-no, laid_end}
 use Rattle.compile_table.proofs.finish_table.finish_table.Goals as goal

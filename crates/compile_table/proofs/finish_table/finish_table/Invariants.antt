@@ -1,5 +1,6 @@
 -- Row after row, in rising order of the states that are reached.
-use Rattle.laws.proofs.All.{◌≡◌, ℕ, ◌-◌, ◌≤◌, ◌<◌, get_or, member}
+use Rattle.std.proofs.Common.{◌≡◌, ◌-◌, ◌≤◌, ◌<◌}
+use Rattle.laws.proofs.All.{ℕ, get_or, member}
 use Rattle.compile_graph.specs.Component.{reachings, reaches}
 use Rattle.compile_table.specs.TableOf.{first_edges}
 use Rattle.compile_graph.specs.Value.{work_in}

@@ -1,8 +1,8 @@
-use Rattle.laws.proofs.All.{◌≡◌, refl, sym, ap, ◌∙◌, ◌||◌, or-false, ◌-◌, ◌%◌, ◌<◌, mod-lt, arith, lit<}
+use Rattle.laws.proofs.All.{refl, sym, ap, ◌∙◌, or-false, mod-lt, arith, lit<}
 use Rattle.laws.proofs.All.{length, get_or, take, set, length-set, any, member}
 use Rattle.compile_table.specs.Finishing.{entered_by}
 use Rattle.compile_table.proofs.Marks.{mark-more}
-use Rattle.std.proofs.Common.{rules}
+use Rattle.std.proofs.Common.{◌≡◌, ◌||◌, ◌-◌, ◌%◌, ◌<◌, rules}
 use Rattle.compile_table.proofs.finish_table.mark_targets.Goals as goal
 
 pub loop-i-init : goal.loop-i-init

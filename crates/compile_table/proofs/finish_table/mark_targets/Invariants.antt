@@ -1,5 +1,6 @@
 -- Each edge marks the state to which it leads.
-use Rattle.laws.proofs.All.{◌≡◌, ◌||◌, ℕ, ◌-◌, ◌≤◌}
+use Rattle.std.proofs.Common.{◌≡◌, ◌||◌, ◌-◌, ◌≤◌}
+use Rattle.laws.proofs.All.{ℕ}
 use Rattle.laws.proofs.All.{length, take, any, member}
 use Rattle.compile_table.specs.Finishing.{entered_by}
 use Rattle.compile_table.proofs.finish_table.mark_targets.Given as goal

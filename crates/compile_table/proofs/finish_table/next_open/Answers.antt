@@ -1,4 +1,5 @@
-use Rattle.laws.proofs.All.{sym, ◌∙◌, false, ◌-◌, arith, below_more}
+use Rattle.std.proofs.Common.{◌-◌}
+use Rattle.laws.proofs.All.{sym, ◌∙◌, false, arith, below_more}
 use Rattle.compile_table.proofs.finish_table.next_open.Goals as goal
 
 pub returns-then-but_not : goal.returns-then-but_not

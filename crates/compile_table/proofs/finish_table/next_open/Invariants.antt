@@ -1,5 +1,6 @@
 -- The states are tried from the lowest on.
-use Rattle.laws.proofs.All.{◌≡◌, false, not, ◌&&◌, ℕ, ◌-◌, ◌≤◌, ◌<◌, member}
+use Rattle.std.proofs.Common.{◌≡◌, ◌&&◌, ◌-◌, ◌≤◌, ◌<◌}
+use Rattle.laws.proofs.All.{false, not, ℕ, member}
 use Rattle.compile_table.proofs.finish_table.next_open.Given as goal
 
 abbrev pub invariant-loop-s : goal.invariant-loop-s

@@ -1,7 +1,7 @@
-use Rattle.laws.proofs.All.{◌≡◌, subst, ◌-◌, ◌/◌, ◌<◌, div-lt_iff_lt-mul, arith, lit<, length, get_or}
+use Rattle.laws.proofs.All.{subst, div-lt_iff_lt-mul, arith, lit<, length, get_or}
 use Rattle.compile_table.specs.Finishing.{RowPut}
 use Rattle.compile_table.proofs.RowPuts.{put-start, put-more}
-use Rattle.std.proofs.Common.{rules}
+use Rattle.std.proofs.Common.{◌≡◌, ◌-◌, ◌/◌, ◌<◌, rules}
 use Rattle.compile_table.proofs.finish_table.put_row.Goals as goal
 
 pub loop-d-init : goal.loop-d-init

@@ -1,5 +1,5 @@
 -- The edges are laid one by one.
-use Rattle.laws.proofs.All.{◌-◌, ◌≤◌}
+use Rattle.std.proofs.Common.{◌-◌, ◌≤◌}
 use Rattle.compile_table.specs.Finishing.{RowPut}
 use Rattle.compile_table.proofs.finish_table.put_row.Given as goal
 

@@ -1,4 +1,5 @@
-use Rattle.laws.proofs.All.{sym, ⊎_elim, ◌-◌, arith, fill_none, fill_more}
+use Rattle.std.proofs.Common.{◌-◌}
+use Rattle.laws.proofs.All.{sym, ⊎_elim, arith, fill_none, fill_more}
 use Rattle.compile_table.specs.Finishing.{rank}
 use Rattle.compile_table.proofs.Ranks.{rank-none, rank-yes, rank-no}
 use Rattle.compile_table.proofs.finish_table.ranks.Goals as goal

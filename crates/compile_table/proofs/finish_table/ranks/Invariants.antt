@@ -1,5 +1,6 @@
 -- The count so far is the rank.
-use Rattle.laws.proofs.All.{◌≡◌, ◌-◌, ◌≤◌, Filled}
+use Rattle.std.proofs.Common.{◌≡◌, ◌-◌, ◌≤◌}
+use Rattle.laws.proofs.All.{Filled}
 use Rattle.compile_table.specs.Finishing.{rank}
 use Rattle.compile_table.proofs.finish_table.ranks.Given as goal
 

@@ -1,9 +1,9 @@
-use Rattle.laws.proofs.All.{◌≡◌, refl, ap, ◌∙◌, true, false, ◌||◌, arith, eqb, length, replicate, length-replicate}
+use Rattle.laws.proofs.All.{refl, ap, ◌∙◌, true, false, arith, eqb, length, replicate, length-replicate}
 use Rattle.laws.proofs.All.{length-set, member, put-member, member-blank}
 use Rattle.compile_order.specs.EdgeKeys.{keys_in}
 use Rattle.compile_table.proofs.Closure.{forward-start, forward-step, forward-end}
 use Rattle.compile_table.proofs.Marks.{missing-put, open-set, open_done}
-use Rattle.std.proofs.Common.{rules}
+use Rattle.std.proofs.Common.{◌≡◌, ◌||◌, rules}
 use Rattle.compile_table.proofs.finish_table.reach_rows.Goals as goal
 
 pub loop-s-init : goal.loop-s-init

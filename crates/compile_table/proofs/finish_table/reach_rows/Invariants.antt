@@ -1,5 +1,5 @@
 -- The edges of each state reached are followed once; in the end no edge leads out of the set.
-use Rattle.laws.proofs.All.{◌≡◌}
+use Rattle.std.proofs.Common.{◌≡◌}
 use Rattle.laws.proofs.All.{missing}
 use Rattle.compile_table.specs.Finishing.{Finished, Open}
 use Rattle.compile_table.proofs.Closure.{Forward}

@@ -1,4 +1,5 @@
-use Rattle.laws.proofs.All.{sym, ap, false, not, ◌-◌, arith, below_more, le-leb, lt-leb, first-least}
+use Rattle.std.proofs.Common.{◌-◌}
+use Rattle.laws.proofs.All.{sym, ap, false, not, arith, below_more, le-leb, lt-leb, first-least}
 use Rattle.laws.proofs.All.{first-range-none}
 use Rattle.compile_weights.specs.Failures.{over}
 use Rattle.compile_weights.proofs.brought.first_over.Goals as goal

@@ -1,6 +1,7 @@
 -- `first_over` meets its contract. The loop's invariant: the weights of every state passed are at most cap. The measure
 -- is what is left.
-use Rattle.laws.proofs.All.{◌≡◌, false, ℕ, ◌-◌, ◌≤◌, ◌<◌}
+use Rattle.std.proofs.Common.{◌≡◌, ◌-◌, ◌≤◌, ◌<◌}
+use Rattle.laws.proofs.All.{false, ℕ}
 use Rattle.compile_weights.specs.Failures.{over}
 use Rattle.compile_weights.proofs.brought.first_over.Given as goal
 

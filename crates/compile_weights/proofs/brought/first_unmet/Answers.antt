@@ -1,4 +1,5 @@
-use Rattle.laws.proofs.All.{◌≡◌, sym, ◌∙◌, false, ◌-◌, arith, below_more, ltb, le-ltb, lt-ltb}
+use Rattle.std.proofs.Common.{◌≡◌, ◌-◌}
+use Rattle.laws.proofs.All.{sym, ◌∙◌, false, arith, below_more, ltb, le-ltb, lt-ltb}
 use Rattle.laws.proofs.All.{get_or, first-least, first-range-none}
 use Rattle.compile_weights.specs.Failures.{unmet_by}
 use Rattle.compile_weights.proofs.brought.first_unmet.Goals.{After-lower_weight}

@@ -1,6 +1,7 @@
 -- `first_unmet` meets its contract. The loop's invariant: a round leaves the weights of every state passed. The measure
 -- is what is left.
-use Rattle.laws.proofs.All.{◌≡◌, false, ℕ, ◌-◌, ◌≤◌, ◌<◌}
+use Rattle.std.proofs.Common.{◌≡◌, ◌-◌, ◌≤◌, ◌<◌}
+use Rattle.laws.proofs.All.{false, ℕ}
 use Rattle.compile_weights.specs.Failures.{unmet_by}
 use Rattle.compile_weights.proofs.brought.first_unmet.Given as goal
 

@@ -1,4 +1,5 @@
-use Rattle.laws.proofs.All.{◌≡◌, sym, ap, ◌∙◌, false, ◌-◌, arith, range, any, le-ltb, lt→ltb, T→true}
+use Rattle.std.proofs.Common.{◌≡◌, ◌-◌}
+use Rattle.laws.proofs.All.{sym, ap, ◌∙◌, false, arith, range, any, le-ltb, lt→ltb, T→true}
 use Rattle.laws.proofs.All.{any-range-no, →any-below}
 use Rattle.compile_graph.specs.Weights.{weighty}
 use Rattle.compile_weights.proofs.brought.is_some.Goals as goal

@@ -1,10 +1,10 @@
 -- `weights_pass` meets its contract: each return follows the first of the three tests that fails, or the last of them.
-use Rattle.laws.proofs.All.{◌≡◌, sym, ap, ap₂, ◌∙◌, true, ◌&&◌, eq-eqb, ne_eqb, not-true, not-false}
+use Rattle.laws.proofs.All.{sym, ap, ap₂, ◌∙◌, true, eq-eqb, ne_eqb, not-true, not-false}
 use Rattle.laws.proofs.All.{length, range, all, any, take}
 use Rattle.compile_graph.specs.Weights.{low, weighty, meets}
 use Rattle.compile_weights.specs.PowerTable.{tabled}
 use Rattle.compile_weights.proofs.Passing.{passing-parts, low-found, low_small, met-found}
-use Rattle.std.proofs.Common.{rules}
+use Rattle.std.proofs.Common.{◌≡◌, ◌&&◌, rules}
 use Rattle.laws.proofs.All.{not}
 use Rattle.compile_weights.proofs.brought.weights_pass.Goals.{Else-first_over-k, Start}
 use Rattle.compile_weights.proofs.brought.weights_pass.Goals as goal

@@ -1,4 +1,5 @@
-use Rattle.laws.proofs.All.{◌≡◌, ap, ◌∙◌, ◌+◌, ◌-◌, ◌*◌, ◌≤◌, arith, range, tot, tot-more}
+use Rattle.std.proofs.Common.{◌≡◌, ◌+◌, ◌-◌, ◌*◌, ◌≤◌}
+use Rattle.laws.proofs.All.{ap, ◌∙◌, arith, range, tot, tot-more}
 use Rattle.compile_weights.specs.PowerTable.{term_by, sum_by}
 use Rattle.compile_weights.proofs.WeightRounds.{term-small}
 use Rattle.compile_weights.proofs.state_weights.led_weight.Goals.{In-loop-t}

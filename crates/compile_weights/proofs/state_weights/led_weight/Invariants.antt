@@ -1,5 +1,6 @@
 -- The terms are summed over the states.
-use Rattle.laws.proofs.All.{◌≡◌, ◌-◌, ◌*◌, ◌≤◌, range, tot}
+use Rattle.std.proofs.Common.{◌≡◌, ◌-◌, ◌*◌, ◌≤◌}
+use Rattle.laws.proofs.All.{range, tot}
 use Rattle.compile_weights.specs.PowerTable.{term_by}
 use Rattle.compile_weights.proofs.state_weights.led_weight.Given as goal
 

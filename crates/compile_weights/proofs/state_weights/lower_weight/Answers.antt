@@ -1,5 +1,6 @@
 -- The smaller of the two is chosen.
-use Rattle.laws.proofs.All.{◌≡◌, ap, ◌/◌, arith}
+use Rattle.std.proofs.Common.{◌≡◌, ◌/◌}
+use Rattle.laws.proofs.All.{ap, arith}
 use Rattle.compile_weights.specs.PowerTable.{sum_by, lower_by}
 use Rattle.compile_weights.proofs.state_weights.lower_weight.Goals.{After-led_weight}
 use Rattle.compile_weights.proofs.state_weights.lower_weight.Goals as goal

@@ -1,4 +1,5 @@
-use Rattle.laws.proofs.All.{◌-◌, arith, fill_more}
+use Rattle.std.proofs.Common.{◌-◌}
+use Rattle.laws.proofs.All.{arith, fill_more}
 use Rattle.compile_weights.specs.PowerTable.{lower_by}
 use Rattle.compile_weights.proofs.state_weights.lower_weights.Goals as goal
 

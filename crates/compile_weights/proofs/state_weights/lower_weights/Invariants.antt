@@ -1,5 +1,6 @@
 -- The new weights go into a fresh array, so that all are replaced together.
-use Rattle.laws.proofs.All.{◌-◌, ◌≤◌, Filled}
+use Rattle.std.proofs.Common.{◌-◌, ◌≤◌}
+use Rattle.laws.proofs.All.{Filled}
 use Rattle.compile_weights.specs.PowerTable.{lower_by}
 use Rattle.compile_weights.proofs.state_weights.lower_weights.Given as goal
 

@@ -1,4 +1,5 @@
-use Rattle.laws.proofs.All.{sym, true, ◌-◌, arith, below_more, eq-eqb, ne_eqb}
+use Rattle.std.proofs.Common.{◌-◌}
+use Rattle.laws.proofs.All.{sym, true, arith, below_more, eq-eqb, ne_eqb}
 use Rattle.laws.proofs.All.{all-range-true, all-range-false}
 use Rattle.compile_weights.specs.PowerTable.{same_at}
 use Rattle.compile_weights.proofs.state_weights.same_weights.Goals as goal

@@ -1,5 +1,6 @@
 -- The weights are compared one by one.
-use Rattle.laws.proofs.All.{◌≡◌, true, ℕ, ◌-◌, ◌≤◌, ◌<◌}
+use Rattle.std.proofs.Common.{◌≡◌, ◌-◌, ◌≤◌, ◌<◌}
+use Rattle.laws.proofs.All.{true, ℕ}
 use Rattle.compile_weights.specs.PowerTable.{same_at}
 use Rattle.compile_weights.proofs.state_weights.same_weights.Given as goal
 

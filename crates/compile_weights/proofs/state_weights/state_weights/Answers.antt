@@ -1,9 +1,9 @@
-use Rattle.laws.proofs.All.{◌≡◌, refl, sym, subst, ◌∙◌, T, eqb→eq, all-below→, ◌-◌, ◌*◌, ◌≤◌, mul-le-mul, arith}
+use Rattle.laws.proofs.All.{refl, sym, subst, ◌∙◌, T, eqb→eq, all-below→, mul-le-mul, arith}
 use Rattle.laws.proofs.All.{length, get_or, take}
 use Rattle.compile_weights.specs.PowerTable.{tabled, same_at}
 use Rattle.compile_weights.proofs.WeightRounds.{round-start, round-more, round-still, round-end}
 use Rattle.compile_weights.proofs.WeightRounds.{lowered_is, lower-le}
-use Rattle.std.proofs.Common.{rules}
+use Rattle.std.proofs.Common.{◌≡◌, ◌-◌, ◌*◌, ◌≤◌, rules}
 use Rattle.compile_weights.proofs.state_weights.state_weights.Goals as goal
 
 pub overflow_mul-rounds : goal.overflow_mul-rounds

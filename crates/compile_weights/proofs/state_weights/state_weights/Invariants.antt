@@ -1,5 +1,5 @@
 -- Rounds until nothing changes; further rounds change nothing, and K × cap rounds are always enough.
-use Rattle.laws.proofs.All.{◌≡◌, ◌-◌, ◌*◌, ◌≤◌}
+use Rattle.std.proofs.Common.{◌≡◌, ◌-◌, ◌*◌, ◌≤◌}
 use Rattle.compile_weights.specs.PowerTable.{tabled}
 use Rattle.compile_weights.proofs.WeightRounds.{Round}
 use Rattle.compile_weights.proofs.state_weights.state_weights.Given as goal

@@ -1,4 +1,5 @@
-use Rattle.laws.proofs.All.{◌-◌, ◌/◌, ◌%◌, arith, fill_more}
+use Rattle.std.proofs.Common.{◌-◌, ◌/◌, ◌%◌}
+use Rattle.laws.proofs.All.{arith, fill_more}
 use Rattle.compile_weights.specs.PowerTable.{word_count}
 use Rattle.compile_weights.proofs.WeightRounds.{count-le}
 use Rattle.compile_weights.proofs.state_weights.word_counts.Goals as goal

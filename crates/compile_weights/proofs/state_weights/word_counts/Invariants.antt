@@ -1,5 +1,6 @@
 -- Place x gets the count for state x / 16 and target x % 16.
-use Rattle.laws.proofs.All.{◌-◌, ◌/◌, ◌%◌, ◌≤◌, Filled}
+use Rattle.std.proofs.Common.{◌-◌, ◌/◌, ◌%◌, ◌≤◌}
+use Rattle.laws.proofs.All.{Filled}
 use Rattle.compile_weights.specs.PowerTable.{word_count}
 use Rattle.compile_weights.proofs.state_weights.word_counts.Given as goal
 

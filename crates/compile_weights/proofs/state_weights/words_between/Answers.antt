@@ -1,4 +1,5 @@
-use Rattle.laws.proofs.All.{◌≡◌, sym, ap, ◌∙◌, ⊎_elim, ◌-◌, arith}
+use Rattle.std.proofs.Common.{◌≡◌, ◌-◌}
+use Rattle.laws.proofs.All.{sym, ap, ◌∙◌, ⊎_elim, arith}
 use Rattle.compile_weights.specs.PowerTable.{word_count}
 use Rattle.compile_weights.proofs.WeightRounds.{count_none, count_yes, count_no}
 use Rattle.compile_weights.proofs.state_weights.words_between.Goals as goal

@@ -1,5 +1,5 @@
 -- The words are tried one by one.
-use Rattle.laws.proofs.All.{◌≡◌, ◌-◌, ◌≤◌}
+use Rattle.std.proofs.Common.{◌≡◌, ◌-◌, ◌≤◌}
 use Rattle.compile_weights.specs.PowerTable.{word_count}
 use Rattle.compile_weights.proofs.state_weights.words_between.Given as goal
 

@@ -1,7 +1,7 @@
-use Rattle.laws.proofs.All.{◌≡◌, arith, length}
+use Rattle.laws.proofs.All.{arith, length}
 use Rattle.constraint.proofs.Values.{fill_none, fill_more}
 use Rattle.constraint.proofs.PowerTable.{filled-codes}
-use Rattle.std.proofs.Common.{rules}
+use Rattle.std.proofs.Common.{◌≡◌, rules}
 use Rattle.constraint.proofs.power.codes.Goals as goal
 
 pub loop-i-preserved : goal.loop-i-preserved

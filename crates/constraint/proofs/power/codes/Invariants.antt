@@ -1,5 +1,6 @@
 -- Each turn writes the byte of one place.
-use Rattle.laws.proofs.All.{◌-◌, ◌≤◌, get_or}
+use Rattle.std.proofs.Common.{◌-◌, ◌≤◌}
+use Rattle.laws.proofs.All.{get_or}
 use Rattle.constraint.specs.declared.Next.TheVariants.{None}
 use Rattle.constraint.specs.PowerTable.{code_of, Filled}
 use Rattle.constraint.proofs.power.codes.Given as goal

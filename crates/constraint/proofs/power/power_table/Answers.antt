@@ -1,4 +1,5 @@
-use Rattle.laws.proofs.All.{◌≡◌, refl, ap, ◌∙◌, ◌+◌, ◌*◌, ◌%◌, ◌^◌, ◌≤◌, arith, one-mul, lit<}
+use Rattle.std.proofs.Common.{◌≡◌, ◌+◌, ◌*◌, ◌%◌, ◌^◌, ◌≤◌}
+use Rattle.laws.proofs.All.{refl, ap, ◌∙◌, arith, one-mul, lit<}
 use Rattle.laws.proofs.All.{length, set, pow_mono, shl_exact}
 use Rattle.constraint.specs.declared.Next.TheVariants.{None}
 use Rattle.constraint.specs.Value.{constraint_of}

@@ -1,6 +1,6 @@
 -- Each turn fills the place of one word of one state. After the last word of a state the places up to the next state's
 -- hold none, and so do those of the states beyond the constraint's.
-use Rattle.laws.proofs.All.{◌≡◌, ◌+◌, ◌-◌, ◌*◌, ◌^◌, ◌≤◌, ◌<◌}
+use Rattle.std.proofs.Common.{◌≡◌, ◌+◌, ◌-◌, ◌*◌, ◌^◌, ◌≤◌, ◌<◌}
 use Rattle.constraint.specs.Value.{constraint_of}
 use Rattle.constraint.specs.PowerTable.{PowerFilled}
 use Rattle.constraint.proofs.power.power_table.Given as goal

@@ -1,4 +1,5 @@
-use Rattle.laws.proofs.All.{ap₂, ◌+◌, arith}
+use Rattle.std.proofs.Common.{◌+◌}
+use Rattle.laws.proofs.All.{ap₂, arith}
 use Rattle.constraint.specs.Walking.{none, NextStates, nowhere, run_length_state}
 use Rattle.constraint.proofs.Values.{map_below, fill_none, fill_more, filled-read}
 use Rattle.constraint.proofs.runs.run_length.Goals as goal

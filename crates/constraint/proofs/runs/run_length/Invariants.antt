@@ -1,5 +1,5 @@
 -- Each turn fills one state of both arrays, so that at the end all states below k + 1 are those of the definition.
-use Rattle.laws.proofs.All.{◌+◌, ◌-◌, ◌≤◌}
+use Rattle.std.proofs.Common.{◌+◌, ◌-◌, ◌≤◌}
 use Rattle.constraint.specs.Walking.{none, run_length_state}
 use Rattle.constraint.specs.PowerTable.{Filled}
 use Rattle.constraint.proofs.runs.run_length.Given as goal

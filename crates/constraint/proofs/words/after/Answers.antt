@@ -1,7 +1,7 @@
 -- Outside the states there is no next state, beyond the arrays it reads 0, and within them it is what they hold.
-use Rattle.laws.proofs.All.{◌≡◌, sym, arith, length}
+use Rattle.laws.proofs.All.{sym, arith, length}
 use Rattle.constraint.proofs.Values.{after-outside, after-beyond, after-zero-at, after-one-at}
-use Rattle.std.proofs.Common.{rules}
+use Rattle.std.proofs.Common.{◌≡◌, rules}
 use Rattle.constraint.proofs.words.after.Goals as goal
 
 pub returns-then-c-i : goal.returns-then-c-i

@@ -1,4 +1,5 @@
-use Rattle.laws.proofs.All.{◌≡◌, sym, ap, ◌∙◌, ◌+◌, ◌-◌, arith}
+use Rattle.std.proofs.Common.{◌≡◌, ◌+◌, ◌-◌}
+use Rattle.laws.proofs.All.{sym, ap, ◌∙◌, arith}
 use Rattle.constraint.specs.Walking.{walk}
 use Rattle.constraint.specs.Value.{constraint_of}
 use Rattle.constraint.proofs.Walking.{walk_step}

@@ -1,5 +1,5 @@
 -- The bits not yet walked lead from the state reached to where the whole word leads from s.
-use Rattle.laws.proofs.All.{◌≡◌, ◌-◌, ◌≤◌}
+use Rattle.std.proofs.Common.{◌≡◌, ◌-◌, ◌≤◌}
 use Rattle.constraint.specs.Walking.{walk}
 use Rattle.constraint.specs.Value.{constraint_of}
 use Rattle.constraint.proofs.words.walk.Given as goal

@@ -1,4 +1,5 @@
-use Rattle.laws.proofs.All.{◌≡◌, subst, ℕ, ◌*◌, ◌≤◌, ◌<◌, arith, length, length-replicate}
+use Rattle.std.proofs.Common.{◌≡◌, ◌*◌, ◌≤◌, ◌<◌}
+use Rattle.laws.proofs.All.{subst, ℕ, arith, length, length-replicate}
 use Rattle.bits.specs.Fields.{bits_of}
 use Rattle.record.proofs.Fills.{reach-spot, reach_step, reach-end, column-more}
 use Rattle.record.specs.Places.{spot, Column}

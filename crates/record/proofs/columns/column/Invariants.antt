@@ -1,6 +1,6 @@
 -- `column` meets its contract. The loop's invariant: the array holds the field of every edge passed. The measure is
 -- what is left.
-use Rattle.laws.proofs.All.{◌-◌, ◌≤◌}
+use Rattle.std.proofs.Common.{◌-◌, ◌≤◌}
 use Rattle.bits.specs.Fields.{bits_of}
 use Rattle.record.specs.Places.{Column}
 use Rattle.record.proofs.columns.column.Given as goal

@@ -1,4 +1,5 @@
-use Rattle.laws.proofs.All.{ap₂, refl, ◌+◌, ◌*◌, arith, length-set}
+use Rattle.std.proofs.Common.{◌+◌, ◌*◌}
+use Rattle.laws.proofs.All.{ap₂, refl, arith, length-set}
 use Rattle.laws.proofs.All.{map-range-same}
 use Rattle.bits.specs.Fields.{bits_of}
 use Rattle.record.specs.Layout.{header_bits, state_size}

@@ -1,6 +1,7 @@
 -- `states_of` meets its contract. The loop's invariant: the arrays hold the next states of every state passed. The
 -- measure is what is left.
-use Rattle.laws.proofs.All.{◌≡◌, ℕ, ◌+◌, ◌*◌, ◌-◌, ◌≤◌, ◌<◌, length, get_or}
+use Rattle.std.proofs.Common.{◌≡◌, ◌+◌, ◌*◌, ◌-◌, ◌≤◌, ◌<◌}
+use Rattle.laws.proofs.All.{ℕ, length, get_or}
 use Rattle.bits.specs.Fields.{bits_of}
 use Rattle.record.specs.Layout.{header_bits, state_size}
 use Rattle.record.specs.Places.{next_in}

@@ -1,5 +1,6 @@
 -- `bit_count` meets its contract: the numbers are small, so nothing wraps.
-use Rattle.laws.proofs.All.{ap, ◌+◌, ◌*◌, arith}
+use Rattle.std.proofs.Common.{◌+◌, ◌*◌}
+use Rattle.laws.proofs.All.{ap, arith}
 use Rattle.record.specs.Layout.{header_bits, state_size}
 use Rattle.record.proofs.Sizes.{row-le, edges_le}
 use Rattle.record.proofs.numbers.bit_count.Goals as goal

@@ -1,5 +1,6 @@
 -- `good_front` meets its contract: each return follows the first test that fails, or the last test.
-use Rattle.laws.proofs.All.{sym, subst, ◌∙◌, ◌≤◌, T, leb, leb→le, and→, not-true, not-false, lt-ltb, le-ltb}
+use Rattle.std.proofs.Common.{◌≤◌}
+use Rattle.laws.proofs.All.{sym, subst, ◌∙◌, T, leb, leb→le, and→, not-true, not-false, lt-ltb, le-ltb}
 use Rattle.laws.proofs.All.{ap, not}
 use Rattle.record.proofs.numbers.good_front.Goals.{Else-not-between}
 use Rattle.record.proofs.numbers.good_front.Goals as goal

@@ -1,5 +1,6 @@
 -- `good_fill` meets its contract: the fill stands after the last field and ends with the last byte.
-use Rattle.laws.proofs.All.{ap, ap₂, ◌∙◌, ◌-◌, ◌*◌, arith, eqb}
+use Rattle.std.proofs.Common.{◌-◌, ◌*◌}
+use Rattle.laws.proofs.All.{ap, ap₂, ◌∙◌, arith, eqb}
 use Rattle.bits.specs.Fields.{bits_of, field}
 use Rattle.record.proofs.Sizes.{bit_count-le}
 use Rattle.record_read.proofs.ranges.good_fill.Goals as goal

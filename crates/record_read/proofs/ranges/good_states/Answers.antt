@@ -1,4 +1,5 @@
-use Rattle.laws.proofs.All.{sym, ◌∙◌, ◌*◌, arith, below_more, not-true, not-false}
+use Rattle.std.proofs.Common.{◌*◌}
+use Rattle.laws.proofs.All.{sym, ◌∙◌, arith, below_more, not-true, not-false}
 use Rattle.laws.proofs.All.{all-range-true, all-range-false}
 use Rattle.bits.specs.Fields.{bits_of}
 use Rattle.record.specs.Places.{good_at}

@@ -1,6 +1,7 @@
 -- `good_states` meets its contract. The loop's invariant: every next state passed is in range. The measure is what is
 -- left.
-use Rattle.laws.proofs.All.{◌≡◌, true, ℕ, ◌*◌, ◌-◌, ◌≤◌, ◌<◌}
+use Rattle.std.proofs.Common.{◌≡◌, ◌*◌, ◌-◌, ◌≤◌, ◌<◌}
+use Rattle.laws.proofs.All.{true, ℕ}
 use Rattle.bits.specs.Fields.{bits_of}
 use Rattle.record.specs.Places.{good_at}
 use Rattle.record_read.proofs.ranges.good_states.Given as goal

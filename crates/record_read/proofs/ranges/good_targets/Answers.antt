@@ -1,4 +1,5 @@
-use Rattle.laws.proofs.All.{ap, sym, ◌∙◌, ◌*◌, ◌≤◌, arith, below_more, lt-ltb}
+use Rattle.std.proofs.Common.{◌*◌, ◌≤◌}
+use Rattle.laws.proofs.All.{ap, sym, ◌∙◌, arith, below_more, lt-ltb}
 use Rattle.laws.proofs.All.{le-ltb, length, ltb, all-range-true, all-range-false}
 use Rattle.bits.specs.Fields.{bits_of}
 use Rattle.record.specs.Places.{target_at}

@@ -1,6 +1,7 @@
 -- `good_targets` meets its contract. The loop's invariant: every edge passed leads to a state. The measure is what is
 -- left.
-use Rattle.laws.proofs.All.{◌≡◌, true, ℕ, ◌-◌, ◌≤◌, ◌<◌}
+use Rattle.std.proofs.Common.{◌≡◌, ◌-◌, ◌≤◌, ◌<◌}
+use Rattle.laws.proofs.All.{true, ℕ}
 use Rattle.bits.specs.Fields.{bits_of}
 use Rattle.record.specs.Places.{target_at}
 use Rattle.record_read.proofs.ranges.good_targets.Given as goal

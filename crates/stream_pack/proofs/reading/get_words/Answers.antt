@@ -1,4 +1,5 @@
-use Rattle.laws.proofs.All.{◌≡◌, refl, sym, ap, ◌∙◌, ◌++◌, map, ◌+◌, ◌*◌, arith, drop}
+use Rattle.std.proofs.Common.{◌≡◌, ◌++◌, ◌+◌, ◌*◌}
+use Rattle.laws.proofs.All.{refl, sym, ap, ◌∙◌, map, arith, drop}
 use Rattle.laws.proofs.All.{length-set, range, map_more}
 use Rattle.bits.specs.Fields.{bits_of, field}
 use Rattle.stream_pack.proofs.Streams.{few_bits, place_in, word_of, unpacked-map}

@@ -1,5 +1,6 @@
 -- `stream_pack::reading::get_words` meets its contract: each turn gets one word, at its bit place.
-use Rattle.laws.proofs.All.{◌≡◌, ◌++◌, map, ◌-◌, ◌*◌, ◌≤◌, length, drop}
+use Rattle.std.proofs.Common.{◌≡◌, ◌++◌, ◌-◌, ◌*◌, ◌≤◌}
+use Rattle.laws.proofs.All.{map, length, drop}
 use Rattle.laws.proofs.All.{range}
 use Rattle.stream_pack.proofs.Streams.{word_of}
 use Rattle.stream_pack.proofs.reading.get_words.Given as goal

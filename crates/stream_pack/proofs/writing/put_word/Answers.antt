@@ -1,5 +1,6 @@
 -- The word's bits are joined after those that wait; with eight of them or more, the first eight are the next byte.
-use Rattle.laws.proofs.All.{◌+◌, ◌-◌, lt_of_lt_of_le, arith, pow_mono}
+use Rattle.std.proofs.Common.{◌+◌, ◌-◌}
+use Rattle.laws.proofs.All.{lt_of_lt_of_le, arith, pow_mono}
 use Rattle.stream_pack.proofs.Waiting.{waits-more, waits-full}
 use Rattle.stream_pack.proofs.writing.put_word.Goals as goal
 

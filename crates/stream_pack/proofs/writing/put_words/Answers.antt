@@ -1,4 +1,5 @@
-use Rattle.laws.proofs.All.{ap, subst, ◌∙◌, ◌+◌, add-one, arith, length, take, get_or, take-suc}
+use Rattle.std.proofs.Common.{◌+◌}
+use Rattle.laws.proofs.All.{ap, subst, ◌∙◌, add-one, arith, length, take, get_or, take-suc}
 use Rattle.laws.proofs.All.{take_all, length-take-le, below_at}
 use Rattle.bits.specs.Fields.{uniform}
 use Rattle.stream_pack.specs.Waiting.{Waits}

@@ -1,5 +1,6 @@
 -- Each turn puts one word more; the fill makes the stream.
-use Rattle.laws.proofs.All.{◌-◌, ◌≤◌, length, take}
+use Rattle.std.proofs.Common.{◌-◌, ◌≤◌}
+use Rattle.laws.proofs.All.{length, take}
 use Rattle.bits.specs.Fields.{uniform}
 use Rattle.stream_pack.specs.Waiting.{Waits}
 use Rattle.stream_pack.proofs.writing.put_words.Given as goal

@@ -1,5 +1,6 @@
 -- Each turn passes a word that the datum at its place spells; a mark or another word ends the loop.
-use Rattle.laws.proofs.All.{◌≡◌, refl, sym, ◌∙◌, List, ℕ, ◌+◌, ◌*◌, ◌-◌, ◌≤◌, ◌<◌, arith, now, length, drop, needs}
+use Rattle.std.proofs.Common.{◌≡◌, ◌+◌, ◌*◌, ◌-◌, ◌≤◌, ◌<◌}
+use Rattle.laws.proofs.All.{refl, sym, ◌∙◌, List, ℕ, arith, now, length, drop, needs}
 use Rattle.table.specs.Edges.{Arrays, rows_of, next_of}
 use Rattle.table.proofs.RowsOf.{place-next}
 use Rattle.codec_verify.specs.Counting.{agreed, arrays_of, due_in}

@@ -1,6 +1,7 @@
 -- The part's words are unpacked, and counted from them.
-use Rattle.laws.proofs.All.{◌≡◌, ap, List, ℕ, ◌+◌, ◌-◌, ◌*◌, ◌/◌, ◌≤◌, min-le_left, min-le_right, arith, now, length}
-use Rattle.laws.proofs.All.{◌++◌, drop, length-drop, take_rest, needs}
+use Rattle.std.proofs.Common.{◌≡◌, ◌+◌, ◌-◌, ◌*◌, ◌/◌, ◌≤◌, ◌++◌}
+use Rattle.laws.proofs.All.{ap, List, ℕ, min-le_left, min-le_right, arith, now, length}
+use Rattle.laws.proofs.All.{drop, length-drop, take_rest, needs}
 use Rattle.stream_pack.specs.Streams.{unpacked}
 use Rattle.stream_decode.proofs.Parts.{skip-in, part-holds}
 use Rattle.stream_verify.specs.Parts.{read_by, Held}

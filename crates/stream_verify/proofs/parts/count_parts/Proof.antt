@@ -1,5 +1,6 @@
 -- Each turn counts one part.
-use Rattle.laws.proofs.All.{◌≡◌, refl, sym, ap, ◌∙◌, List, ℕ, ◌+◌, ◌-◌, ◌%◌, ◌≤◌, ◌<◌, min, zero-min, zero-add}
+use Rattle.std.proofs.Common.{◌≡◌, ◌+◌, ◌-◌, ◌%◌, ◌≤◌, ◌<◌}
+use Rattle.laws.proofs.All.{refl, sym, ap, ◌∙◌, List, ℕ, min, zero-min, zero-add}
 use Rattle.laws.proofs.All.{arith, le-min, min-le_left, min-le_right, now, drop, needs}
 use Rattle.table.specs.Edges.{Arrays, rows_of}
 use Rattle.stream_pack.specs.Streams.{unpacked}

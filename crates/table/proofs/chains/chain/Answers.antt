@@ -1,4 +1,5 @@
-use Rattle.laws.proofs.All.{◌≡◌, ◌*◌, ◌<◌, arith, lt-ltb, le-ltb}
+use Rattle.std.proofs.Common.{◌≡◌, ◌*◌, ◌<◌}
+use Rattle.laws.proofs.All.{arith, lt-ltb, le-ltb}
 use Rattle.table.specs.Edges.{arrays}
 use Rattle.table.proofs.Edges.{chain-start, chain-skip, chain-put}
 use Rattle.table.proofs.chains.chain.Goals.{then-e-n, else-e-n}

@@ -1,5 +1,5 @@
 -- Each turn puts one edge in front of the chain of its word.
-use Rattle.laws.proofs.All.{◌-◌, ◌*◌, ◌≤◌}
+use Rattle.std.proofs.Common.{◌-◌, ◌*◌, ◌≤◌}
 use Rattle.table.specs.Edges.{arrays, Chained}
 use Rattle.table.proofs.chains.chain.Given as goal
 

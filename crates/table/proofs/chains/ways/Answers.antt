@@ -1,5 +1,6 @@
 -- A shift of 1 by p ≤ 4 places loses nothing.
-use Rattle.laws.proofs.All.{◌≡◌, ◌∙◌, ◌*◌, ◌%◌, ◌^◌, ◌≤◌, arith, one-mul, lit<, pow_mono, shl_exact}
+use Rattle.std.proofs.Common.{◌≡◌, ◌*◌, ◌%◌, ◌^◌, ◌≤◌}
+use Rattle.laws.proofs.All.{◌∙◌, arith, one-mul, lit<, pow_mono, shl_exact}
 use Rattle.table.proofs.chains.ways.Goals as goal
 
 pub returns : goal.returns

@@ -1,5 +1,6 @@
 -- Each return follows the first number that is not in range, or the last test.
-use Rattle.laws.proofs.All.{sym, subst, ◌∙◌, ◌≤◌, T, leb, leb→le, and→, not-true, not-false, lt-ltb, le-ltb}
+use Rattle.std.proofs.Common.{◌≤◌}
+use Rattle.laws.proofs.All.{sym, subst, ◌∙◌, T, leb, leb→le, and→, not-true, not-false, lt-ltb, le-ltb}
 use Rattle.laws.proofs.All.{ap, not}
 use Rattle.table.proofs.ready.good_head.Goals.{Else-not-between}
 use Rattle.table.proofs.ready.good_head.Goals as goal

@@ -1,5 +1,6 @@
 -- The next state for bit 0 is tested first, then that for bit 1.
-use Rattle.laws.proofs.All.{sym, ap, ◌∙◌, ◌&&◌, not-true, not-false}
+use Rattle.std.proofs.Common.{◌&&◌}
+use Rattle.laws.proofs.All.{sym, ap, ◌∙◌, not-true, not-false}
 use Rattle.table.specs.Formed.{good_state}
 use Rattle.laws.proofs.All.{not}
 use Rattle.table.proofs.ready.good_next.Goals as goal

@@ -1,5 +1,6 @@
 -- The constraint states below s have good next states; the first that has not ends the loop.
-use Rattle.laws.proofs.All.{ℕ, ◌-◌, ◌≤◌, ◌<◌}
+use Rattle.std.proofs.Common.{◌-◌, ◌≤◌, ◌<◌}
+use Rattle.laws.proofs.All.{ℕ}
 use Rattle.laws.proofs.All.{T}
 use Rattle.table.specs.Entries.{good_next_at}
 use Rattle.table.proofs.ready.good_nexts.Given as goal

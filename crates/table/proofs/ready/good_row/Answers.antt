@@ -1,4 +1,5 @@
-use Rattle.laws.proofs.All.{sym, subst, ◌∙◌, ◌+◌, ◌*◌, not-suc-le-zero, arith, below_more}
+use Rattle.std.proofs.Common.{◌+◌, ◌*◌}
+use Rattle.laws.proofs.All.{sym, subst, ◌∙◌, not-suc-le-zero, arith, below_more}
 use Rattle.laws.proofs.All.{T}
 use Rattle.table.specs.Entries.{good_place}
 use Rattle.table.proofs.LoopTests.{all-passed, all-failed}

@@ -1,5 +1,6 @@
 -- The entries below d are good; the first that is not ends the loop.
-use Rattle.laws.proofs.All.{ℕ, ◌+◌, ◌*◌, ◌-◌, ◌≤◌, ◌<◌}
+use Rattle.std.proofs.Common.{◌+◌, ◌*◌, ◌-◌, ◌≤◌, ◌<◌}
+use Rattle.laws.proofs.All.{ℕ}
 use Rattle.laws.proofs.All.{T}
 use Rattle.table.specs.Entries.{good_place}
 use Rattle.table.proofs.ready.good_row.Given as goal

@@ -1,5 +1,6 @@
 -- The states below s have good entries; the first that has not ends the loop.
-use Rattle.laws.proofs.All.{ℕ, ◌-◌, ◌≤◌, ◌<◌}
+use Rattle.std.proofs.Common.{◌-◌, ◌≤◌, ◌<◌}
+use Rattle.laws.proofs.All.{ℕ}
 use Rattle.laws.proofs.All.{T}
 use Rattle.table.specs.Entries.{good_places}
 use Rattle.table.proofs.ready.good_rows.Given as goal

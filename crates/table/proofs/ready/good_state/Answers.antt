@@ -1,5 +1,6 @@
 -- None is good by itself, and any other next state is compared.
-use Rattle.laws.proofs.All.{sym, ap, ap₂, ◌||◌, eq-eqb, ne_eqb, ltb}
+use Rattle.std.proofs.Common.{◌||◌}
+use Rattle.laws.proofs.All.{sym, ap, ap₂, eq-eqb, ne_eqb, ltb}
 use Rattle.constraint.specs.Walking.{none}
 use Rattle.table.proofs.ready.good_state.Goals as goal
 

@@ -1,5 +1,6 @@
 -- The numbers in front are tested first, then the constraint's next states, and the entries last.
-use Rattle.laws.proofs.All.{◌≡◌, sym, ap, ◌∙◌, true, arith, not-true, not-false}
+use Rattle.std.proofs.Common.{◌≡◌}
+use Rattle.laws.proofs.All.{sym, ap, ◌∙◌, true, arith, not-true, not-false}
 use Rattle.table.specs.Formed.{in_range}
 use Rattle.table.specs.Value.{table_head}
 use Rattle.table.proofs.ReadyTables.{ready-head, ready-nexts, ready-rows, few-states, narrow-head}

@@ -1,7 +1,7 @@
 -- `component_states` meets its contract: the parts of the component are found as for its graph.
-use Rattle.laws.proofs.All.{◌≡◌, length}
+use Rattle.laws.proofs.All.{length}
 use Rattle.trace.proofs.Begun.{members-are}
-use Rattle.std.proofs.Common.{rules}
+use Rattle.std.proofs.Common.{◌≡◌, rules}
 use Rattle.trace.proofs.beginnings.component_states.Goals.{Start}
 use Rattle.trace.proofs.beginnings.component_states.Goals as goal
 

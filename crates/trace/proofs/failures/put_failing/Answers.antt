@@ -1,6 +1,7 @@
 -- `put_failing` meets its contract: the power table holds the words that the constraint allows, so the lines are the
 -- job's.
-use Rattle.laws.proofs.All.{◌≡◌, ap₂, ◌∙◌, arith, pow_pos}
+use Rattle.std.proofs.Common.{◌≡◌}
+use Rattle.laws.proofs.All.{ap₂, ◌∙◌, arith, pow_pos}
 use Rattle.compile_graph.specs.Weights.{passing}
 use Rattle.compile_weights.specs.PowerTable.{tabled, Powers}
 use Rattle.compile_job.specs.JobValues.{job_in}

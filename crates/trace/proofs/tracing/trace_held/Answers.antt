@@ -1,5 +1,6 @@
 -- `trace_held` meets its contract: a job whose weights pass is traced, and of others it is told why they fail.
-use Rattle.laws.proofs.All.{◌≡◌, sym, ◌∙◌, true}
+use Rattle.std.proofs.Common.{◌≡◌}
+use Rattle.laws.proofs.All.{sym, ◌∙◌, true}
 use Rattle.text.proofs.Adding.{added-same, added_more}
 use Rattle.compile_job.specs.Jobs.{fit}
 use Rattle.compile_job.specs.JobValues.{job_in, JobReady}

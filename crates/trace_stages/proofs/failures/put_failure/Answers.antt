@@ -1,5 +1,5 @@
 -- `put_failure` meets its contract: each return follows the first of the three tests that fails.
-use Rattle.laws.proofs.All.{◌≡◌, sym, ◌∙◌, true, ◌<◌, length, range, all, any}
+use Rattle.laws.proofs.All.{sym, ◌∙◌, true, length, range, all, any}
 use Rattle.text.proofs.Adding.{added-same}
 use Rattle.compile_graph.specs.Weights.{low, weighty}
 use Rattle.compile_weights.specs.PowerTable.{tabled}
@@ -8,7 +8,7 @@ use Rattle.compile_weights.proofs.WeightRounds.{sum_is}
 use Rattle.trace_stages.specs.FailText.{over_line, zero_line}
 use Rattle.trace_stages.proofs.Failed.{all-low, fail-over, fail-zero, fail-short, not-met}
 use Rattle.trace_stages.proofs.Failed.{unmet-below, unmet-first}
-use Rattle.std.proofs.Common.{rules}
+use Rattle.std.proofs.Common.{◌≡◌, ◌<◌, rules}
 use Rattle.trace_stages.proofs.failures.put_failure.Goals.{After-first_unmet-t, Else-not-is_some, Else-s-k, Start}
 use Rattle.trace_stages.proofs.failures.put_failure.Goals as goal
 

@@ -1,6 +1,7 @@
 -- `number_at` is safe and ends. The measure is how many bytes are left.
 -- Assumes nothing.
-use Rattle.laws.proofs.All.{◌-◌, ◌≤◌, needs}
+use Rattle.std.proofs.Common.{◌-◌, ◌≤◌}
+use Rattle.laws.proofs.All.{needs}
 use Rattle.vectors.proofs.calls.number_at.Statement.{statement}
 use Rattle.vectors.proofs.calls.number_at.Tie as tie
 

@@ -1,6 +1,7 @@
 -- `is_end` meets its contract, by its tests.
 -- Assumes nothing.
-use Rattle.laws.proofs.All.{sym, ap, ◌-◌, ◌&&◌, now, eqb, eq-eqb, ne_eqb, length, get_or, needs}
+use Rattle.std.proofs.Common.{◌-◌, ◌&&◌}
+use Rattle.laws.proofs.All.{sym, ap, now, eqb, eq-eqb, ne_eqb, length, get_or, needs}
 use Rattle.vectors.proofs.walk.is_end.Statement.{statement}
 use Rattle.vectors.proofs.walk.is_end.Tie as tie
 

@@ -1,6 +1,7 @@
 -- `known_agrees` is safe: the parts of the case are lent to the call, and the room of the output.
 -- Assumes nothing.
-use Rattle.laws.proofs.All.{sym, ◌≤◌, arith, needs, length, length-take-le}
+use Rattle.std.proofs.Common.{◌≤◌}
+use Rattle.laws.proofs.All.{sym, arith, needs, length, length-take-le}
 use Rattle.vectors.proofs.walk.known_agrees.Statement.{statement}
 use Rattle.vectors.proofs.walk.known_agrees.Tie as tie
 

@@ -1,7 +1,8 @@
 -- `walk` is safe. The loop's invariant: the place reached is within the file, the counts are small, and the case read
 -- there has its parts in order. The measure is what is left of the file.
 -- Assumes nothing.
-use Rattle.laws.proofs.All.{◌-◌, ◌≤◌, ◌<◌, arith, needs, length}
+use Rattle.std.proofs.Common.{◌-◌, ◌≤◌, ◌<◌}
+use Rattle.laws.proofs.All.{arith, needs, length}
 use Rattle.cases.specs.Placing.{Placed}
 use Rattle.vectors.specs.Counting.{Few}
 use Rattle.vectors.proofs.walk.walk.Statement.{statement}

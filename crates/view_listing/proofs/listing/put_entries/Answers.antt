@@ -1,4 +1,5 @@
-use Rattle.laws.proofs.All.{◌≡◌, ap, ◌∙◌, ◌*◌, ◌-◌, arith}
+use Rattle.std.proofs.Common.{◌≡◌, ◌*◌, ◌-◌}
+use Rattle.laws.proofs.All.{ap, ◌∙◌, arith}
 use Rattle.text.proofs.Adding.{added-same, ◌then◌, begun}
 use Rattle.view_listing.specs.Listing.{entry}
 use Rattle.view_listing.specs.Edges.{lines_to}

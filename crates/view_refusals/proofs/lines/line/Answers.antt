@@ -1,5 +1,6 @@
 -- `line` meets its contract: it is the part from the start of the line to its end.
-use Rattle.laws.proofs.All.{◌≡◌, ap, ◌∙◌, ◌-◌, arith, take, drop}
+use Rattle.std.proofs.Common.{◌≡◌, ◌-◌}
+use Rattle.laws.proofs.All.{ap, ◌∙◌, arith, take, drop}
 use Rattle.view_refusals.specs.TextLines.{line_end}
 use Rattle.view_refusals.proofs.lines.line.Goals as goal
 

@@ -1,6 +1,7 @@
 -- `line_end` meets its contract. The loop's invariant: the line's end, counted from the place passed, is its end. The
 -- measure is what is left of the text.
-use Rattle.laws.proofs.All.{◌≡◌, ◌+◌, ◌-◌, ◌≤◌, length, drop}
+use Rattle.std.proofs.Common.{◌≡◌, ◌+◌, ◌-◌, ◌≤◌}
+use Rattle.laws.proofs.All.{length, drop}
 use Rattle.view_refusals.specs.TextLines.{line_end}
 use Rattle.view_refusals.proofs.lines.line_end.Given as goal
 

@@ -1,4 +1,5 @@
-use Rattle.laws.proofs.All.{◌≡◌, ap, ◌∙◌, arith}
+use Rattle.std.proofs.Common.{◌≡◌}
+use Rattle.laws.proofs.All.{ap, ◌∙◌, arith}
 use Rattle.view_refusals.specs.TextLines.{rest}
 use Rattle.view_refusals.proofs.TextLines.{rest-next}
 use Rattle.view_refusals.proofs.lines.line_start.Goals as goal

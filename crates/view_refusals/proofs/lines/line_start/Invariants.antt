@@ -1,6 +1,7 @@
 -- `line_start` meets its contract. The loop's invariant: from the place on stands the text without its first i lines.
 -- The measure is what is left of the n lines.
-use Rattle.laws.proofs.All.{◌≡◌, ◌-◌, ◌≤◌, length, drop}
+use Rattle.std.proofs.Common.{◌≡◌, ◌-◌, ◌≤◌}
+use Rattle.laws.proofs.All.{length, drop}
 use Rattle.view_refusals.specs.TextLines.{rest}
 use Rattle.view_refusals.proofs.lines.line_start.Given as goal
 

@@ -1,5 +1,6 @@
 -- `is_same` meets its contract: the states below i are alike; the first that is not ends the loop.
-use Rattle.laws.proofs.All.{ℕ, ◌-◌, ◌≤◌, ◌<◌}
+use Rattle.std.proofs.Common.{◌-◌, ◌≤◌, ◌<◌}
+use Rattle.laws.proofs.All.{ℕ}
 use Rattle.laws.proofs.All.{T}
 use Rattle.constraint.specs.Value.{next_states_at}
 use Rattle.view_show.specs.Limits.{alike}

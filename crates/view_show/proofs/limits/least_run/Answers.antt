@@ -1,4 +1,5 @@
-use Rattle.laws.proofs.All.{◌≡◌, sym, ◌∙◌, false, ◌-◌, not-suc-le-zero, arith, below_more}
+use Rattle.std.proofs.Common.{◌≡◌, ◌-◌}
+use Rattle.laws.proofs.All.{sym, ◌∙◌, false, not-suc-le-zero, arith, below_more}
 use Rattle.constraint.specs.Value.{constraint_of}
 use Rattle.view_show.specs.Limits.{is_runs}
 use Rattle.view_show.proofs.LimitLines.{same_runs, run-least, run_none}

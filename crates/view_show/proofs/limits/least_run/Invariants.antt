@@ -1,5 +1,6 @@
 -- `least_run` meets its contract: with no d passed is the constraint (d, k); the first with which it is ends the loop.
-use Rattle.laws.proofs.All.{◌≡◌, false, ℕ, ◌-◌, ◌≤◌, ◌<◌}
+use Rattle.std.proofs.Common.{◌≡◌, ◌-◌, ◌≤◌, ◌<◌}
+use Rattle.laws.proofs.All.{false, ℕ}
 use Rattle.constraint.specs.Value.{constraint_of}
 use Rattle.view_show.specs.Limits.{is_runs}
 use Rattle.view_show.proofs.limits.least_run.Given as goal

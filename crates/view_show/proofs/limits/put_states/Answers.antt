@@ -1,4 +1,5 @@
-use Rattle.laws.proofs.All.{◌≡◌, ap, ◌∙◌, ◌-◌, arith}
+use Rattle.std.proofs.Common.{◌≡◌, ◌-◌}
+use Rattle.laws.proofs.All.{ap, ◌∙◌, arith}
 use Rattle.constraint.specs.Value.{constraint_of}
 use Rattle.text.proofs.Adding.{added-same, ◌then◌, begun}
 use Rattle.view_show.specs.Limits.{states_to}

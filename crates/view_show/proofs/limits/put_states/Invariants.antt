@@ -1,6 +1,6 @@
 -- `put_states` meets its contract. The loop's invariant: the text put since the loop began has the lines of the states
 -- passed.
-use Rattle.laws.proofs.All.{◌-◌, ◌≤◌}
+use Rattle.std.proofs.Common.{◌-◌, ◌≤◌}
 use Rattle.constraint.specs.Value.{constraint_of}
 use Rattle.text.specs.Texts.{Added}
 use Rattle.view_show.specs.Limits.{states_to}

@@ -1,5 +1,6 @@
 -- The row of the start with the start, written over the row.
-use Rattle.laws.proofs.All.{ap, ap₂, ◌∙◌, ◌&&◌, ◌||◌, eqb}
+use Rattle.std.proofs.Common.{◌&&◌, ◌||◌}
+use Rattle.laws.proofs.All.{ap, ap₂, ◌∙◌, eqb}
 use Rattle.bitsets.specs.BitSets.{holds, set_at}
 use Rattle.window_pairs.proofs.SetLaws.{put-row, eqb_swap}
 use Rattle.window_pairs.proofs.sets.add_start.Goals as goal

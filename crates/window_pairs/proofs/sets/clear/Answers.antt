@@ -1,4 +1,5 @@
-use Rattle.laws.proofs.All.{refl, ◌+◌, ◌-◌, ◌*◌, arith, fill_more}
+use Rattle.std.proofs.Common.{◌+◌, ◌-◌, ◌*◌}
+use Rattle.laws.proofs.All.{refl, arith, fill_more}
 use Rattle.window_pairs.proofs.SetLaws.{cleared}
 use Rattle.window_pairs.proofs.sets.clear.Goals as goal
 

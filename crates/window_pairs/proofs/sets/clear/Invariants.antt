@@ -1,5 +1,6 @@
 -- The words that the loop has passed are 0.
-use Rattle.laws.proofs.All.{◌-◌, ◌*◌, ◌≤◌, Filled}
+use Rattle.std.proofs.Common.{◌-◌, ◌*◌, ◌≤◌}
+use Rattle.laws.proofs.All.{Filled}
 use Rattle.window_pairs.proofs.sets.clear.Given as goal
 
 abbrev pub invariant-loop-z : goal.invariant-loop-z

@@ -1,4 +1,5 @@
-use Rattle.laws.proofs.All.{refl, ◌-◌, arith, get_or, fill_more}
+use Rattle.std.proofs.Common.{◌-◌}
+use Rattle.laws.proofs.All.{refl, arith, get_or, fill_more}
 use Rattle.window_pairs.proofs.SetLaws.{copied}
 use Rattle.window_pairs.proofs.sets.copy.Goals as goal
 

@@ -1,5 +1,6 @@
 -- The words that the loop has passed are those of the set.
-use Rattle.laws.proofs.All.{◌-◌, ◌*◌, ◌≤◌, get_or, Filled}
+use Rattle.std.proofs.Common.{◌-◌, ◌*◌, ◌≤◌}
+use Rattle.laws.proofs.All.{get_or, Filled}
 use Rattle.window_pairs.proofs.sets.copy.Given as goal
 
 abbrev pub invariant-loop-z : goal.invariant-loop-z

@@ -1,4 +1,5 @@
-use Rattle.laws.proofs.All.{◌∙◌, ◌-◌, arith, ltb}
+use Rattle.std.proofs.Common.{◌-◌}
+use Rattle.laws.proofs.All.{◌∙◌, arith, ltb}
 use Rattle.window_pairs.proofs.SetLaws.{fill-row}
 use Rattle.window_pairs.proofs.sets.fill.Goals as goal
 

@@ -1,5 +1,6 @@
 -- The rows that the loop has passed hold every state.
-use Rattle.laws.proofs.All.{◌≡◌, ℕ, ◌-◌, ◌≤◌, ◌<◌, ltb}
+use Rattle.std.proofs.Common.{◌≡◌, ◌-◌, ◌≤◌, ◌<◌}
+use Rattle.laws.proofs.All.{ℕ, ltb}
 use Rattle.bitsets.specs.BitSets.{holds, set_at}
 use Rattle.window_pairs.specs.PairSets.{Long}
 use Rattle.window_pairs.proofs.sets.fill.Given as goal

@@ -1,4 +1,5 @@
-use Rattle.laws.proofs.All.{◌≡◌, sym, ap, ◌∙◌, false, not, ◌-◌, ◌*◌, arith, eq-eqb, ne_eqb}
+use Rattle.std.proofs.Common.{◌≡◌, ◌-◌, ◌*◌}
+use Rattle.laws.proofs.All.{sym, ap, ◌∙◌, false, not, arith, eq-eqb, ne_eqb}
 use Rattle.table.specs.Marks.{some}
 use Rattle.table.proofs.Marks.{none-start, none_more, some-stop}
 use Rattle.window_pairs.specs.PairSets.{differs_at}

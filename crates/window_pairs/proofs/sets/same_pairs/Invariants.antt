@@ -1,5 +1,6 @@
 -- The loop has found no word that differs among those that it has passed.
-use Rattle.laws.proofs.All.{◌≡◌, false, ◌-◌, ◌*◌, ◌≤◌}
+use Rattle.std.proofs.Common.{◌≡◌, ◌-◌, ◌*◌, ◌≤◌}
+use Rattle.laws.proofs.All.{false}
 use Rattle.table.specs.Marks.{some}
 use Rattle.window_pairs.specs.PairSets.{differs_at}
 use Rattle.window_pairs.proofs.sets.same_pairs.Given as goal

@@ -1,4 +1,5 @@
-use Rattle.laws.proofs.All.{◌≡◌, ◌-◌, refl, sym, ◌∙◌, arith}
+use Rattle.std.proofs.Common.{◌≡◌, ◌-◌}
+use Rattle.laws.proofs.All.{refl, sym, ◌∙◌, arith}
 use Rattle.window.specs.Works.{into, reversed}
 use Rattle.window.specs.Search.{empty}
 use Rattle.table.specs.Edges.{arrays, rows_of}

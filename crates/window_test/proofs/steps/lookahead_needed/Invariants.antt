@@ -1,5 +1,5 @@
 -- After k turns the set is the one after k steps, and none of the sets before it was empty.
-use Rattle.laws.proofs.All.{◌-◌}
+use Rattle.std.proofs.Common.{◌-◌}
 use Rattle.table.specs.Edges.{arrays, rows_of}
 use Rattle.window_pairs.specs.PairSets.{pairs_in, Long}
 use Rattle.window_test.proofs.Stepped.{Stepped}
