@@ -714,6 +714,67 @@ def declarations(text):
     return [b.rstrip() for b in blocks if b.strip()]
 
 
+def flat(text):
+    """Declarations of a module over a place, or over a fact, as declarations that take it."""
+    lines, out, i = text.split("\n"), [], 0
+    while i < len(lines):
+        m = re.match(r"module _ (\(.*\)) where$", lines[i])
+        if not m or "{M :" in lines[i]:
+            out.append(lines[i])
+            i += 1
+            continue
+        j, body = i + 1, []
+        while j < len(lines) and (not lines[j].strip() or lines[j].startswith("  ")):
+            body.append(lines[j][2:])
+            j += 1
+        out += taking(m.group(1), flat("\n".join(body)))
+        i = j
+    return "\n".join(out)
+
+
+def taking(binders, text):
+    ps, ts, i = [], tokens(binders), 0
+    while i < len(ts):
+        if ts[i] == "(":
+            k = close_at(ts, i)
+            inner = "".join(ts[i + 1:k])
+            names, typ = inner.split(":", 1)
+            ps.append((names.split(), typ.strip()))
+            i = k + 1
+        else:
+            i += 1
+    args = [n for ns, _t in ps for n in ns]
+    blocks = declarations(text)
+    own = []
+    for b in blocks:
+        m = re.match(r"((?:abbrev |pub |unfoldable )*)([^\s:]+) :", b)
+        if m and not b.startswith("--"):
+            own.append(m.group(2))
+    word = re.compile(r"(?<![\w.-])(" + "|".join(re.escape(n) for n in sorted(own, key=len, reverse=True)) + r")(?![\w-])") if own else None
+
+    def put(s):
+        return word.sub(lambda m: "(" + m.group(1) + " " + " ".join(args) + ")", s) if word else s
+
+    out = []
+    for b in blocks:
+        m = re.match(r"(?s)((?:abbrev |pub |unfoldable )*)([^\s:]+) :(.*)$", b)
+        if b.startswith("--") or b.startswith("unfolding"):
+            out.append(b)
+        elif m:
+            typ = m.group(3).strip()
+            if "abbrev" in m.group(1) and len(ps) == 1 and not typ.startswith("("):
+                out.append(f"{m.group(1)}{m.group(2)} : {ps[0][1]} → {put(typ)}")
+            else:
+                bound = " → ".join("(" + " ".join(ns) + " : " + put(tt) + ")" for ns, tt in ps)
+                out.append(f"{m.group(1)}{m.group(2)} : {bound} → {put(typ)}")
+        else:
+            m = re.match(r"(?s)(\S+)(.*)$", b)
+            head, rest = m.group(2).split("=", 1)
+            out.append(f"{m.group(1)} {' '.join(args)}{head}={put(rest)}")
+            out.append("")
+    return out
+
+
 def used_only(uses, body):
     """The `use` lines with the names that the body has."""
     out = []
@@ -798,7 +859,7 @@ def invariant(fn, loop, name, params, body):
 
 def turn(fn, crate, path, folder, text):
     """Returns the texts of Invariants.antt and Answers.antt, or None for each."""
-    blocks = declarations(re.sub(r"(?<![\w-])needs(?![\w-])", "rules", text if "let now" in text or "(now :" in text else current(text)))
+    blocks = declarations(re.sub(r"(?<![\w-])needs(?![\w-])", "rules", flat(text) if "let now" in text or "(now :" in text else current(flat(text))))
     uses, head, comment = [], [], []
     decls = []
     spec = None

@@ -1,7 +1,8 @@
 -- What the parts of choosing a split answer.
 -- In order: lower_source; run_in, RunTo, FirstRun, what a search for a run finds.
 -- Assumes nothing.
-use Rattle.std.specs.Prelude.{if◌then◌else◌, ◌≡◌, true, false, ◌&&◌, List, [], map, ℕ, ◌+◌, ◌≤◌, ◌<◌, min, ltb, eqb, length, take}
+use Rattle.std.specs.Prelude.{if◌then◌else◌, ◌≡◌, true, false, ◌&&◌, List, [], map, ℕ, ◌+◌, ◌≤◌, ◌<◌, min, ltb, eqb}
+use Rattle.std.specs.Prelude.{length, take}
 use Rattle.std.specs.Prelude.{drop}
 use Rattle.laws.specs.Lists.{any, first}
 use Rattle.compile_choice.specs.declared.find_run.Run.{Run}

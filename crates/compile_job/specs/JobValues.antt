@@ -3,7 +3,8 @@
 -- good_state_at,
 -- the next states in a constraint's bytes; spare, sized; constraint_outcome.
 -- Assumes nothing.
-use Rattle.std.specs.Prelude.{if◌then◌else◌, ◌≡◌, ◌⊎◌, ℕ, ◌+◌, ◌*◌, ◌/◌, ◌≤◌, Bool, true, false, ◌||◌, List, T, leb, eqb, length}
+use Rattle.std.specs.Prelude.{if◌then◌else◌, ◌≡◌, ◌⊎◌, ℕ, ◌+◌, ◌*◌, ◌/◌, ◌≤◌, Bool, true, false, ◌||◌, List, T, leb}
+use Rattle.std.specs.Prelude.{eqb, length}
 use Rattle.std.specs.Prelude.{get_or, take}
 use Rattle.answer.specs.Outcomes.{Outcome, verdict_on}
 use Rattle.constraint.specs.Walking.{NextStates, Constraint, Lawful}

@@ -6,7 +6,8 @@
 -- job_with, joined_job, read_joined; Joins, the two constraints of a joined job; Fitting, Allowed, the jobs that pass
 -- these checks.
 -- Assumes nothing.
-use Rattle.std.specs.Prelude.{if◌then◌else◌, ◌≡◌, Bool, true, ◌&&◌, ◌||◌, List, [], ◌∷◌, ℕ, zero, suc, ◌+◌, ◌*◌, ◌^◌, ◌≤◌, T, leb, eqb}
+use Rattle.std.specs.Prelude.{if◌then◌else◌, ◌≡◌, Bool, true, ◌&&◌, ◌||◌, List, [], ◌∷◌, ℕ, zero, suc, ◌+◌, ◌*◌, ◌^◌}
+use Rattle.std.specs.Prelude.{◌≤◌, T, leb, eqb}
 use Rattle.std.specs.Prelude.{length, get_or, drop}
 use Rattle.laws.specs.Lists.{all}
 use Rattle.answer.specs.declared.Refusal.TheVariants.{Parameters, States, Length, TooManyPairs, BadWeights}

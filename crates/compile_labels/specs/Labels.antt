@@ -5,7 +5,8 @@
 -- answered, the second; data_of, the data of a state's edges; bearer, relabelled_row, relabelled; Rearranged, the same
 -- edges in another order.
 -- Assumes nothing.
-use Rattle.std.specs.Prelude.{if◌then◌else◌, ◌≡◌, Bool, not, List, [], ◌∷◌, map, ℕ, ◌<◌, eqb, ltb, length, get_or, take, drop}
+use Rattle.std.specs.Prelude.{if◌then◌else◌, ◌≡◌, Bool, not, List, [], ◌∷◌, map, ℕ, ◌<◌, eqb, ltb, length, get_or, take}
+use Rattle.std.specs.Prelude.{drop}
 use Rattle.laws.specs.Lists.{range, filter, first, extend, elem, index_of}
 use Rattle.laws.specs.Sums.{Below, Once}
 use Rattle.table.specs.Rows.{Edge, edge, Rows, words_of, has_word}

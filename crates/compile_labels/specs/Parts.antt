@@ -3,7 +3,8 @@
 -- column that holds a table's words; Home, Homes, for each word the lowest state that has it; noted, its home when a
 -- state is added; served, the second pass; Reordered, a column with the entries of one state in another order.
 -- Assumes nothing.
-use Rattle.std.specs.Prelude.{if◌then◌else◌, ◌≡◌, true, false, ◌&&◌, ◌⊎◌, List, [], ◌∷◌, ◌++◌, ℕ, ◌+◌, ◌*◌, ◌≤◌, ◌<◌, eqb, ltb, length}
+use Rattle.std.specs.Prelude.{if◌then◌else◌, ◌≡◌, true, false, ◌&&◌, ◌⊎◌, List, [], ◌∷◌, ◌++◌, ℕ, ◌+◌, ◌*◌, ◌≤◌, ◌<◌}
+use Rattle.std.specs.Prelude.{eqb, ltb, length}
 use Rattle.std.specs.Prelude.{get_or, take, drop}
 use Rattle.laws.specs.Lists.{range, first, elem, index_of}
 use Rattle.table.specs.Rows.{Rows, edges, at, has_word}

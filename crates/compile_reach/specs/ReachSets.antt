@@ -3,7 +3,8 @@
 -- In order: reach_at, row_of, rows_of; links_into, Linked, edges as such a list; passes_on, one round; live_edge, edges
 -- among states of weight above 0; Listed, the states of the component and their numbers.
 -- Assumes nothing.
-use Rattle.std.specs.Prelude.{if◌then◌else◌, ◌≡◌, Bool, false, ◌&&◌, List, map, ℕ, ◌+◌, ◌*◌, ◌/◌, ◌%◌, ◌≤◌, ◌<◌, ltb, get_or, take}
+use Rattle.std.specs.Prelude.{if◌then◌else◌, ◌≡◌, Bool, false, ◌&&◌, List, map, ℕ, ◌+◌, ◌*◌, ◌/◌, ◌%◌, ◌≤◌, ◌<◌, ltb}
+use Rattle.std.specs.Prelude.{get_or, take}
 use Rattle.laws.specs.Lists.{range, any, elem, index_of}
 use Rattle.laws.specs.Sets.{member}
 use Rattle.compile_reach.specs.declared.reaching.Members.{Members}

@@ -1,4 +1,4 @@
-// The functions exported for C and Rust. Each takes bytes as pointer and length, and answers one number.
+// The functions of the library, each with its answer as one number. The crate sbc_c exports them for C and Rust.
 #![tactic(auto)]
 
 ghost use Rattle.std.specs.Prelude.{◌≡◌, length};
@@ -30,8 +30,7 @@ fn set_word(a: SetAnswer) -> u64
 }
 
 // Whether a record is accepted: refusals 8, 7, 8, 7, 9, 10 in this order, or 0.
-#[unsafe(no_mangle)]
-pub extern "C" fn sbc_check(bytes: &[u8]) -> u64
+pub fn sbc_check(bytes: &[u8]) -> u64
     ensures answer { result ≡ word_of (answer_of (checked_only bytes.now)) }
 {
     word(record_check::check(bytes))
@@ -40,8 +39,7 @@ pub extern "C" fn sbc_check(bytes: &[u8]) -> u64
 // Whether a set of records is good: 8 with number 0 for no bytes at all; then, record by record, 8 if its length or
 // bytes are cut off, else the record's refusals, with the record's number; 8 with the count for bytes left over;
 // otherwise the count.
-#[unsafe(no_mangle)]
-pub extern "C" fn sbc_set(set: &[u8]) -> u64
+pub fn sbc_set(set: &[u8]) -> u64
     ensures answer { result ≡ set_word_of (set_answer (read_set set.now)) }
 {
     set_word(set_check::check_set(set))
@@ -49,8 +47,7 @@ pub extern "C" fn sbc_set(set: &[u8]) -> u64
 
 // Blocks recorded under a record: the record's refusals, 13, 11 with the place of the first bad block; otherwise how
 // many words were written. A refusal changes no byte of the output, and bytes past the words stay as lent.
-#[unsafe(no_mangle)]
-pub extern "C" fn sbc_encode(bytes: &[u8], blocks: &[u8], out: &mut [u8]) -> u64
+pub fn sbc_encode(bytes: &[u8], blocks: &[u8], out: &mut [u8]) -> u64
     ensures answer { result ≡ word_of (answer_of
         (encode_under bytes.now (length out.old) blocks.now)) }
     ensures written { out.new ≡ output_of
@@ -61,8 +58,7 @@ pub extern "C" fn sbc_encode(bytes: &[u8], blocks: &[u8], out: &mut [u8]) -> u64
 
 // Words decoded under a record: the record's refusals, 12, 13, 11 with the place of the first bad word; otherwise how
 // many blocks were written. A refusal changes no byte of the output, and bytes past the blocks stay as lent.
-#[unsafe(no_mangle)]
-pub extern "C" fn sbc_decode(bytes: &[u8], words: &[u8], out: &mut [u8]) -> u64
+pub fn sbc_decode(bytes: &[u8], words: &[u8], out: &mut [u8]) -> u64
     ensures answer { result ≡ word_of (answer_of
         (decode_under bytes.now (length out.old) words.now)) }
     ensures written { out.new ≡ output_of
@@ -73,16 +69,14 @@ pub extern "C" fn sbc_decode(bytes: &[u8], words: &[u8], out: &mut [u8]) -> u64
 
 // How many words in front encoding the decoded blocks gives back, all of them exactly if the words are a recording: the
 // record's refusals, 12, 11 with the place of the first bad word; otherwise their number.
-#[unsafe(no_mangle)]
-pub extern "C" fn sbc_verify(bytes: &[u8], words: &[u8]) -> u64
+pub fn sbc_verify(bytes: &[u8], words: &[u8]) -> u64
     ensures answer { result ≡ word_of (answer_of (verify_under bytes.now words.now)) }
 {
     word(codec_verify::verify(bytes, words))
 }
 
 // Blocks recorded under a record that was accepted before: as `sbc_encode`, but 9 and 10 are not looked at.
-#[unsafe(no_mangle)]
-pub extern "C" fn sbc_encode_checked(bytes: &[u8], blocks: &[u8], out: &mut [u8]) -> u64
+pub fn sbc_encode_checked(bytes: &[u8], blocks: &[u8], out: &mut [u8]) -> u64
     ensures answer { result ≡ word_of (answer_of
         (encode_checked bytes.now (length out.old) blocks.now)) }
     ensures written { out.new ≡ output_of
@@ -92,8 +86,7 @@ pub extern "C" fn sbc_encode_checked(bytes: &[u8], blocks: &[u8], out: &mut [u8]
 }
 
 // Words decoded under a record that was accepted before: as `sbc_decode`, but 9 and 10 are not looked at.
-#[unsafe(no_mangle)]
-pub extern "C" fn sbc_decode_checked(bytes: &[u8], words: &[u8], out: &mut [u8]) -> u64
+pub fn sbc_decode_checked(bytes: &[u8], words: &[u8], out: &mut [u8]) -> u64
     ensures answer { result ≡ word_of (answer_of
         (decode_checked bytes.now (length out.old) words.now)) }
     ensures written { out.new ≡ output_of
@@ -104,8 +97,7 @@ pub extern "C" fn sbc_decode_checked(bytes: &[u8], words: &[u8], out: &mut [u8])
 
 // Words of q bits as a bit stream: 1 for a q out of range, 15 for too many words, 13, 11 with the place of the first
 // bad word; otherwise how many bytes were written.
-#[unsafe(no_mangle)]
-pub extern "C" fn sbc_pack(q: u64, words: &[u8], out: &mut [u8]) -> u64
+pub fn sbc_pack(q: u64, words: &[u8], out: &mut [u8]) -> u64
     ensures answer { result ≡ word_of (answer_of (pack_into q (length out.old) words.now)) }
     ensures written { out.new
         ≡ output_of (pack_into q (length out.old) words.now) out.old }
@@ -114,8 +106,7 @@ pub extern "C" fn sbc_pack(q: u64, words: &[u8], out: &mut [u8]) -> u64
 }
 
 // The `count` words of q bits of a bit stream: 1 for a q out of range, 15, 13; otherwise how many words were written.
-#[unsafe(no_mangle)]
-pub extern "C" fn sbc_unpack(q: u64, count: u64, bytes: &[u8], out: &mut [u8]) -> u64
+pub fn sbc_unpack(q: u64, count: u64, bytes: &[u8], out: &mut [u8]) -> u64
     ensures answer { result ≡ word_of (answer_of
         (unpack_into q count (length out.old) bytes.now)) }
     ensures written { out.new ≡ output_of
@@ -126,8 +117,7 @@ pub extern "C" fn sbc_unpack(q: u64, count: u64, bytes: &[u8], out: &mut [u8]) -
 
 // The recordings that stand one after the other in the words, as many as the depth says, woven: 16 for a depth that is
 // not 2 to 16 or does not divide the number of words, 13; otherwise how many words were written.
-#[unsafe(no_mangle)]
-pub extern "C" fn sbc_weave(depth: u64, words: &[u8], out: &mut [u8]) -> u64
+pub fn sbc_weave(depth: u64, words: &[u8], out: &mut [u8]) -> u64
     ensures answer { result ≡ word_of (answer_of
         (weave_into depth (length out.old) words.now)) }
     ensures written { out.new
@@ -138,8 +128,7 @@ pub extern "C" fn sbc_weave(depth: u64, words: &[u8], out: &mut [u8]) -> u64
 
 // The recordings that are woven in the words, one after the other: 16 and 13 as for weaving; otherwise how many words
 // were written.
-#[unsafe(no_mangle)]
-pub extern "C" fn sbc_unweave(depth: u64, words: &[u8], out: &mut [u8]) -> u64
+pub fn sbc_unweave(depth: u64, words: &[u8], out: &mut [u8]) -> u64
     ensures answer { result ≡ word_of (answer_of
         (unweave_into depth (length out.old) words.now)) }
     ensures written { out.new
@@ -150,8 +139,7 @@ pub extern "C" fn sbc_unweave(depth: u64, words: &[u8], out: &mut [u8]) -> u64
 
 // Blocks recorded under a record as a bit stream: the record's refusals, 15 for too many words, 13, 11 with the place
 // of the first bad block; otherwise how many bytes were written.
-#[unsafe(no_mangle)]
-pub extern "C" fn sbc_encode_stream(bytes: &[u8], blocks: &[u8], out: &mut [u8]) -> u64
+pub fn sbc_encode_stream(bytes: &[u8], blocks: &[u8], out: &mut [u8]) -> u64
     ensures answer { result ≡ word_of (answer_of
         (encode_stream bytes.now (length out.old) blocks.now)) }
     ensures written { out.new ≡ output_of
@@ -162,8 +150,7 @@ pub extern "C" fn sbc_encode_stream(bytes: &[u8], blocks: &[u8], out: &mut [u8])
 
 // The `count` words of a bit stream decoded under a record: the record's refusals, 15, 12, 13; otherwise how many
 // blocks were written.
-#[unsafe(no_mangle)]
-pub extern "C" fn sbc_decode_stream(bytes: &[u8], count: u64, stream: &[u8], out: &mut [u8]) -> u64
+pub fn sbc_decode_stream(bytes: &[u8], count: u64, stream: &[u8], out: &mut [u8]) -> u64
     ensures answer { result ≡ word_of (answer_of
         (decode_stream bytes.now count (length out.old) stream.now)) }
     ensures written { out.new ≡ output_of
@@ -175,8 +162,7 @@ pub extern "C" fn sbc_decode_stream(bytes: &[u8], count: u64, stream: &[u8], out
 
 // How many words of a stream, in front, encoding the decoded blocks gives back, all of them exactly if they are a
 // recording: the record's refusals, 15, 12; otherwise their number.
-#[unsafe(no_mangle)]
-pub extern "C" fn sbc_verify_stream(bytes: &[u8], count: u64, stream: &[u8]) -> u64
+pub fn sbc_verify_stream(bytes: &[u8], count: u64, stream: &[u8]) -> u64
     ensures answer { result ≡ word_of (answer_of (verify_stream bytes.now count stream.now)) }
 {
     word(stream_verify::verify_stream(bytes, count as usize, stream))
@@ -184,8 +170,7 @@ pub extern "C" fn sbc_verify_stream(bytes: &[u8], count: u64, stream: &[u8]) -> 
 
 // The numbers of a record, one byte each: p, q, states less one, m, a, K, constraint start, tail datum. The record's
 // refusals, 13; otherwise 8.
-#[unsafe(no_mangle)]
-pub extern "C" fn sbc_info(bytes: &[u8], out: &mut [u8]) -> u64
+pub fn sbc_info(bytes: &[u8], out: &mut [u8]) -> u64
     ensures answer { result ≡ word_of (answer_of (info_under bytes.now (length out.old))) }
     ensures written { out.new
         ≡ output_of (info_under bytes.now (length out.old)) out.old }
@@ -195,8 +180,7 @@ pub extern "C" fn sbc_info(bytes: &[u8], out: &mut [u8]) -> u64
 
 // A record with another tail datum: the record's refusals, 7 for a datum of 2^p or more, 13; otherwise how many bytes
 // were written, as many as the record has.
-#[unsafe(no_mangle)]
-pub extern "C" fn sbc_with_tail(bytes: &[u8], datum: u64, out: &mut [u8]) -> u64
+pub fn sbc_with_tail(bytes: &[u8], datum: u64, out: &mut [u8]) -> u64
     ensures answer { result ≡ word_of (answer_of
         (closed_with bytes.now datum (length out.old))) }
     ensures written { out.new
@@ -207,8 +191,7 @@ pub extern "C" fn sbc_with_tail(bytes: &[u8], datum: u64, out: &mut [u8]) -> u64
 
 // A job compiled to a record: 8 below four bytes, 1, K by 2, 8, next states by 2, 3, 4, 5, 6, 13; otherwise how many
 // bytes were written.
-#[unsafe(no_mangle)]
-pub extern "C" fn sbc_compile(job: &[u8], out: &mut [u8]) -> u64
+pub fn sbc_compile(job: &[u8], out: &mut [u8]) -> u64
     ensures answer { result ≡ word_of (answer_of (compile_job job.now (length out.old))) }
     ensures written { out.new
         ≡ output_of (compile_job job.now (length out.old)) out.old }
@@ -217,8 +200,7 @@ pub extern "C" fn sbc_compile(job: &[u8], out: &mut [u8]) -> u64
 }
 
 // A run-length job compiled to a record: 8, 1, 2, 3, 4, 5, 6, 13; otherwise how many bytes were written.
-#[unsafe(no_mangle)]
-pub extern "C" fn sbc_compile_run_length(job: &[u8], out: &mut [u8]) -> u64
+pub fn sbc_compile_run_length(job: &[u8], out: &mut [u8]) -> u64
     ensures answer { result ≡ word_of (answer_of (compile_run_length job.now (length out.old))) }
     ensures written { out.new
         ≡ output_of (compile_run_length job.now (length out.old)) out.old }
@@ -228,8 +210,7 @@ pub extern "C" fn sbc_compile_run_length(job: &[u8], out: &mut [u8]) -> u64
 
 // A job with two constraints compiled to a record for both: 8 below four bytes, 1, for each constraint 8 for a missing
 // K, K by 2, 8, next states by 2; 14, 3, 4, 5, 6, 13; otherwise how many bytes were written.
-#[unsafe(no_mangle)]
-pub extern "C" fn sbc_compile_joined(job: &[u8], out: &mut [u8]) -> u64
+pub fn sbc_compile_joined(job: &[u8], out: &mut [u8]) -> u64
     ensures answer { result ≡ word_of (answer_of (compile_joined job.now (length out.old))) }
     ensures written { out.new
         ≡ output_of (compile_joined job.now (length out.old)) out.old }
@@ -238,8 +219,7 @@ pub extern "C" fn sbc_compile_joined(job: &[u8], out: &mut [u8]) -> u64
 }
 
 // The listing of a run-length job: 8, 1, 2, 3, 4, 5, 6, 13; otherwise how many bytes were written.
-#[unsafe(no_mangle)]
-pub extern "C" fn sbc_listing(job: &[u8], out: &mut [u8]) -> u64
+pub fn sbc_listing(job: &[u8], out: &mut [u8]) -> u64
     ensures answer { result ≡ word_of (answer_of (list_into job.now (length out.old))) }
     ensures written { out.new
         ≡ output_of (list_into job.now (length out.old)) out.old }
@@ -249,8 +229,7 @@ pub extern "C" fn sbc_listing(job: &[u8], out: &mut [u8]) -> u64
 
 // The words of a refusal by its number, and no byte for a number that is no refusal: 13; otherwise how many bytes were
 // written.
-#[unsafe(no_mangle)]
-pub extern "C" fn sbc_phrase(number: u64, out: &mut [u8]) -> u64
+pub fn sbc_phrase(number: u64, out: &mut [u8]) -> u64
     ensures answer { result ≡ word_of (answer_of (phrase_into number (length out.old))) }
     ensures written { out.new
         ≡ output_of (phrase_into number (length out.old)) out.old }
@@ -259,8 +238,7 @@ pub extern "C" fn sbc_phrase(number: u64, out: &mut [u8]) -> u64
 }
 
 // The version of the library: 10,000 times the major number, plus 100 times the minor number, plus the patch.
-#[unsafe(no_mangle)]
-pub extern "C" fn sbc_version() -> u64
+pub fn sbc_version() -> u64
     ensures answer { result ≡ version }
 {
     20300

@@ -2,7 +2,8 @@
 -- In order: graph_line; edge_text, arc_text, kept_text, part_line, split_line, split_lines; end_lines, end_text;
 -- split_text.
 -- Assumes nothing.
-use Rattle.std.specs.Prelude.{if◌then◌else◌, true, false, List, [], ◌∷◌, ◌++◌, map, ℕ, zero, suc, ◌-◌, ◌/◌, length, get_or}
+use Rattle.std.specs.Prelude.{if◌then◌else◌, true, false, List, [], ◌∷◌, ◌++◌, map, ℕ, zero, suc, ◌-◌, ◌/◌, length}
+use Rattle.std.specs.Prelude.{get_or}
 use Rattle.laws.specs.Lists.{concat, sum}
 use Rattle.text.specs.Words.{binary}
 use Rattle.sentences.specs.Sentences.{said}
