@@ -1,4 +1,4 @@
-// Links the static library that `rt staticlib sbc` writes, and the plain loops in C.
+// Links the static library that `./build library` writes, and the plain loops in C.
 use std::process::Command;
 
 fn main() {

@@ -1,4 +1,4 @@
-/* Proved sliding-block codes: the calls of target/staticlib/libsbc.a, which `rt staticlib sbc` writes.
+/* Proved sliding-block codes: the calls of target/staticlib/libsbc.a, which `./build library` writes.
  *
  * Needs C99 or later, or C++. Bytes go as a pointer to the first and their number, a uint64_t on every machine. Where
  * the number is 0 the pointer may be NULL: no byte is read or written there. The bytes of `out` lie apart from those
