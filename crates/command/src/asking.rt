@@ -4,19 +4,21 @@ ghost use Rattle.command_arguments.specs.Shapes.{status_of};
 
 use command_arguments::naming::action_of;
 use command_arguments::{Action, Status};
+use command_messages::Host;
+use command_messages::arguments::{argument_count, word};
 use command_messages::usage::{misused_word, print_use};
 
 // help [ACTION]
-pub fn help() -> Status
+pub fn help<R: Host>(rt: &R) -> Status
     ensures past { status_of result ≤ 2 }
 {
-    if os::arg_count() < 3 {
-        return print_use(Action::Help);
+    if argument_count(rt) < 3 {
+        return print_use(rt, Action::Help);
     }
-    let mut word = io::buffer();
-    let n = os::arg(2, &mut word);
-    match action_of(&word[..n]) {
-        Action::Unknown => misused_word(Action::Help, &word[..n], b": no such action"),
-        a => print_use(a),
+    let mut said = io::buffer();
+    let n = word(rt, 2, &mut said);
+    match action_of(&said[..n]) {
+        Action::Unknown => misused_word(rt, Action::Help, &said[..n], b": no such action"),
+        a => print_use(rt, a),
     }
 }

@@ -12,13 +12,14 @@ ghost use Rattle.command.specs.Acting.{CompiledNumbers, CompiledJob, CompiledJoi
 use answer::Answer;
 use command_arguments::{Action, Status, read_place, written_place};
 use command_inputs::{Input, Numbers, load, numbers_said, page};
+use command_messages::Host;
 use command_messages::system::print;
 use command_outputs::finish;
 use compile::bytes::{compile_job, compile_joined, compile_run_length};
 use trace::tracing::trace_run_length;
 
 // The record of a run-length job, which goes to the file that is named after its weights.
-fn compile_numbers(said: Numbers, out: &mut [u8]) -> Status
+fn compile_numbers<R: Host>(rt: &R, said: Numbers, out: &mut [u8]) -> Status
     requires { SaidAll (shape_of (Compile said.weights)).number said }
     ensures answer { Fails (answer_of (compile_run_length (take said.size said.job) (length out.old))) result }
     ensures written { out.new
@@ -31,11 +32,11 @@ fn compile_numbers(said: Numbers, out: &mut [u8]) -> Status
     let job = said.job;
     let size = said.size;
     let r = compile_run_length(&job[..size], out);
-    finish(Action::Compile(weights), i, r, out)
+    finish(rt, Action::Compile(weights), i, r, out)
 }
 
 // The record of a job. `l` is what was read of the job.
-fn compile_bytes(l: Input, job: &[u8], out: &mut [u8]) -> Status
+fn compile_bytes<R: Host>(rt: &R, l: Input, job: &[u8], out: &mut [u8]) -> Status
     requires { From (shape_of CompileJob).read l job.now }
     ensures answer { Fails (answer_of (compile_job job.now (length out.old))) result }
     ensures written { out.new
@@ -44,11 +45,11 @@ fn compile_bytes(l: Input, job: &[u8], out: &mut [u8]) -> Status
 {
     let i = written_place(Action::CompileJob);
     let r = compile_job(job, out);
-    finish(Action::CompileJob, i, r, out)
+    finish(rt, Action::CompileJob, i, r, out)
 }
 
 // The record of a job with two constraints. `l` is what was read of the job.
-fn compile_both(l: Input, job: &[u8], out: &mut [u8]) -> Status
+fn compile_both<R: Host>(rt: &R, l: Input, job: &[u8], out: &mut [u8]) -> Status
     requires { From (shape_of CompileJoined).read l job.now }
     ensures answer { Fails (answer_of (compile_joined job.now (length out.old))) result }
     ensures written { out.new
@@ -57,47 +58,47 @@ fn compile_both(l: Input, job: &[u8], out: &mut [u8]) -> Status
 {
     let i = written_place(Action::CompileJoined);
     let r = compile_joined(job, out);
-    finish(Action::CompileJoined, i, r, out)
+    finish(rt, Action::CompileJoined, i, r, out)
 }
 
 // compile d k p q cap [weights W0 .. Wk] [OUT]
-pub fn compile() -> Status
+pub fn compile<R: Host>(rt: &R) -> Status
     ensures answer { WellOnly CompiledNumbers result }
 {
-    let said = numbers_said(Action::Compile(0));
+    let said = numbers_said(rt, Action::Compile(0));
     if !said.good {
         return Status::Misused;
     }
     let mut out = [0u8; 3865];
-    compile_numbers(said, &mut out)
+    compile_numbers(rt, said, &mut out)
 }
 
 // compile-job FILE [OUT]. The longest job has 52 bytes; a longer one is refused by its length.
-pub fn compile_file() -> Status
+pub fn compile_file<R: Host>(rt: &R) -> Status
     ensures answer { WellOnly CompiledJob result }
 {
     let mut job = [0u8; 53];
-    let l = load(read_place(Action::CompileJob), &mut job);
+    let l = load(rt, read_place(Action::CompileJob), &mut job);
     if !l.good {
         return Status::Failed;
     }
     let n = l.size;
     let mut out = [0u8; 3865];
-    compile_bytes(l, &job[..n], &mut out)
+    compile_bytes(rt, l, &job[..n], &mut out)
 }
 
 // compile-joined FILE [OUT]
-pub fn compile_joined_file() -> Status
+pub fn compile_joined_file<R: Host>(rt: &R) -> Status
     ensures answer { WellOnly CompiledJoined result }
 {
     let mut job = [0u8; 70];
-    let l = load(read_place(Action::CompileJoined), &mut job);
+    let l = load(rt, read_place(Action::CompileJoined), &mut job);
     if !l.good {
         return Status::Failed;
     }
     let n = l.size;
     let mut out = [0u8; 3865];
-    compile_both(l, &job[..n], &mut out)
+    compile_both(rt, l, &job[..n], &mut out)
 }
 
 // How a trace ends: as compiling the job does.
@@ -115,10 +116,10 @@ fn traced(said: Numbers, out: &mut [u8]) -> Status
 }
 
 // trace d k p q cap [weights W0 .. Wk]
-pub fn trace_numbers() -> Status
+pub fn trace_numbers<R: Host>(rt: &R) -> Status
     ensures answer { WellOnly CompiledNumbers result }
 {
-    let said = numbers_said(Action::Trace);
+    let said = numbers_said(rt, Action::Trace);
     if !said.good {
         return Status::Misused;
     }
@@ -126,7 +127,7 @@ pub fn trace_numbers() -> Status
     let size = said.size;
     let mut out = page();
     let n = trace_run_length(&job[..size], &mut out, 0);
-    match print(&out[..n]) {
+    match print(rt, &out[..n]) {
         Status::Done => {
             let mut record = [0u8; 3865];
             traced(said, &mut record)

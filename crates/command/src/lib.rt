@@ -22,172 +22,174 @@ use command_arguments::naming::action_of;
 use command_arguments::{
     Action, Form, OnRecordings, OnStream, Status, is_fitting, shape_of, status_number,
 };
+use command_messages::Host;
+use command_messages::arguments::{argument, argument_count};
 use command_messages::usage::{misused, misused_word, print_version};
 
-// encode or decode. It is exported so that it has a stack frame of its own.
-#[unsafe(no_mangle)]
-pub extern "C" fn sbc_action_code(back: bool) -> u32
+// encode or decode. It has a stack frame of its own.
+#[inline(never)]
+pub fn sbc_action_code<R: Host>(rt: &R, back: bool) -> u32
     ensures answer { EndsAs (Coding (way_by back)) result }
     ensures past { result ≤ 3 }
 {
-    status_number(command_code::code_files(way_by(back)))
+    status_number(command_code::code_files(rt, way_by(back)))
 }
 
-// set. It is exported so that it has a stack frame of its own.
-#[unsafe(no_mangle)]
-pub extern "C" fn sbc_action_set() -> u32
+// set. It has a stack frame of its own.
+#[inline(never)]
+pub fn sbc_action_set<R: Host>(rt: &R) -> u32
     ensures answer { EndsAs Collection result }
     ensures past { result ≤ 3 }
 {
-    status_number(records::set_file())
+    status_number(records::set_file(rt))
 }
 
-// pack. It is exported so that it has a stack frame of its own.
-#[unsafe(no_mangle)]
-pub extern "C" fn sbc_action_pack() -> u32
+// pack. It has a stack frame of its own.
+#[inline(never)]
+pub fn sbc_action_pack<R: Host>(rt: &R) -> u32
     ensures answer { EndsAs (Stream Pack) result }
     ensures past { result ≤ 3 }
 {
-    status_number(command_stream::pack_file())
+    status_number(command_stream::pack_file(rt))
 }
 
-// unpack. It is exported so that it has a stack frame of its own.
-#[unsafe(no_mangle)]
-pub extern "C" fn sbc_action_unpack() -> u32
+// unpack. It has a stack frame of its own.
+#[inline(never)]
+pub fn sbc_action_unpack<R: Host>(rt: &R) -> u32
     ensures answer { EndsAs (Stream Unpack) result }
     ensures past { result ≤ 3 }
 {
-    status_number(command_stream::unpack_file())
+    status_number(command_stream::unpack_file(rt))
 }
 
-// encode-stream. It is exported so that it has a stack frame of its own.
-#[unsafe(no_mangle)]
-pub extern "C" fn sbc_action_encode_stream() -> u32
+// encode-stream. It has a stack frame of its own.
+#[inline(never)]
+pub fn sbc_action_encode_stream<R: Host>(rt: &R) -> u32
     ensures answer { EndsAs (Stream Encode) result }
     ensures past { result ≤ 3 }
 {
-    status_number(command_stream::encode_file())
+    status_number(command_stream::encode_file(rt))
 }
 
-// decode-stream. It is exported so that it has a stack frame of its own.
-#[unsafe(no_mangle)]
-pub extern "C" fn sbc_action_decode_stream() -> u32
+// decode-stream. It has a stack frame of its own.
+#[inline(never)]
+pub fn sbc_action_decode_stream<R: Host>(rt: &R) -> u32
     ensures answer { EndsAs (Stream Decode) result }
     ensures past { result ≤ 3 }
 {
-    status_number(command_stream::decode_file())
+    status_number(command_stream::decode_file(rt))
 }
 
-// weave. It is exported so that it has a stack frame of its own.
-#[unsafe(no_mangle)]
-pub extern "C" fn sbc_action_weave() -> u32
+// weave. It has a stack frame of its own.
+#[inline(never)]
+pub fn sbc_action_weave<R: Host>(rt: &R) -> u32
     ensures answer { EndsAs (Recordings Weave) result }
     ensures past { result ≤ 3 }
 {
-    status_number(command_weave::rearrange_file(OnRecordings::Weave))
+    status_number(command_weave::rearrange_file(rt, OnRecordings::Weave))
 }
 
-// unweave. It is exported so that it has a stack frame of its own.
-#[unsafe(no_mangle)]
-pub extern "C" fn sbc_action_unweave() -> u32
+// unweave. It has a stack frame of its own.
+#[inline(never)]
+pub fn sbc_action_unweave<R: Host>(rt: &R) -> u32
     ensures answer { EndsAs (Recordings Unweave) result }
     ensures past { result ≤ 3 }
 {
-    status_number(command_weave::rearrange_file(OnRecordings::Unweave))
+    status_number(command_weave::rearrange_file(rt, OnRecordings::Unweave))
 }
 
-// verify. It is exported so that it has a stack frame of its own.
-#[unsafe(no_mangle)]
-pub extern "C" fn sbc_action_verify() -> u32
+// verify. It has a stack frame of its own.
+#[inline(never)]
+pub fn sbc_action_verify<R: Host>(rt: &R) -> u32
     ensures answer { EndsAs (Verify Words) result }
     ensures past { result ≤ 3 }
 {
-    status_number(command_verify::verifying::verify_file())
+    status_number(command_verify::verifying::verify_file(rt))
 }
 
-// verify-stream. It is exported so that it has a stack frame of its own.
-#[unsafe(no_mangle)]
-pub extern "C" fn sbc_action_verify_stream() -> u32
+// verify-stream. It has a stack frame of its own.
+#[inline(never)]
+pub fn sbc_action_verify_stream<R: Host>(rt: &R) -> u32
     ensures answer { EndsAs (Verify AsStream) result }
     ensures past { result ≤ 3 }
 {
-    status_number(command_verify::verifying::verify_stream_file())
+    status_number(command_verify::verifying::verify_stream_file(rt))
 }
 
 // Does an action on bit streams; the answer is the exit status.
-fn act_on_stream(s: OnStream) -> u32
+fn act_on_stream<R: Host>(rt: &R, s: OnStream) -> u32
     ensures answer { EndsAs (Stream s) result }
     ensures past { result ≤ 3 }
 {
     match s {
-        OnStream::Pack => sbc_action_pack(),
-        OnStream::Unpack => sbc_action_unpack(),
-        OnStream::Encode => sbc_action_encode_stream(),
-        OnStream::Decode => sbc_action_decode_stream(),
-        OnStream::Reach => status_number(command_stream::reaching::reach_bits()),
+        OnStream::Pack => sbc_action_pack(rt),
+        OnStream::Unpack => sbc_action_unpack(rt),
+        OnStream::Encode => sbc_action_encode_stream(rt),
+        OnStream::Decode => sbc_action_decode_stream(rt),
+        OnStream::Reach => status_number(command_stream::reaching::reach_bits(rt)),
     }
 }
 
 // Does an action on several recordings at once; the answer is the exit status.
-fn act_on_recordings(how: OnRecordings) -> u32
+fn act_on_recordings<R: Host>(rt: &R, how: OnRecordings) -> u32
     ensures answer { EndsAs (Recordings how) result }
     ensures past { result ≤ 3 }
 {
     match how {
-        OnRecordings::Weave => sbc_action_weave(),
-        OnRecordings::Unweave => sbc_action_unweave(),
+        OnRecordings::Weave => sbc_action_weave(rt),
+        OnRecordings::Unweave => sbc_action_unweave(rt),
     }
 }
 
 // Does an action that verifies; the answer is the exit status.
-fn act_on_words(f: Form) -> u32
+fn act_on_words<R: Host>(rt: &R, f: Form) -> u32
     ensures answer { EndsAs (Verify f) result }
     ensures past { result ≤ 3 }
 {
     match f {
-        Form::Words => sbc_action_verify(),
-        Form::Stream => sbc_action_verify_stream(),
+        Form::Words => sbc_action_verify(rt),
+        Form::Stream => sbc_action_verify_stream(rt),
     }
 }
 
 // Does an action; the answer is the exit status.
-fn act(a: Action) -> u32
+fn act<R: Host>(rt: &R, a: Action) -> u32
     ensures answer { EndsAs a result }
     ensures past { result ≤ 3 }
 {
     match a {
-        Action::Compile(_) => status_number(compiling::compile()),
-        Action::CompileJob => status_number(compiling::compile_file()),
-        Action::CompileJoined => status_number(compiling::compile_joined_file()),
-        Action::Trace => status_number(compiling::trace_numbers()),
-        Action::Collection => sbc_action_set(),
-        Action::Help => status_number(asking::help()),
-        Action::Version => status_number(print_version()),
-        Action::Viewing(v) => status_number(records::view_file(v)),
-        Action::WithTail => status_number(records::close_file()),
-        Action::Coding(w) => sbc_action_code(is_decoding(w)),
-        Action::Stream(s) => act_on_stream(s),
-        Action::Recordings(how) => act_on_recordings(how),
-        Action::Verify(f) => act_on_words(f),
-        Action::Unknown => status_number(misused(Action::Unknown)),
+        Action::Compile(_) => status_number(compiling::compile(rt)),
+        Action::CompileJob => status_number(compiling::compile_file(rt)),
+        Action::CompileJoined => status_number(compiling::compile_joined_file(rt)),
+        Action::Trace => status_number(compiling::trace_numbers(rt)),
+        Action::Collection => sbc_action_set(rt),
+        Action::Help => status_number(asking::help(rt)),
+        Action::Version => status_number(print_version(rt)),
+        Action::Viewing(v) => status_number(records::view_file(rt, v)),
+        Action::WithTail => status_number(records::close_file(rt)),
+        Action::Coding(w) => sbc_action_code(rt, is_decoding(w)),
+        Action::Stream(s) => act_on_stream(rt, s),
+        Action::Recordings(how) => act_on_recordings(rt, how),
+        Action::Verify(f) => act_on_words(rt, f),
+        Action::Unknown => status_number(misused(rt, Action::Unknown)),
     }
 }
 
 // Does an action, if there are as many arguments as it takes.
-fn act_fitting(a: Action, count: usize) -> u32
+fn act_fitting<R: Host>(rt: &R, a: Action, count: usize) -> u32
     ensures answer { EndsAs a result }
     ensures past { result ≤ 3 }
     ensures fitting { fits (shape_of a).fewest (shape_of a).most count ≡ false → result ≡ 2 }
 {
     let s = shape_of(a);
     if is_fitting(s.fewest, s.most, count) {
-        return act(a);
+        return act(rt, a);
     }
-    status_number(misused(a))
+    status_number(misused(rt, a))
 }
 
 // Does the action that a word names, with so many arguments; the answer is the exit status.
-fn run_word(word: &[u8], count: usize) -> u32
+fn run_word<R: Host>(rt: &R, word: &[u8], count: usize) -> u32
     ensures answer { EndsAs (action_of word.now) result }
     ensures past { result ≤ 3 }
     ensures named { action_of word.now ≡ Unknown → result ≡ 2 }
@@ -195,31 +197,35 @@ fn run_word(word: &[u8], count: usize) -> u32
         ≡ false → result ≡ 2 }
 {
     match action_of(word) {
-        Action::Unknown => status_number(misused_word(Action::Unknown, word, b": no such action")),
-        a => act_fitting(a, count),
+        Action::Unknown => status_number(misused_word(
+            rt,
+            Action::Unknown,
+            word,
+            b": no such action",
+        )),
+        a => act_fitting(rt, a, count),
     }
 }
 
 // Does what the arguments say; the answer is the exit status: 0, 1, 2 or 3.
-pub fn run() -> u32
+pub fn run<R: Host>(rt: &R) -> u32
     ensures answer { result ≡ 0 → Acted }
     ensures short { result ≡ 3 → ActedShort }
     ensures past { result ≤ 3 }
 {
     let mut word = io::buffer();
-    let n = os::arg(1, &mut word);
-    if os::errno() != 0 {
-        return status_number(misused(Action::Unknown));
+    match argument(rt, 1, &mut word) {
+        Ok(n) => run_word(rt, &word[..n], argument_count(rt)),
+        Err(_) => status_number(misused(rt, Action::Unknown)),
     }
-    run_word(&word[..n], os::arg_count())
 }
 
 // Does what the arguments say; the answer is the exit status: 0, 1, 2 or 3.
-#[unsafe(no_mangle)]
-pub extern "C" fn sbc_main() -> u32
+#[inline(never)]
+pub fn sbc_main<R: Host>(rt: &R) -> u32
     ensures answer { result ≡ 0 → Acted }
     ensures short { result ≡ 3 → ActedShort }
     ensures past { result ≤ 3 }
 {
-    run()
+    run(rt)
 }

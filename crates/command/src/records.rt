@@ -15,7 +15,7 @@ use command_arguments::numbers::GREATEST;
 use command_arguments::{Action, Status, View, read_place, under_place, written_place};
 use command_inputs::{Input, Number, load, load_whole, number_at, page};
 use command_messages::system::print;
-use command_messages::{refuse, refuse_set};
+use command_messages::{Host, refuse, refuse_set};
 use command_outputs::finish;
 use command_view::put_view;
 use record_tail::with_tail;
@@ -24,16 +24,16 @@ use set_lines::put_set;
 use table::Table;
 
 // Prints a view of a table.
-fn print_view(v: View, t: Table) -> Status
+fn print_view<R: Host>(rt: &R, v: View, t: Table) -> Status
     ensures past { status_of result ≤ 1 }
 {
     let mut out = page();
     let n = put_view(&mut out, v, t);
-    print(&out[..n])
+    print(rt, &out[..n])
 }
 
 // Prints a view of the record in the bytes, or says its refusal. `l` is what was read of the record.
-fn view_bytes(v: View, l: Input, bytes: &[u8]) -> Status
+fn view_bytes<R: Host>(rt: &R, v: View, l: Input, bytes: &[u8]) -> Status
     requires { From (shape_of (Viewing v)).under l bytes.now }
     ensures answer { FailsBy (parse bytes.now) result }
     ensures past { WellOnly Viewed result }
@@ -42,27 +42,27 @@ fn view_bytes(v: View, l: Input, bytes: &[u8]) -> Status
     let verdict = r.verdict;
     let t = r.table;
     match verdict {
-        Verdict::Bad(x) => refuse(x),
-        Verdict::Good => print_view(v, t),
+        Verdict::Bad(x) => refuse(rt, x),
+        Verdict::Good => print_view(rt, v, t),
     }
 }
 
 // check FILE, show FILE, draw FILE
-pub fn view_file(v: View) -> Status
+pub fn view_file<R: Host>(rt: &R, v: View) -> Status
     ensures answer { WellOnly Viewed result }
 {
     let mut bytes = [0u8; 3866];
-    let l = load(under_place(Action::Viewing(v)), &mut bytes);
+    let l = load(rt, under_place(Action::Viewing(v)), &mut bytes);
     if !l.good {
         return Status::Failed;
     }
     let n = l.size;
-    view_bytes(v, l, &bytes[..n])
+    view_bytes(rt, v, l, &bytes[..n])
 }
 
 // The record in the bytes with another tail datum; the run fails where it is refused. `l` is what was read of the
 // record.
-fn close_bytes(l: Input, bytes: &[u8], datum: Number, out: &mut [u8]) -> Status
+fn close_bytes<R: Host>(rt: &R, l: Input, bytes: &[u8], datum: Number, out: &mut [u8]) -> Status
     requires { From (shape_of WithTail).under l bytes.now × Said (shape_of WithTail).number datum }
     ensures answer { Fails (answer_of (closed_with bytes.now datum.value (length out.old))) result }
     ensures written { out.new
@@ -72,52 +72,52 @@ fn close_bytes(l: Input, bytes: &[u8], datum: Number, out: &mut [u8]) -> Status
 {
     let i = written_place(Action::WithTail);
     let r = with_tail(bytes, datum.value, out);
-    finish(Action::WithTail, i, r, out)
+    finish(rt, Action::WithTail, i, r, out)
 }
 
 // with-tail RECORD DATUM OUT
-pub fn close_file() -> Status
+pub fn close_file<R: Host>(rt: &R) -> Status
     ensures answer { WellOnly Closed result }
 {
-    let datum = number_at(Action::WithTail, 3, GREATEST);
+    let datum = number_at(rt, Action::WithTail, 3, GREATEST);
     if !datum.good {
         return Status::Misused;
     }
     let mut bytes = [0u8; 3866];
-    let l = load(under_place(Action::WithTail), &mut bytes);
+    let l = load(rt, under_place(Action::WithTail), &mut bytes);
     if !l.good {
         return Status::Failed;
     }
     let n = l.size;
     let mut out = [0u8; 3865];
-    close_bytes(l, &bytes[..n], datum, &mut out)
+    close_bytes(rt, l, &bytes[..n], datum, &mut out)
 }
 
 // Prints a good set, or says the refusal of a bad one. `l` is what was read of the set.
-fn tell_set(l: Input, set: &[u8]) -> Status
+fn tell_set<R: Host>(rt: &R, l: Input, set: &[u8]) -> Status
     requires { FromWhole (shape_of Collection).read l set.now }
     ensures answer { SetFails (read_set set.now) result }
     ensures past { WellOnly Listed result }
 {
     match check_set(set) {
-        SetAnswer::Bad { number, refusal } => refuse_set(number, refusal),
+        SetAnswer::Bad { number, refusal } => refuse_set(rt, number, refusal),
         SetAnswer::Good(n) => {
             let mut out = io::large_buffer();
             let size = put_set(&mut out, set, n);
-            print(&out[..size])
+            print(rt, &out[..size])
         }
     }
 }
 
 // set FILE
-pub fn set_file() -> Status
+pub fn set_file<R: Host>(rt: &R) -> Status
     ensures answer { WellOnly Listed result }
 {
     let mut bytes = files::buffer();
-    let l = load_whole(read_place(Action::Collection), &mut bytes, 1000000);
+    let l = load_whole(rt, read_place(Action::Collection), &mut bytes, 1000000);
     if !l.good {
         return Status::Failed;
     }
     let n = l.size;
-    tell_set(l, &bytes[..n])
+    tell_set(rt, l, &bytes[..n])
 }

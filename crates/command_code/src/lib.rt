@@ -17,6 +17,7 @@ use codec_record::encoding::encode;
 use command_arguments::{Action, Status, Way, read_place, under_place};
 use command_inputs::{Input, is_twice, load, load_whole, recording};
 use command_marks::finish_code;
+use command_messages::Host;
 use command_messages::usage::misused_word;
 use command_verify::{after_words, after_writing};
 
@@ -44,18 +45,26 @@ fn longest(w: Way) -> usize
 }
 
 // How a run ends that ended so far as `s`: a decoding by whether the words are a recording.
-fn end_code(w: Way, s: Status, under: &[u8], bytes: &[u8]) -> Status
+fn end_code<R: Host>(rt: &R, w: Way, s: Status, under: &[u8], bytes: &[u8]) -> Status
     ensures answer { result ≡ after_by s (end_code w under.now bytes.now) }
 {
     match w {
         Way::Encode => after_writing(s),
-        Way::Decode => after_words(s, under, bytes),
+        Way::Decode => after_words(rt, s, under, bytes),
     }
 }
 
 // The words of blocks, or the blocks of words, under a record; the run fails where they are refused, and tells where
 // words that were decoded are no recording. `u` and `b` are what was read of the record and of the bytes.
-fn code_bytes(w: Way, u: Input, under: &[u8], b: Input, bytes: &[u8], out: &mut [u8]) -> Status
+fn code_bytes<R: Host>(
+    rt: &R,
+    w: Way,
+    u: Input,
+    under: &[u8],
+    b: Input,
+    bytes: &[u8],
+    out: &mut [u8],
+) -> Status
     requires { From (shape_of (Coding w)).under u under.now × FromWhole (shape_of (Coding w)).read b bytes.now }
     ensures answer { Fails (answer_of (coded w under.now (length out.old) bytes.now)) result }
     ensures written { out.new
@@ -65,31 +74,31 @@ fn code_bytes(w: Way, u: Input, under: &[u8], b: Input, bytes: &[u8], out: &mut 
     ensures verified { (result ≡ Failed) ⊎ (result ≡ end_code w under.now bytes.now) }
 {
     let r = code(w, under, bytes, out);
-    let s = finish_code(Action::Coding(w), w, r, out);
-    end_code(w, s, under, bytes)
+    let s = finish_code(rt, Action::Coding(w), w, r, out);
+    end_code(rt, w, s, under, bytes)
 }
 
 // encode RECORD DATA OUT, decode RECORD WORDS OUT
-pub fn code_files(w: Way) -> Status
+pub fn code_files<R: Host>(rt: &R, w: Way) -> Status
     ensures answer { EndsBy (Coded w) (Spoiled w) result }
 {
     let a = Action::Coding(w);
-    if is_twice(a) {
-        misused_word(a, b"-", b": only one file can be standard input");
+    if is_twice(rt, a) {
+        misused_word(rt, a, b"-", b": only one file can be standard input");
         return Status::Misused;
     }
     let mut under = [0u8; 3866];
-    let u = load(under_place(a), &mut under);
+    let u = load(rt, under_place(a), &mut under);
     if !u.good {
         return Status::Failed;
     }
     let n = u.size;
     let mut bytes = recording();
-    let b = load_whole(read_place(a), &mut bytes, longest(w));
+    let b = load_whole(rt, read_place(a), &mut bytes, longest(w));
     if !b.good {
         return Status::Failed;
     }
     let k = b.size;
     let mut out = recording();
-    code_bytes(w, u, &under[..n], b, &bytes[..k], &mut out)
+    code_bytes(rt, w, u, &under[..n], b, &bytes[..k], &mut out)
 }

@@ -42,4 +42,4 @@ input-counts i room l r out k f e = subst (λ r. IsPrefixLen r.size out) (sym e)
     go : (l : Loaded) → Fits l out → IsPrefixLen (input_of i room l).size out
     go (Whole n) f = f
     go TooLong f = (omega arith, sym (length-take-le _ _ (omega arith)))
-    go Unreadable f = (omega arith, refl)
+    go (Unreadable e) f = (omega arith, refl)

@@ -28,7 +28,7 @@ nothing_from i = record { good = false; more = false; size = 0; at = i }
 abbrev pub input_of : ℕ → ℕ → Loaded → Input
 input_of i room (Whole n) = record { good = true; more = false; size = n; at = i }
 input_of i room TooLong = record { good = true; more = true; size = room; at = i }
-input_of i room Unreadable = nothing_from i
+input_of i room (Unreadable e) = nothing_from i
 
 -- argument i says a number that is taken
 abbrev pub Said : ℕ → Number → Type 0

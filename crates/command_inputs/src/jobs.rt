@@ -5,6 +5,8 @@ ghost use Rattle.command_inputs.specs.Inputs.{JobFrom, Counted};
 use crate::numbers::number_at;
 use command_arguments::numbers::parse;
 use command_arguments::{Action, Parsed, written_place};
+use command_messages::Host;
+use command_messages::arguments::{argument_count, word};
 use command_messages::usage::{misused, misused_weights};
 use text::is_same;
 
@@ -35,14 +37,14 @@ fn none_said() -> Numbers
 }
 
 // The five numbers that arguments 2 to 6 say, up to 255. It says what is no number, and what is above.
-fn five_said(a: Action) -> Numbers
+fn five_said<R: Host>(rt: &R, a: Action) -> Numbers
     ensures answer { JobFrom 2 result }
     ensures past { result.weights ≡ 0 }
 {
     let mut job = [0u8; 21];
     let mut i = 0;
     while i < 5 {
-        let n = number_at(a, 2 + i, 255);
+        let n = number_at(rt, a, 2 + i, 255);
         if !n.good {
             return Numbers {
                 good: false,
@@ -66,7 +68,7 @@ fn five_said(a: Action) -> Numbers
 
 // Five numbers, and after them the weights that as many arguments as there are states say, from argument 8 on. It says
 // what is no number, and what is above.
-fn weights_said(a: Action, five: Numbers, states: usize) -> Numbers
+fn weights_said<R: Host>(rt: &R, a: Action, five: Numbers, states: usize) -> Numbers
     requires { JobFrom 2 five × (states ≤ 16) }
     ensures answer { JobFrom 2 result }
     ensures past { result.good ≡ true → (result.weights ≡ states) × (take 5 result.job ≡ take 5 five.job) }
@@ -74,7 +76,7 @@ fn weights_said(a: Action, five: Numbers, states: usize) -> Numbers
     let mut job = five.job;
     let mut i = 0;
     while i < states {
-        let n = number_at(a, 8 + i, 255);
+        let n = number_at(rt, a, 8 + i, 255);
         if !n.good {
             return none_said();
         }
@@ -91,41 +93,41 @@ fn weights_said(a: Action, five: Numbers, states: usize) -> Numbers
 }
 
 // Whether argument 7 is the word that stands before weights.
-fn is_weights() -> bool {
-    let mut word = io::buffer();
-    let n = os::arg(7, &mut word);
-    is_same(&word[..n], b"weights")
+fn is_weights<R: Host>(rt: &R) -> bool {
+    let mut said = io::buffer();
+    let n = word(rt, 7, &mut said);
+    is_same(&said[..n], b"weights")
 }
 
 // Whether there are more arguments than an action takes that brings no weights: the five numbers, and the name of the
 // file written, if it writes one.
-fn is_over(a: Action) -> bool {
+fn is_over<R: Host>(rt: &R, a: Action) -> bool {
     if written_place(a) == 0 {
-        return 7 < os::arg_count();
+        return 7 < argument_count(rt);
     }
-    8 < os::arg_count()
+    8 < argument_count(rt)
 }
 
 // Whether argument i names the file that an action writes: it writes one, and the argument is no number.
-fn is_name(a: Action, i: usize) -> bool {
+fn is_name<R: Host>(rt: &R, a: Action, i: usize) -> bool {
     if written_place(a) == 0 {
         return false;
     }
-    let mut word = io::buffer();
-    let n = os::arg(i, &mut word);
-    match parse(&word[..n]) {
+    let mut said = io::buffer();
+    let n = word(rt, i, &mut said);
+    match parse(&said[..n]) {
         Parsed::Wrong => true,
         _ => false,
     }
 }
 
 // How many arguments after argument 7 are weights: all of them, but for a last one that names the file written.
-fn weights_given(a: Action) -> usize {
-    let count = os::arg_count();
+fn weights_given<R: Host>(rt: &R, a: Action) -> usize {
+    let count = argument_count(rt);
     if count < 9 {
         return 0;
     }
-    if is_name(a, count - 1) {
+    if is_name(rt, a, count - 1) {
         return count - 9;
     }
     count - 8
@@ -133,7 +135,7 @@ fn weights_given(a: Action) -> usize {
 
 // Five numbers, and the weights after argument 7. It says if there are not as many as states. A k over 15 is refused by
 // the five numbers alone.
-fn weights_after(a: Action, five: Numbers) -> Numbers
+fn weights_after<R: Host>(rt: &R, a: Action, five: Numbers) -> Numbers
     requires { JobFrom 2 five × (five.weights ≡ 0) }
     ensures answer { JobFrom 2 result }
     ensures past { result.good ≡ true → Counted result }
@@ -144,28 +146,28 @@ fn weights_after(a: Action, five: Numbers) -> Numbers
         return five;
     }
     let states = k + 1;
-    let given = weights_given(a);
+    let given = weights_given(rt, a);
     if given != states {
-        misused_weights(a, given, states);
+        misused_weights(rt, a, given, states);
         return none_said();
     }
-    weights_said(a, five, states)
+    weights_said(rt, a, five, states)
 }
 
 // The numbers that arguments 2 to 6 say, up to 255, and where argument 7 is `weights` those after it, one for each
 // state. It says what is no number, what is above, and that there are too few or too many.
-pub fn numbers_said(a: Action) -> Numbers
+pub fn numbers_said<R: Host>(rt: &R, a: Action) -> Numbers
     ensures answer { JobFrom 2 result }
     ensures past { result.good ≡ true → Counted result }
 {
-    let brings = is_weights();
-    if !brings & is_over(a) {
-        misused(a);
+    let brings = is_weights(rt);
+    if !brings & is_over(rt, a) {
+        misused(rt, a);
         return none_said();
     }
-    let five = five_said(a);
+    let five = five_said(rt, a);
     if five.good & brings {
-        return weights_after(a, five);
+        return weights_after(rt, a, five);
     }
     five
 }

@@ -12,11 +12,11 @@ mod jobs;
 mod numbers;
 
 use command_arguments::{Action, read_place, under_place};
-use command_messages::say_too_long;
+use command_messages::arguments::{argument, word};
 use command_messages::system::complain;
-use files::Loaded;
+use command_messages::{Host, say_too_long};
+use files::{Loaded, zeros};
 pub use jobs::{Numbers, numbers_said};
-use libc::STDIN_FILENO;
 pub use numbers::{Number, number_at};
 use text::is_same;
 
@@ -34,25 +34,25 @@ pub struct Input {
 pub fn recording() -> [u8; 1000015]
     ensures answer { 1000015 ≡ length result }
 {
-    [0; 1000015]
+    zeros::<1000015>()
 }
 
 // 300,000 zeros, for a text.
 pub fn page() -> [u8; 300000]
     ensures answer { 300000 ≡ length result }
 {
-    [0; 300000]
+    zeros::<300000>()
 }
 
 // Whether argument i is -.
-fn is_dash(i: usize) -> bool {
+fn is_dash<R: Host>(rt: &R, i: usize) -> bool {
     let mut name = io::buffer();
-    let n = os::arg(i, &mut name);
+    let n = word(rt, i, &mut name);
     is_same(&name[..n], b"-")
 }
 
 // Whether the record of an action and the file it reads both are standard input, which can be read only once.
-pub fn is_twice(a: Action) -> bool
+pub fn is_twice<R: Host>(rt: &R, a: Action) -> bool
     ensures answer { result ≡ true → (0 < (shape_of a).under) × (0 < (shape_of a).read) }
 {
     let i = under_place(a);
@@ -63,8 +63,8 @@ pub fn is_twice(a: Action) -> bool
     if j == 0 {
         return false;
     }
-    if is_dash(i) {
-        return is_dash(j);
+    if is_dash(rt, i) {
+        return is_dash(rt, j);
     }
     false
 }
@@ -87,7 +87,7 @@ fn input_of(i: usize, room: usize, l: Loaded) -> Input
             size: room,
             at: i,
         },
-        Loaded::Unreadable => Input {
+        Loaded::Unreadable(_) => Input {
             good: false,
             more: false,
             size: 0,
@@ -97,62 +97,72 @@ fn input_of(i: usize, room: usize, l: Loaded) -> Input
 }
 
 // Reads the file of this name. It says what goes wrong.
-fn load_from(name: &[u8], out: &mut [u8]) -> Loaded
+fn load_from<R: Host>(rt: &R, name: &[u8], out: &mut [u8]) -> Loaded
     ensures past { Fits result out.new }
 {
     if is_same(name, b"-") {
-        return files::load_open(STDIN_FILENO, out);
+        let mut input = rt.reader();
+        return files::load_open(&mut input, out);
     }
-    files::load(name, out)
+    files::load(rt, name, out)
+}
+
+// Says why the file of this name was not read, if it was not.
+fn tell_unread<R: Host>(rt: &R, name: &[u8], l: &Loaded) {
+    match l {
+        Loaded::Unreadable(e) => {
+            complain(rt, name, *e);
+        }
+        _ => {}
+    }
 }
 
 // Reads the file of this name, which is argument i. It says what goes wrong.
-fn load_named(i: usize, name: &[u8], out: &mut [u8]) -> Input
+fn load_named<R: Host>(rt: &R, i: usize, name: &[u8], out: &mut [u8]) -> Input
     ensures answer { result.at ≡ i }
     ensures past { IsPrefixLen result.size out.new }
 {
-    let l = load_from(name, out);
-    let r = input_of(i, out.len(), l);
-    if !r.good {
-        complain(name);
-    }
-    r
+    let room = out.len();
+    let l = load_from(rt, name, out);
+    tell_unread(rt, name, &l);
+    input_of(i, room, l)
 }
 
 // Reads the file that argument i names. It says what goes wrong.
-pub fn load(i: usize, out: &mut [u8]) -> Input
+pub fn load<R: Host>(rt: &R, i: usize, out: &mut [u8]) -> Input
     ensures answer { result.at ≡ i }
     ensures past { IsPrefixLen result.size out.new }
 {
     let mut name = io::buffer();
-    let n = os::arg(i, &mut name);
-    if os::errno() != 0 {
-        complain(b"argument");
-        return Input {
-            good: false,
-            more: false,
-            size: 0,
-            at: i,
-        };
+    match argument(rt, i, &mut name) {
+        Ok(n) => load_named(rt, i, &name[..n], out),
+        Err(e) => {
+            complain(rt, b"argument", e);
+            Input {
+                good: false,
+                more: false,
+                size: 0,
+                at: i,
+            }
+        }
     }
-    load_named(i, &name[..n], out)
 }
 
 // Says that the file that argument i names has too many bytes.
-fn tell_too_long(i: usize, most: usize) {
+fn tell_too_long<R: Host>(rt: &R, i: usize, most: usize) {
     let mut name = io::buffer();
-    let n = os::arg(i, &mut name);
-    say_too_long(&name[..n], most);
+    let n = word(rt, i, &mut name);
+    say_too_long(rt, &name[..n], most);
 }
 
 // As load, and a file of more bytes than `most` is too long.
-pub fn load_whole(i: usize, out: &mut [u8], most: usize) -> Input
+pub fn load_whole<R: Host>(rt: &R, i: usize, out: &mut [u8], most: usize) -> Input
     ensures answer { result.at ≡ i }
     ensures past { IsPrefixLen result.size out.new × (result.more ≡ false) × (result.size ≤ most) }
 {
-    let r = load(i, out);
+    let r = load(rt, i, out);
     if r.more {
-        tell_too_long(i, most);
+        tell_too_long(rt, i, most);
         return Input {
             good: false,
             more: false,
@@ -161,7 +171,7 @@ pub fn load_whole(i: usize, out: &mut [u8], most: usize) -> Input
         };
     }
     if most < r.size {
-        tell_too_long(i, most);
+        tell_too_long(rt, i, most);
         return Input {
             good: false,
             more: false,

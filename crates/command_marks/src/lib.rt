@@ -10,8 +10,8 @@ ghost use Rattle.command_marks.specs.Marking.{marks_line};
 
 use answer::Answer;
 use command_arguments::{Action, Status, Way, written_place};
+use command_messages::Host;
 use command_outputs::finish;
-use libc::STDERR_FILENO;
 use sentences::put_sentence;
 
 // 1 for this mark, 0 for any other block.
@@ -53,35 +53,35 @@ fn put_marks(out: &mut [u8], blocks: &[u8]) -> usize
 }
 
 // Says how many blocks are marked.
-fn say_marks(blocks: &[u8]) {
+fn say_marks<R: Host>(rt: &R, blocks: &[u8]) {
     let mut line = [0u8; 192];
     let n = put_marks(&mut line, blocks);
-    io::write_all(STDERR_FILENO, &line[..n]);
+    let _ = rt.tell(&line[..n]);
 }
 
 // Says how many blocks of a decoding are marked.
-fn tell_marks(w: Way, r: Answer, out: &[u8])
+fn tell_marks<R: Host>(rt: &R, w: Way, r: Answer, out: &[u8])
     requires { Within r out.now }
 {
     match w {
         Way::Encode => {}
         Way::Decode => match r {
             Answer::Refused(_) => {}
-            Answer::Done(n) => say_marks(&out[..n]),
+            Answer::Done(n) => say_marks(rt, &out[..n]),
         },
     }
 }
 
 // Writes what the encoding or decoding of an action came to; the marks are said where all of it was written.
-pub fn finish_code(a: Action, w: Way, r: Answer, out: &[u8]) -> Status
+pub fn finish_code<R: Host>(rt: &R, a: Action, w: Way, r: Answer, out: &[u8]) -> Status
     requires { Within r out.now }
     ensures answer { Fails r result }
     ensures past { status_of result ≤ 1 }
 {
     let i = written_place(a);
-    let s = finish(a, i, r, out);
+    let s = finish(rt, a, i, r, out);
     match s {
-        Status::Done => tell_marks(w, r, out),
+        Status::Done => tell_marks(rt, w, r, out),
         Status::Failed => {}
         Status::Misused => {}
         Status::NoRecording => {}

@@ -7,13 +7,17 @@ ghost use Rattle.command_arguments.specs.Shapes.{status_of};
 ghost use Rattle.command_messages.specs.Sayings.{saying, set_saying};
 ghost use Rattle.command_arguments.specs.declared.Status.TheVariants.{Failed};
 
+pub mod arguments;
+mod host;
+mod reasons;
 mod recorded;
 pub mod system;
 pub mod usage;
 
+use crate::system::print;
 use answer::Refusal;
 use command_arguments::Status;
-use libc::STDERR_FILENO;
+pub use host::Host;
 use sentences::put_sentence;
 use text::put;
 
@@ -34,44 +38,54 @@ fn put_set_refusal(out: &mut [u8], i: usize, r: Refusal) -> usize
     put_sentence(out, number, b", at record #\n", &[i])
 }
 
+// Where a text is said.
+#[derive(Clone, Copy)]
+pub enum Outlet {
+    Output,
+    Errors,
+}
+
 // Writes a text; the run fails where not all of it was written.
-fn tell_text(file: i32, text: &[u8]) -> Status
+fn tell_text<R: Host>(rt: &R, to: Outlet, text: &[u8]) -> Status
     ensures past { status_of result ≤ 1 }
 {
-    if !io::write_all(file, text) {
-        return Status::Failed;
+    match to {
+        Outlet::Output => print(rt, text),
+        Outlet::Errors => match rt.tell(text) {
+            Ok(()) => Status::Done,
+            Err(_) => Status::Failed,
+        },
     }
-    Status::Done
 }
 
 // Says a line; the run fails.
-fn tell(line: &[u8]) -> Status
+fn tell<R: Host>(rt: &R, line: &[u8]) -> Status
     ensures answer { result ≡ Failed }
 {
-    io::write_all(STDERR_FILENO, line);
+    let _ = rt.tell(line);
     Status::Failed
 }
 
 // Says a refusal.
-pub fn refuse(r: Refusal) -> Status
+pub fn refuse<R: Host>(rt: &R, r: Refusal) -> Status
     ensures answer { result ≡ Failed }
 {
     let mut line = [0u8; 256];
     let n = put_refusal(&mut line, r);
-    tell(&line[..n])
+    tell(rt, &line[..n])
 }
 
 // Says the refusal of a set.
-pub fn refuse_set(i: usize, r: Refusal) -> Status
+pub fn refuse_set<R: Host>(rt: &R, i: usize, r: Refusal) -> Status
     ensures answer { result ≡ Failed }
 {
     let mut line = [0u8; 256];
     let n = put_set_refusal(&mut line, i, r);
-    tell(&line[..n])
+    tell(rt, &line[..n])
 }
 
 // Says what is wrong with what is named.
-pub fn say(name: &[u8], what: &[u8]) -> Status
+pub fn say<R: Host>(rt: &R, name: &[u8], what: &[u8]) -> Status
     ensures answer { result ≡ Failed }
 {
     let mut line = [0u8; 4352];
@@ -79,14 +93,14 @@ pub fn say(name: &[u8], what: &[u8]) -> Status
     let b = put(&mut line, a, name);
     let c = put(&mut line, b, what);
     let n = put(&mut line, c, b"\n");
-    tell(&line[..n])
+    tell(rt, &line[..n])
 }
 
 // Says that what is named has more bytes than are taken.
-pub fn say_too_long(name: &[u8], most: usize) -> Status
+pub fn say_too_long<R: Host>(rt: &R, name: &[u8], most: usize) -> Status
     ensures answer { result ≡ Failed }
 {
     let mut what = [0u8; 64];
     let n = put_sentence(&mut what, 0, b": longer than # bytes", &[most]);
-    say(name, &what[..n])
+    say(rt, name, &what[..n])
 }

@@ -4,18 +4,18 @@ ghost use Rattle.command_arguments.specs.Shapes.{status_of};
 ghost use Rattle.command_arguments.specs.declared.Status.TheVariants.{Misused};
 
 use crate::recorded::{tell_coding, tell_recordings, tell_stream, tell_verify};
-use crate::system::{complain, print};
-use crate::{say, tell_text};
+use crate::system::print;
+use crate::{Host, Outlet, say, tell_text};
 use command_arguments::{Action, Status, View};
-use libc::{STDERR_FILENO, STDOUT_FILENO};
 use sentences::put_sentence;
 
 // All actions.
-fn tell_all(file: i32) -> Status
+fn tell_all<R: Host>(rt: &R, to: Outlet) -> Status
     ensures past { status_of result ≤ 1 }
 {
     tell_text(
-        file,
+        rt,
+        to,
         b"usage: sbc ACTION [ARGUMENT]...
   compile d k p q cap [weights W0 .. Wk] [OUT]
                                          compile a run-length job to a record
@@ -48,12 +48,13 @@ no recording, 2 for wrong usage, and 3 where decode wrote the blocks of words th
 }
 
 // The actions that compile bytes and trace compiling.
-fn tell_compiling(file: i32, a: Action) -> Status
+fn tell_compiling<R: Host>(rt: &R, to: Outlet, a: Action) -> Status
     ensures past { status_of result ≤ 1 }
 {
     match a {
         Action::CompileJob => tell_text(
-            file,
+            rt,
+            to,
             b"usage: sbc compile-job FILE [OUT]
 Compiles the job in FILE to a code, and writes its record to OUT, or to standard output. A job is the bytes p, q, cap,
 K, then for each of K states the next states for channel bits 0 and 1, with 255 for none. K weight bytes may follow:
@@ -61,7 +62,8 @@ one from 0 to cap for each state, as for compile.
 ",
         ),
         Action::CompileJoined => tell_text(
-            file,
+            rt,
+            to,
             b"usage: sbc compile-joined FILE [OUT]
 Compiles the job in FILE to a code that obeys two constraints at once, and writes its record to OUT, or to standard
 output. The job is the bytes p, q, cap, then each constraint: K, and for each of its K states the next states for
@@ -69,14 +71,16 @@ channel bits 0 and 1, with 255 for none. A bit is allowed when both constraints 
 ",
         ),
         Action::Trace => tell_text(
-            file,
+            rt,
+            to,
             b"usage: sbc trace d k p q cap [weights W0 .. Wk]
 Prints how the run-length job is compiled, step by step. The last line of a job that is refused is its refusal.
 Weights are as for compile. Where they fail, the line in front of the refusal says why.
 ",
         ),
         _ => tell_text(
-            file,
+            rt,
+            to,
             b"usage: sbc compile d k p q cap [weights W0 .. Wk] [OUT]
 Compiles the run-length constraint (d, k) to a code of p data bits to q channel bits, with weights up to cap, and
 writes its record to OUT, or to standard output. d and k: 0 to 15, d at most k; p: 1 to 4; q: 1 to 8; cap: 1 to 16.
@@ -90,24 +94,27 @@ A file called weights is given as ./weights, and after weights one called 5 as .
 }
 
 // The actions on a record.
-fn tell_record(file: i32, v: View) -> Status
+fn tell_record<R: Host>(rt: &R, to: Outlet, v: View) -> Status
     ensures past { status_of result ≤ 1 }
 {
     match v {
         View::Check => tell_text(
-            file,
+            rt,
+            to,
             b"usage: sbc check FILE
 Says whether the record in FILE is accepted.
 ",
         ),
         View::Show => tell_text(
-            file,
+            rt,
+            to,
             b"usage: sbc show FILE
 Prints the code of the record in FILE: its rate, its window, its constraint, its tail datum and its table.
 ",
         ),
         View::Draw => tell_text(
-            file,
+            rt,
+            to,
             b"usage: sbc draw FILE
 Prints the states and edges of the record in FILE as a Graphviz digraph, or as an SVG matrix of states by words
 if there are more than 24 states.
@@ -117,66 +124,68 @@ if there are more than 24 states.
 }
 
 // An action.
-fn tell(file: i32, a: Action) -> Status
+fn tell<R: Host>(rt: &R, to: Outlet, a: Action) -> Status
     ensures past { status_of result ≤ 1 }
 {
     match a {
-        Action::Compile(_) => tell_compiling(file, a),
-        Action::CompileJob => tell_compiling(file, a),
-        Action::CompileJoined => tell_compiling(file, a),
-        Action::Trace => tell_compiling(file, a),
-        Action::Viewing(v) => tell_record(file, v),
+        Action::Compile(_) => tell_compiling(rt, to, a),
+        Action::CompileJob => tell_compiling(rt, to, a),
+        Action::CompileJoined => tell_compiling(rt, to, a),
+        Action::Trace => tell_compiling(rt, to, a),
+        Action::Viewing(v) => tell_record(rt, to, v),
         Action::WithTail => tell_text(
-            file,
+            rt,
+            to,
             b"usage: sbc with-tail RECORD DATUM OUT
 Writes the record in RECORD with another tail datum to OUT. DATUM is a number below 2^p. Nothing else of the record
 changes. Recordings under OUT close with DATUM; a record that compile writes closes with 0.
 ",
         ),
-        Action::Coding(w) => tell_coding(file, w),
-        Action::Stream(s) => tell_stream(file, s),
-        Action::Recordings(r) => tell_recordings(file, r),
-        Action::Verify(f) => tell_verify(file, f),
+        Action::Coding(w) => tell_coding(rt, to, w),
+        Action::Stream(s) => tell_stream(rt, to, s),
+        Action::Recordings(r) => tell_recordings(rt, to, r),
+        Action::Verify(f) => tell_verify(rt, to, f),
         Action::Collection => tell_text(
-            file,
+            rt,
+            to,
             b"usage: sbc set FILE
 Lists the records of the set in FILE: the number of each, its first byte, its length, p, q, states, m and a. A set is
 a count byte, then each record behind a two-byte length, most significant byte first. At most 1,000,000 bytes.
 ",
         ),
-        Action::Help => tell_all(file),
-        Action::Version => tell_all(file),
-        Action::Unknown => tell_all(file),
+        Action::Help => tell_all(rt, to),
+        Action::Version => tell_all(rt, to),
+        Action::Unknown => tell_all(rt, to),
     }
 }
 
 // Says how an action is used.
-pub fn misused(a: Action) -> Status
+pub fn misused<R: Host>(rt: &R, a: Action) -> Status
     ensures answer { result ≡ Misused }
 {
-    tell(STDERR_FILENO, a);
+    tell(rt, Outlet::Errors, a);
     Status::Misused
 }
 
 // Says what is wrong with a word, and how an action is used.
-pub fn misused_word(a: Action, word: &[u8], what: &[u8]) -> Status
+pub fn misused_word<R: Host>(rt: &R, a: Action, word: &[u8], what: &[u8]) -> Status
     ensures answer { result ≡ Misused }
 {
-    say(word, what);
-    misused(a)
+    say(rt, word, what);
+    misused(rt, a)
 }
 
 // Says that a number is above the most that is taken, and how an action is used.
-pub fn misused_above(a: Action, word: &[u8], most: usize) -> Status
+pub fn misused_above<R: Host>(rt: &R, a: Action, word: &[u8], most: usize) -> Status
     ensures answer { result ≡ Misused }
 {
     let mut what = [0u8; 64];
     let n = put_sentence(&mut what, 0, b": above #", &[most]);
-    misused_word(a, word, &what[..n])
+    misused_word(rt, a, word, &what[..n])
 }
 
 // Says how many weights there are and how many states, which differ, and how an action is used.
-pub fn misused_weights(a: Action, given: usize, states: usize) -> Status
+pub fn misused_weights<R: Host>(rt: &R, a: Action, given: usize, states: usize) -> Status
     ensures answer { result ≡ Misused }
 {
     let mut what = [0u8; 96];
@@ -186,26 +195,23 @@ pub fn misused_weights(a: Action, given: usize, states: usize) -> Status
         b"# weight~, the constraint has # state~",
         &[given, given, states, states],
     );
-    say(&what[..n], b"");
-    misused(a)
+    say(rt, &what[..n], b"");
+    misused(rt, a)
 }
 
 // Prints how an action is used.
-pub fn print_use(a: Action) -> Status
+pub fn print_use<R: Host>(rt: &R, a: Action) -> Status
     ensures past { status_of result ≤ 1 }
 {
-    match tell(STDOUT_FILENO, a) {
+    match tell(rt, Outlet::Output, a) {
         Status::Done => Status::Done,
-        _ => {
-            complain(b"standard output");
-            Status::Failed
-        }
+        _ => Status::Failed,
     }
 }
 
 // Prints the version.
-pub fn print_version() -> Status
+pub fn print_version<R: Host>(rt: &R) -> Status
     ensures past { status_of result ≤ 1 }
 {
-    print(b"sbc 2.3\n")
+    print(rt, b"sbc 2.3\n")
 }

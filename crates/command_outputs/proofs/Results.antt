@@ -46,7 +46,7 @@ ended-most w s e = subst (λ s. status_of s ≤ 1) (sym e) (go w)
   where
     go : (w : Stored) → status_of (ended_by w) ≤ 1
     go (Whole n) = omega arith
-    go Unwritten = omega arith
+    go (Unwritten e) = omega arith
     go Source = omega arith
 
 -- a run with status 0 or 1 may end so where P holds

@@ -45,5 +45,5 @@ WellOnly P s = EndsBy P ⊥ s
 -- how a run ends by what writing its result came to: well where all of it was written
 abbrev pub ended_by : Stored → Status
 ended_by (Whole n) = Ended
-ended_by Unwritten = Failed
+ended_by (Unwritten e) = Failed
 ended_by Source = Failed

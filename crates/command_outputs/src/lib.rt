@@ -8,19 +8,20 @@ ghost use Rattle.command_outputs.specs.Results.{Within, Fails, ended_by};
 
 use answer::Answer;
 use command_arguments::{Action, Status, read_place, under_place};
+use command_messages::arguments::{argument, argument_count, word};
 use command_messages::system::{complain, print};
-use command_messages::{refuse, say};
+use command_messages::{Host, refuse, say};
 use command_store::{Stored, store};
 use text::{is_same, put};
 
 // The name of the file that argument i names, at the start of the lent bytes: none for 0, standard input's for -.
-fn source(i: usize, out: &mut [u8]) -> usize
+fn source<R: Host>(rt: &R, i: usize, out: &mut [u8]) -> usize
     ensures past { IsPrefixLen result out.new }
 {
     if i == 0 {
         return put(out, 0, b"");
     }
-    let n = os::arg(i, out);
+    let n = word(rt, i, out);
     if is_same(&out[..n], b"-") {
         return put(out, 0, b"/dev/stdin");
     }
@@ -28,56 +29,56 @@ fn source(i: usize, out: &mut [u8]) -> usize
 }
 
 // How a run ends whose result was written so to the file of this name. It says what went wrong.
-fn ended(name: &[u8], s: Stored) -> Status
+fn ended<R: Host>(rt: &R, name: &[u8], s: Stored) -> Status
     ensures answer { result ≡ ended_by s }
 {
     match s {
         Stored::Whole(_) => Status::Done,
-        Stored::Unwritten => complain(name),
-        Stored::Source => say(name, b": it is read too, so it is left as it was"),
+        Stored::Unwritten(e) => complain(rt, name, e),
+        Stored::Source => say(rt, name, b": it is read too, so it is left as it was"),
     }
 }
 
 // Writes the file of this name, unless it is one that the action read.
-fn store_named(a: Action, name: &[u8], bytes: &[u8]) -> Status
+fn store_named<R: Host>(rt: &R, a: Action, name: &[u8], bytes: &[u8]) -> Status
     ensures past { status_of result ≤ 1 }
 {
     if is_same(name, b"-") {
-        return print(bytes);
+        return print(rt, bytes);
     }
     let mut first = io::buffer();
     let mut second = io::buffer();
-    let n = source(under_place(a), &mut first);
-    let k = source(read_place(a), &mut second);
-    ended(name, store(name, &first[..n], &second[..k], bytes))
+    let n = source(rt, under_place(a), &mut first);
+    let k = source(rt, read_place(a), &mut second);
+    let s = store(rt, name, &first[..n], &second[..k], bytes);
+    ended(rt, name, s)
 }
 
 // Writes the result of an action to the file that argument i names; to standard output where there is no such argument.
-fn store_at(a: Action, i: usize, bytes: &[u8]) -> Status
+fn store_at<R: Host>(rt: &R, a: Action, i: usize, bytes: &[u8]) -> Status
     requires { i ≡ (shape_of a).written }
     ensures past { status_of result ≤ 1 }
 {
-    if os::arg_count() <= i {
-        return print(bytes);
+    if argument_count(rt) <= i {
+        return print(rt, bytes);
     }
     let mut name = io::buffer();
-    let n = os::arg(i, &mut name);
-    if os::errno() != 0 {
-        return complain(b"argument");
+    match argument(rt, i, &mut name) {
+        Ok(n) => store_named(rt, a, &name[..n], bytes),
+        Err(e) => complain(rt, b"argument", e),
     }
-    store_named(a, &name[..n], bytes)
 }
 
 // Says the refusal of a call, or writes its result, which is at the start of `out`, to the file that argument i
 // names.
-pub fn finish(a: Action, i: usize, r: Answer, out: &[u8]) -> Status
+pub fn finish<R: Host>(rt: &R, a: Action, i: usize, r: Answer, out: &[u8]) -> Status
     requires i_value { i ≡ (shape_of a).written }
     requires within { Within r out.now }
     ensures answer { Fails r result }
     ensures past { status_of result ≤ 1 }
 {
     match r {
-        Answer::Refused(x) => refuse(x),
-        Answer::Done(n) => store_at(a, i, &out[..n]),
+        Answer::Refused(x) => refuse(rt, x),
+        Answer::Done(n) => store_at(rt, a, i, &out[..n]),
     }
 }

@@ -1,13 +1,9 @@
--- How long the rest of a list is; the folder of a path, byte by byte from its end.
--- In order: rest-long; folder-here, folder-back.
+-- The folder of a path, byte by byte from its end.
+-- In order: folder-here, folder-back.
 -- Assumes nothing.
-use Rattle.std.proofs.Common.{◌≡◌, ◌-◌, ◌<◌, if◌then◌else◌}
-use Rattle.laws.proofs.All.{sym, ap, subst, ◌∙◌, List, ℕ, zero, suc, arith, length, get_or, take, drop}
-use Rattle.laws.proofs.All.{length-drop, length-take-le, eq-eqb, ne_eqb}
+use Rattle.laws.proofs.All.{◌≡◌, sym, ap, subst, ◌∙◌, List, ℕ, zero, suc, ◌-◌, ◌<◌, arith, get_or}
+use Rattle.laws.proofs.All.{eq-eqb, ne_eqb, if◌then◌else◌}
 use Rattle.command_store.specs.Storing.{folder_in}
-
-pub rest-long : (n : ℕ) (xs : List ℕ) → length (take (length xs - n) (drop n xs)) ≡ length xs - n
-rest-long n xs = let d = length-drop n xs in length-take-le (length xs - n) (drop n xs) (omega arith)
 
 pub folder-here : (n : ℕ) (path : List ℕ) → 0 < n → get_or path (n - 1) 0 ≡ 47 → folder_in n path ≡ n
 unfolding folder_in

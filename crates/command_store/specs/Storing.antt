@@ -9,7 +9,7 @@ use Rattle.command_store.specs.declared.Stored.TheVariants.{Whole, Unwritten, So
 -- a file is whole only where as many bytes were taken as there are
 abbrev pub Held : Stored → List ℕ → Type 0
 Held (Whole n) bytes = n ≡ length bytes
-Held Unwritten bytes = Unit {0}
+Held (Unwritten e) bytes = Unit {0}
 Held Source bytes = Unit {0}
 
 -- how many of the first n bytes of a path name its folder: those up to the last / among them

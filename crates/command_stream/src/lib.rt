@@ -21,6 +21,7 @@ use command_arguments::numbers::GREATEST;
 use command_arguments::{Action, OnStream, Status, Way, read_place, under_place, written_place};
 use command_inputs::{Input, Number, is_twice, load, number_at, recording};
 use command_marks::finish_code;
+use command_messages::Host;
 use command_messages::usage::misused_word;
 use command_outputs::finish;
 use command_verify::after_stream;
@@ -28,7 +29,7 @@ use stream_pack::{pack, unpack};
 use stream_record::{decode_stream, encode_stream};
 
 // The stream of words of q bits. `l` is what was read of the words.
-fn pack_words(q: Number, l: Input, words: &[u8], out: &mut [u8]) -> Status
+fn pack_words<R: Host>(rt: &R, q: Number, l: Input, words: &[u8], out: &mut [u8]) -> Status
     requires { Said (shape_of (Stream Pack)).number q × From (shape_of (Stream Pack)).read l words.now }
     ensures answer { Fails (answer_of (pack_into q.value (length out.old) words.now)) result }
     ensures written { out.new
@@ -37,30 +38,37 @@ fn pack_words(q: Number, l: Input, words: &[u8], out: &mut [u8]) -> Status
 {
     let i = written_place(Action::Stream(OnStream::Pack));
     let r = pack(q.value, words, out);
-    finish(Action::Stream(OnStream::Pack), i, r, out)
+    finish(rt, Action::Stream(OnStream::Pack), i, r, out)
 }
 
 // pack q WORDS OUT
-pub fn pack_file() -> Status
+pub fn pack_file<R: Host>(rt: &R) -> Status
     ensures answer { WellOnly Packed result }
 {
     let a = Action::Stream(OnStream::Pack);
-    let q = number_at(a, 2, GREATEST);
+    let q = number_at(rt, a, 2, GREATEST);
     if !q.good {
         return Status::Misused;
     }
     let mut words = recording();
-    let l = load(read_place(a), &mut words);
+    let l = load(rt, read_place(a), &mut words);
     if !l.good {
         return Status::Failed;
     }
     let n = l.size;
     let mut out = recording();
-    pack_words(q, l, &words[..n], &mut out)
+    pack_words(rt, q, l, &words[..n], &mut out)
 }
 
 // The words of q bits of a stream. `l` is what was read of the stream.
-fn unpack_words(q: Number, count: Number, l: Input, stream: &[u8], out: &mut [u8]) -> Status
+fn unpack_words<R: Host>(
+    rt: &R,
+    q: Number,
+    count: Number,
+    l: Input,
+    stream: &[u8],
+    out: &mut [u8],
+) -> Status
     requires { Said (shape_of (Stream Unpack)).number q × Said ((shape_of (Stream Unpack)).number + 1) count
         × From (shape_of (Stream Unpack)).read l stream.now }
     ensures answer { Fails
@@ -72,34 +80,41 @@ fn unpack_words(q: Number, count: Number, l: Input, stream: &[u8], out: &mut [u8
 {
     let i = written_place(Action::Stream(OnStream::Unpack));
     let r = unpack(q.value, count.value, stream, out);
-    finish(Action::Stream(OnStream::Unpack), i, r, out)
+    finish(rt, Action::Stream(OnStream::Unpack), i, r, out)
 }
 
 // unpack q COUNT STREAM OUT
-pub fn unpack_file() -> Status
+pub fn unpack_file<R: Host>(rt: &R) -> Status
     ensures answer { WellOnly Unpacked result }
 {
     let a = Action::Stream(OnStream::Unpack);
-    let q = number_at(a, 2, GREATEST);
+    let q = number_at(rt, a, 2, GREATEST);
     if !q.good {
         return Status::Misused;
     }
-    let count = number_at(a, 3, GREATEST);
+    let count = number_at(rt, a, 3, GREATEST);
     if !count.good {
         return Status::Misused;
     }
     let mut stream = recording();
-    let l = load(read_place(a), &mut stream);
+    let l = load(rt, read_place(a), &mut stream);
     if !l.good {
         return Status::Failed;
     }
     let n = l.size;
     let mut out = recording();
-    unpack_words(q, count, l, &stream[..n], &mut out)
+    unpack_words(rt, q, count, l, &stream[..n], &mut out)
 }
 
 // The stream of blocks under a record. `u` and `b` are what was read of the record and of the blocks.
-fn encode_blocks(u: Input, under: &[u8], b: Input, blocks: &[u8], out: &mut [u8]) -> Status
+fn encode_blocks<R: Host>(
+    rt: &R,
+    u: Input,
+    under: &[u8],
+    b: Input,
+    blocks: &[u8],
+    out: &mut [u8],
+) -> Status
     requires { From (shape_of (Stream Encode)).under u under.now × From (shape_of (Stream Encode)).read b blocks.now }
     ensures answer { Fails (answer_of (encode_stream under.now (length out.old) blocks.now)) result }
     ensures written { out.new
@@ -108,37 +123,38 @@ fn encode_blocks(u: Input, under: &[u8], b: Input, blocks: &[u8], out: &mut [u8]
     ensures past { WellOnly EncodedStream result }
 {
     let r = encode_stream(under, blocks, out);
-    finish_code(Action::Stream(OnStream::Encode), Way::Encode, r, out)
+    finish_code(rt, Action::Stream(OnStream::Encode), Way::Encode, r, out)
 }
 
 // encode-stream RECORD DATA OUT
-pub fn encode_file() -> Status
+pub fn encode_file<R: Host>(rt: &R) -> Status
     ensures answer { WellOnly EncodedStream result }
 {
     let a = Action::Stream(OnStream::Encode);
-    if is_twice(a) {
-        misused_word(a, b"-", b": only one file can be standard input");
+    if is_twice(rt, a) {
+        misused_word(rt, a, b"-", b": only one file can be standard input");
         return Status::Misused;
     }
     let mut under = [0u8; 3866];
-    let u = load(under_place(a), &mut under);
+    let u = load(rt, under_place(a), &mut under);
     if !u.good {
         return Status::Failed;
     }
     let n = u.size;
     let mut blocks = recording();
-    let b = load(read_place(a), &mut blocks);
+    let b = load(rt, read_place(a), &mut blocks);
     if !b.good {
         return Status::Failed;
     }
     let k = b.size;
     let mut out = recording();
-    encode_blocks(u, &under[..n], b, &blocks[..k], &mut out)
+    encode_blocks(rt, u, &under[..n], b, &blocks[..k], &mut out)
 }
 
 // The blocks of the words of a stream under a record; the marks are said, and where the words are no recording, that
 // too. `u` and `b` are what was read of the record and of the stream.
-fn decode_words(
+fn decode_words<R: Host>(
+    rt: &R,
     u: Input,
     under: &[u8],
     count: Number,
@@ -161,35 +177,35 @@ fn decode_words(
         ≡ end_by (answer_of (verify_stream under.now count.value stream.now)) count.value) }
 {
     let r = decode_stream(under, count.value, stream, out);
-    let s = finish_code(Action::Stream(OnStream::Decode), Way::Decode, r, out);
-    after_stream(s, under, count.value, stream)
+    let s = finish_code(rt, Action::Stream(OnStream::Decode), Way::Decode, r, out);
+    after_stream(rt, s, under, count.value, stream)
 }
 
 // decode-stream RECORD COUNT STREAM OUT
-pub fn decode_file() -> Status
+pub fn decode_file<R: Host>(rt: &R) -> Status
     ensures answer { EndsBy DecodedStream SpoiledStream result }
 {
     let a = Action::Stream(OnStream::Decode);
-    let count = number_at(a, 3, GREATEST);
+    let count = number_at(rt, a, 3, GREATEST);
     if !count.good {
         return Status::Misused;
     }
-    if is_twice(a) {
-        misused_word(a, b"-", b": only one file can be standard input");
+    if is_twice(rt, a) {
+        misused_word(rt, a, b"-", b": only one file can be standard input");
         return Status::Misused;
     }
     let mut under = [0u8; 3866];
-    let u = load(under_place(a), &mut under);
+    let u = load(rt, under_place(a), &mut under);
     if !u.good {
         return Status::Failed;
     }
     let n = u.size;
     let mut stream = recording();
-    let b = load(read_place(a), &mut stream);
+    let b = load(rt, read_place(a), &mut stream);
     if !b.good {
         return Status::Failed;
     }
     let k = b.size;
     let mut out = recording();
-    decode_words(u, &under[..n], count, b, &stream[..k], &mut out)
+    decode_words(rt, u, &under[..n], count, b, &stream[..k], &mut out)
 }

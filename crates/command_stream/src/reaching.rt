@@ -13,8 +13,8 @@ ghost use Rattle.command_stream.specs.Streamed.{Reached};
 use command_arguments::numbers::GREATEST;
 use command_arguments::{Action, OnStream, Status, under_place};
 use command_inputs::{Input, Number, load, number_at};
-use command_messages::refuse;
 use command_messages::system::print;
+use command_messages::{Host, refuse};
 use sentences::put_sentence;
 use stream_damage::{BitNo, BitRange, BlockRange, ReachAnswer, reach};
 
@@ -28,12 +28,12 @@ fn put_reach(out: &mut [u8], b: BlockRange) -> usize
 }
 
 // Prints the line of blocks.
-fn print_reach(b: BlockRange) -> Status
+fn print_reach<R: Host>(rt: &R, b: BlockRange) -> Status
     ensures past { status_of result ≤ 1 }
 {
     let mut line = [0u8; 64];
     let n = put_reach(&mut line, b);
-    print(&line[..n])
+    print(rt, &line[..n])
 }
 
 // The blocks that overwriting channel bits can spoil, under a record.
@@ -50,36 +50,36 @@ fn reach_of(under: &[u8], first: usize, last: usize) -> ReachAnswer
 }
 
 // Prints the blocks that overwriting channel bits can spoil, or says the refusal. `u` is what was read of the record.
-fn tell_reach(u: Input, under: &[u8], first: Number, last: Number) -> Status
+fn tell_reach<R: Host>(rt: &R, u: Input, under: &[u8], first: Number, last: Number) -> Status
     requires { From (shape_of (Stream Reach)).under u under.now × Said (shape_of (Stream Reach)).number first
         × Said ((shape_of (Stream Reach)).number + 1) last × (first.value ≤ last.value) }
     ensures answer { FailsBy (reach_under under.now (bits_from first.value last.value)) result }
     ensures past { WellOnly Reached result }
 {
     match reach_of(under, first.value, last.value) {
-        ReachAnswer::Refused(x) => refuse(x),
-        ReachAnswer::Blocks(b) => print_reach(b),
+        ReachAnswer::Refused(x) => refuse(rt, x),
+        ReachAnswer::Blocks(b) => print_reach(rt, b),
     }
 }
 
 // reach RECORD FIRST LAST, where FIRST is at most LAST
-pub fn reach_bits() -> Status
+pub fn reach_bits<R: Host>(rt: &R) -> Status
     ensures answer { WellOnly Reached result }
 {
     let a = Action::Stream(OnStream::Reach);
-    let last = number_at(a, 4, GREATEST);
+    let last = number_at(rt, a, 4, GREATEST);
     if !last.good {
         return Status::Misused;
     }
-    let first = number_at(a, 3, last.value);
+    let first = number_at(rt, a, 3, last.value);
     if !first.good {
         return Status::Misused;
     }
     let mut under = [0u8; 3866];
-    let u = load(under_place(a), &mut under);
+    let u = load(rt, under_place(a), &mut under);
     if !u.good {
         return Status::Failed;
     }
     let n = u.size;
-    tell_reach(u, &under[..n], first, last)
+    tell_reach(rt, u, &under[..n], first, last)
 }

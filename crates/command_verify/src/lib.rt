@@ -13,8 +13,7 @@ pub mod verifying;
 use answer::Answer;
 use codec_verify::verify;
 use command_arguments::Status;
-use command_messages::refuse;
-use libc::STDERR_FILENO;
+use command_messages::{Host, refuse};
 use sentences::put_sentence;
 use stream_verify::verify_stream;
 
@@ -31,21 +30,21 @@ fn put_short(out: &mut [u8], k: usize, n: usize) -> usize
 }
 
 // Says that of n words k come back, and not the next.
-fn say_short(k: usize, n: usize) {
+fn say_short<R: Host>(rt: &R, k: usize, n: usize) {
     let mut line = [0u8; 192];
     let size = put_short(&mut line, k, n);
-    io::write_all(STDERR_FILENO, &line[..size]);
+    let _ = rt.tell(&line[..size]);
 }
 
 // How a run ends by the answer on n words; where some of them do not come back, that is said.
-pub fn judged(r: Answer, n: usize) -> Status
+pub fn judged<R: Host>(rt: &R, r: Answer, n: usize) -> Status
     ensures answer { result ≡ end_by r n }
 {
     match r {
-        Answer::Refused(x) => refuse(x),
+        Answer::Refused(x) => refuse(rt, x),
         Answer::Done(k) => {
             if k < n {
-                say_short(k, n);
+                say_short(rt, k, n);
                 return Status::NoRecording;
             }
             Status::Done
@@ -65,23 +64,23 @@ pub fn after_writing(s: Status) -> Status
 
 // How a run ends that has decoded words and ended so far as `s`: where all was written, by whether they are a
 // recording.
-pub fn after_words(s: Status, under: &[u8], words: &[u8]) -> Status
+pub fn after_words<R: Host>(rt: &R, s: Status, under: &[u8], words: &[u8]) -> Status
     ensures answer { result
         ≡ after_by s
         (end_by (answer_of (verify_under under.now words.now)) (length words.now)) }
 {
     match s {
-        Status::Done => judged(verify(under, words), words.len()),
+        Status::Done => judged(rt, verify(under, words), words.len()),
         _ => Status::Failed,
     }
 }
 
 // The same of the words of a stream.
-pub fn after_stream(s: Status, under: &[u8], count: usize, stream: &[u8]) -> Status
+pub fn after_stream<R: Host>(rt: &R, s: Status, under: &[u8], count: usize, stream: &[u8]) -> Status
     ensures answer { result ≡ after_by s (end_by (answer_of (verify_stream under.now count stream.now)) count) }
 {
     match s {
-        Status::Done => judged(verify_stream(under, count, stream), count),
+        Status::Done => judged(rt, verify_stream(under, count, stream), count),
         _ => Status::Failed,
     }
 }

@@ -19,6 +19,7 @@ use codec_verify::verify;
 use command_arguments::numbers::GREATEST;
 use command_arguments::{Action, Form, Status, read_place, under_place};
 use command_inputs::{Input, Number, is_twice, load, load_whole, number_at, recording};
+use command_messages::Host;
 use command_messages::system::print;
 use command_messages::usage::misused_word;
 use sentences::put_sentence;
@@ -45,17 +46,17 @@ fn put_recording(out: &mut [u8], n: usize) -> usize
 }
 
 // Prints the line of a recording of n words under the record in the bytes.
-fn print_recording(bytes: &[u8], n: usize) -> Status
+fn print_recording<R: Host>(rt: &R, bytes: &[u8], n: usize) -> Status
     ensures past { status_of result ≤ 1 }
 {
     let mut line = [0u8; 64];
     let size = put_recording(&mut line, blocks_under(bytes, n));
-    print(&line[..size])
+    print(rt, &line[..size])
 }
 
 // Tells whether words are a recording under a record; the run ends well only if they are. `u` and `b` are what was read
 // of the record and of the words.
-fn verify_words(u: Input, under: &[u8], b: Input, words: &[u8]) -> Status
+fn verify_words<R: Host>(rt: &R, u: Input, under: &[u8], b: Input, words: &[u8]) -> Status
     requires { From (shape_of (Verify Words)).under u under.now × FromWhole (shape_of (Verify Words)).read b words.now }
     ensures answer { WellOnly (answer_of (verify_under under.now words.now) ≡ Done (length words.now))
         result }
@@ -64,14 +65,21 @@ fn verify_words(u: Input, under: &[u8], b: Input, words: &[u8]) -> Status
     ensures most { status_of result ≤ 1 }
 {
     let r = verify(under, words);
-    match judged(r, words.len()) {
-        Status::Done => print_recording(under, words.len()),
+    match judged(rt, r, words.len()) {
+        Status::Done => print_recording(rt, under, words.len()),
         _ => Status::Failed,
     }
 }
 
 // The same of the words of a stream. `u` and `b` are what was read of the record and of the stream.
-fn verify_counted(u: Input, under: &[u8], count: Number, b: Input, stream: &[u8]) -> Status
+fn verify_counted<R: Host>(
+    rt: &R,
+    u: Input,
+    under: &[u8],
+    count: Number,
+    b: Input,
+    stream: &[u8],
+) -> Status
     requires { From (shape_of (Verify Stream)).under u under.now × Said (shape_of (Verify Stream)).number count
         × From (shape_of (Verify Stream)).read b stream.now }
     ensures answer { WellOnly
@@ -81,60 +89,60 @@ fn verify_counted(u: Input, under: &[u8], count: Number, b: Input, stream: &[u8]
     ensures most { status_of result ≤ 1 }
 {
     let r = verify_stream(under, count.value, stream);
-    match judged(r, count.value) {
-        Status::Done => print_recording(under, count.value),
+    match judged(rt, r, count.value) {
+        Status::Done => print_recording(rt, under, count.value),
         _ => Status::Failed,
     }
 }
 
 // verify RECORD WORDS
-pub fn verify_file() -> Status
+pub fn verify_file<R: Host>(rt: &R) -> Status
     ensures answer { WellOnly VerifiedWords result }
 {
     let a = Action::Verify(Form::Words);
-    if is_twice(a) {
-        misused_word(a, b"-", b": only one file can be standard input");
+    if is_twice(rt, a) {
+        misused_word(rt, a, b"-", b": only one file can be standard input");
         return Status::Misused;
     }
     let mut under = [0u8; 3866];
-    let u = load(under_place(a), &mut under);
+    let u = load(rt, under_place(a), &mut under);
     if !u.good {
         return Status::Failed;
     }
     let n = u.size;
     let mut words = recording();
-    let b = load_whole(read_place(a), &mut words, 1000015);
+    let b = load_whole(rt, read_place(a), &mut words, 1000015);
     if !b.good {
         return Status::Failed;
     }
     let k = b.size;
-    verify_words(u, &under[..n], b, &words[..k])
+    verify_words(rt, u, &under[..n], b, &words[..k])
 }
 
 // verify-stream RECORD COUNT STREAM
-pub fn verify_stream_file() -> Status
+pub fn verify_stream_file<R: Host>(rt: &R) -> Status
     ensures answer { WellOnly VerifiedStream result }
 {
     let a = Action::Verify(Form::Stream);
-    let count = number_at(a, 3, GREATEST);
+    let count = number_at(rt, a, 3, GREATEST);
     if !count.good {
         return Status::Misused;
     }
-    if is_twice(a) {
-        misused_word(a, b"-", b": only one file can be standard input");
+    if is_twice(rt, a) {
+        misused_word(rt, a, b"-", b": only one file can be standard input");
         return Status::Misused;
     }
     let mut under = [0u8; 3866];
-    let u = load(under_place(a), &mut under);
+    let u = load(rt, under_place(a), &mut under);
     if !u.good {
         return Status::Failed;
     }
     let n = u.size;
     let mut stream = recording();
-    let b = load(read_place(a), &mut stream);
+    let b = load(rt, read_place(a), &mut stream);
     if !b.good {
         return Status::Failed;
     }
     let k = b.size;
-    verify_counted(u, &under[..n], count, b, &stream[..k])
+    verify_counted(rt, u, &under[..n], count, b, &stream[..k])
 }

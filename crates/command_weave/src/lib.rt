@@ -13,6 +13,7 @@ use answer::Answer;
 use command_arguments::numbers::GREATEST;
 use command_arguments::{Action, OnRecordings, Status, read_place, written_place};
 use command_inputs::{Input, Number, load_whole, number_at, recording};
+use command_messages::Host;
 use command_outputs::finish;
 use weaving::{unweave, weave};
 
@@ -30,7 +31,14 @@ fn rearrange(how: OnRecordings, d: usize, words: &[u8], out: &mut [u8]) -> Answe
 
 // The words of d recordings, woven or taken apart; the run fails where they are refused. `l` is what was read of the
 // words.
-fn rearrange_words(how: OnRecordings, d: Number, l: Input, words: &[u8], out: &mut [u8]) -> Status
+fn rearrange_words<R: Host>(
+    rt: &R,
+    how: OnRecordings,
+    d: Number,
+    l: Input,
+    words: &[u8],
+    out: &mut [u8],
+) -> Status
     requires { Said (shape_of (Recordings how)).number d × FromWhole (shape_of (Recordings how)).read l words.now }
     ensures answer { Fails (answer_of (rearrange_into how d.value (length out.old) words.now)) result }
     ensures written { out.new
@@ -40,24 +48,24 @@ fn rearrange_words(how: OnRecordings, d: Number, l: Input, words: &[u8], out: &m
 {
     let i = written_place(Action::Recordings(how));
     let r = rearrange(how, d.value, words, out);
-    finish(Action::Recordings(how), i, r, out)
+    finish(rt, Action::Recordings(how), i, r, out)
 }
 
 // weave D IN OUT, unweave D IN OUT
-pub fn rearrange_file(how: OnRecordings) -> Status
+pub fn rearrange_file<R: Host>(rt: &R, how: OnRecordings) -> Status
     ensures answer { WellOnly (Rearranged how) result }
 {
     let a = Action::Recordings(how);
-    let d = number_at(a, 2, GREATEST);
+    let d = number_at(rt, a, 2, GREATEST);
     if !d.good {
         return Status::Misused;
     }
     let mut words = recording();
-    let l = load_whole(read_place(a), &mut words, 1000015);
+    let l = load_whole(rt, read_place(a), &mut words, 1000015);
     if !l.good {
         return Status::Failed;
     }
     let n = l.size;
     let mut out = recording();
-    rearrange_words(how, d, l, &words[..n], &mut out)
+    rearrange_words(rt, how, d, l, &words[..n], &mut out)
 }

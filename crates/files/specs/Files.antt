@@ -9,7 +9,7 @@ use Rattle.files.specs.declared.Loaded.TheVariants.{Whole, Unreadable, TooLong}
 -- a whole file is within the lent bytes
 abbrev pub Fits : Loaded → List ℕ → Type 0
 Fits (Whole n) out = IsPrefixLen n out
-Fits Unreadable out = Unit {0}
+Fits (Unreadable e) out = Unit {0}
 Fits TooLong out = Unit {0}
 
 -- a file of which n bytes were read is whole where no more are behind them

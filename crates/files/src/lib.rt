@@ -2,15 +2,25 @@
 #![tactic(auto)]
 
 ghost use Rattle.std.specs.Prelude.{◌≡◌, length};
+ghost use Rattle.io.specs.Counts.{IsPrefixLen};
 ghost use Rattle.files.specs.Files.{Fits, loaded_of};
 
-use libc::{close, read};
+use std::fs::File;
+use std::io::{Error, ErrorKind, Read};
+use std::rt::Files;
+
+// As many zeros as the array is long.
+pub fn zeros<const N: usize>() -> [u8; N]
+    ensures answer { N ≡ length result }
+{
+    [0; N]
+}
 
 // 1,000,000 zeros, for a file.
 pub fn buffer() -> [u8; 1000000]
     ensures answer { 1000000 ≡ length result }
 {
-    [0; 1000000]
+    zeros::<1000000>()
 }
 
 // What reading a file comes to: how many bytes it has, or why there is no result.
@@ -18,8 +28,8 @@ pub fn buffer() -> [u8; 1000000]
 pub enum Loaded {
     // All bytes are at the start of the lent ones.
     Whole(usize),
-    // It cannot be opened, or reading it failed.
-    Unreadable,
+    // It cannot be opened, or reading it failed, for the reason that the system gave.
+    Unreadable(Error),
     // It is longer than the lent bytes.
     TooLong,
 }
@@ -34,29 +44,46 @@ fn outcome(n: usize, more: usize) -> Loaded
     Loaded::TooLong
 }
 
+// Reads until the lent bytes are full, the file ends or a read fails; the answer is how many bytes were read.
+pub fn read_full<F: Read>(file: &mut F, out: &mut [u8]) -> usize
+    ensures { IsPrefixLen result out.new }
+{
+    let mut done = 0;
+    while done < out.len() {
+        match file.read(&mut out[done..]) {
+            Ok(n) => {
+                if n == 0 {
+                    return done;
+                }
+                done += n;
+            }
+            Err(_) => return done,
+        }
+    }
+    done
+}
+
 // Reads to the end of an open file.
-pub fn load_open(file: i32, out: &mut [u8]) -> Loaded
+pub fn load_open<F: Read>(file: &mut F, out: &mut [u8]) -> Loaded
     ensures written { Fits result out.new }
 {
-    let n = io::read_full(file, out);
+    let n = read_full(file, out);
     let mut one = [0u8; 1];
-    let more = read(file, &mut one);
-    if more < 0 {
-        return Loaded::Unreadable;
+    match file.read(&mut one) {
+        Ok(more) => outcome(n, more),
+        Err(e) => Loaded::Unreadable(e),
     }
-    let k = io::count(more, &one);
-    outcome(n, k)
 }
 
 // Reads the file of this name.
-pub fn load(path: &[u8], out: &mut [u8]) -> Loaded
+pub fn load<R: Files>(rt: &R, path: &[u8], out: &mut [u8]) -> Loaded
     ensures written { Fits result out.new }
 {
-    let file = os::open_read(path);
-    if file < 0 {
-        return Loaded::Unreadable;
+    match str::from_utf8(path) {
+        Ok(name) => match File::open(rt, name) {
+            Ok(mut file) => load_open(&mut file, out),
+            Err(e) => Loaded::Unreadable(e),
+        },
+        Err(_) => Loaded::Unreadable(Error::from(ErrorKind::InvalidFilename)),
     }
-    let r = load_open(file, out);
-    close(file);
-    r
 }

@@ -4,7 +4,6 @@
 ghost use Rattle.std.specs.Prelude.{◌≡◌, true, ◌≤◌, get_or};
 ghost use Rattle.judging.specs.Comparing.{Stands, Same, differs};
 
-use libc::STDOUT_FILENO;
 use text::put_line;
 
 // Every byte of an output as it is lent.
@@ -58,20 +57,20 @@ pub fn is_same(a: Told, out: &[u8], refusal: usize, value: usize, output: &[u8])
 }
 
 // A name and a number on a line.
-fn say_number(name: &[u8], n: u64) {
+fn say_number<R: Print>(rt: &R, name: &[u8], n: u64) {
     let mut out = [0u8; 128];
     let size = put_line(&mut out, 0, name, n);
-    io::write_all(STDOUT_FILENO, &out[..size]);
+    let _ = rt.write_all(&out[..size]);
 }
 
 // 1 for a case that differs, whose number is printed, 0 for one that does not.
-pub fn judge(agrees: bool, number: u64) -> u64
+pub fn judge<R: Print>(rt: &R, agrees: bool, number: u64) -> u64
     ensures answer { result ≡ differs agrees }
     ensures small { result ≤ 1 }
 {
     if agrees {
         return 0;
     }
-    say_number(b"differs: case ", number);
+    say_number(rt, b"differs: case ", number);
     1
 }

@@ -7,7 +7,7 @@ ghost use Rattle.io.specs.Counts.{IsPrefixLen};
 ghost use Rattle.view_job.specs.Listings.{listing_of};
 
 use answer::Answer;
-use libc::{STDIN_FILENO, STDOUT_FILENO};
+use files::read_full;
 use view_job::{list_run_length, tell_refusal};
 
 // What is printed for a job's bytes, at the start of the output, which is longer than every listing; the answer is
@@ -23,10 +23,11 @@ fn list(job: &[u8], out: &mut [u8]) -> usize
     }
 }
 
-fn main() {
+fn main(rt: HostRuntime) {
     let mut bytes = [0u8; 6];
-    let n = io::read_full(STDIN_FILENO, &mut bytes);
+    let mut input = rt.reader();
+    let n = read_full(&mut input, &mut bytes);
     let mut out = io::large_buffer();
     let size = list(&bytes[..n], &mut out);
-    io::write_all(STDOUT_FILENO, &out[..size]);
+    let _ = rt.write_all(&out[..size]);
 }

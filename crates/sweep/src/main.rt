@@ -10,7 +10,6 @@ ghost use Rattle.io.specs.Counts.{IsPrefixLen};
 
 use answer::{Answer, answer_number};
 use compile::bytes::compile_run_length;
-use libc::STDOUT_FILENO;
 use sentences::put_sentence;
 use std::num::wrapping_add_usize;
 use text::{put, put_hex};
@@ -107,7 +106,7 @@ fn sweep() -> Tally {
 }
 
 // What is printed of a tally.
-fn say(t: Tally) {
+fn say<R: Print>(rt: &R, t: Tally) {
     let mut out = io::buffer();
     let sum = put_sentence(
         &mut out,
@@ -124,9 +123,9 @@ fn say(t: Tally) {
     );
     let end = put_hex(&mut out, sum, t.sum, 16);
     let size = put(&mut out, end, b"\n");
-    io::write_all(STDOUT_FILENO, &out[..size]);
+    let _ = rt.write_all(&out[..size]);
 }
 
-fn main() {
-    say(sweep());
+fn main(rt: HostRuntime) {
+    say(&rt, sweep());
 }

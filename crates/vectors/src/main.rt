@@ -10,30 +10,29 @@ mod walk;
 
 use checksum::START;
 use files::Loaded;
-use libc::STDOUT_FILENO;
 use sentences::put_sentence;
 use text::{put, put_hex, put_line};
 use walk::{Tally, is_end, walk};
 
 // A text.
-fn say(words: &[u8]) {
-    io::write_all(STDOUT_FILENO, words);
+fn say<R: Print>(rt: &R, words: &[u8]) {
+    let _ = rt.write_all(words);
 }
 
 // The length and the checksum of the file.
-fn say_file(bytes: &[u8]) {
+fn say_file<R: Print>(rt: &R, bytes: &[u8]) {
     let mut out = [0u8; 128];
     let name = put_sentence(&mut out, 0, b"bytes #\nchecksum ", &[bytes.len()]);
     let sum = put_hex(&mut out, name, checksum::add(START, bytes), 16);
     let size = put(&mut out, sum, b"\n");
-    io::write_all(STDOUT_FILENO, &out[..size]);
+    let _ = rt.write_all(&out[..size]);
 }
 
 // A name and a number on a line.
-fn say_number(name: &[u8], n: u64) {
+fn say_number<R: Print>(rt: &R, name: &[u8], n: u64) {
     let mut out = [0u8; 128];
     let size = put_line(&mut out, 0, name, n);
-    io::write_all(STDOUT_FILENO, &out[..size]);
+    let _ = rt.write_all(&out[..size]);
 }
 
 // The numbers of a tally as they are printed: of kinds 1 to 17 and then of all, how many cases, and how many differ.
@@ -79,7 +78,7 @@ fn numbers_of(t: Tally) -> [usize; 36] {
 }
 
 // What is printed of a tally.
-fn say_tally(t: Tally) {
+fn say_tally<R: Print>(rt: &R, t: Tally) {
     let mut out = [0u8; 1024];
     let numbers = numbers_of(t);
     let size = put_sentence(
@@ -93,27 +92,27 @@ fn say_tally(t: Tally) {
         verify # cases, differ #\nverify_stream # cases, differ #\nall # cases, differ #\n",
         &numbers,
     );
-    io::write_all(STDOUT_FILENO, &out[..size]);
+    let _ = rt.write_all(&out[..size]);
 }
 
 // Runs every case and prints what came out.
-fn run(bytes: &[u8])
+fn run<R: Print>(rt: &R, bytes: &[u8])
     requires { length bytes.now ≤ 1000000 }
 {
-    say_file(bytes);
-    let t = walk(bytes);
+    say_file(rt, bytes);
+    let t = walk(rt, bytes);
     if !is_end(bytes, t.at) {
-        say_number(b"neither a whole case nor the end: case ", t.cases);
+        say_number(rt, b"neither a whole case nor the end: case ", t.cases);
     }
-    say_tally(t);
+    say_tally(rt, t);
 }
 
-fn main() {
+fn main(rt: HostRuntime) {
     let mut bytes = files::buffer();
-    let loaded = files::load(b"vectors", &mut bytes);
+    let loaded = files::load(&rt, b"vectors", &mut bytes);
     match loaded {
-        Loaded::Whole(n) => run(&bytes[..n]),
-        Loaded::Unreadable => say(b"vectors cannot be read\n"),
-        Loaded::TooLong => say(b"vectors is too long\n"),
+        Loaded::Whole(n) => run(&rt, &bytes[..n]),
+        Loaded::Unreadable(_) => say(&rt, b"vectors cannot be read\n"),
+        Loaded::TooLong => say(&rt, b"vectors is too long\n"),
     }
 }

@@ -55,12 +55,12 @@ fn known_agrees(bytes: &[u8], c: Case) -> bool
 }
 
 // Whether a case comes out as it says. One of a kind that this program does not know never does: the kind is printed.
-fn case_agrees(bytes: &[u8], c: Case) -> bool
+fn case_agrees<R: Print>(rt: &R, bytes: &[u8], c: Case) -> bool
     requires { Whole bytes.now c }
     ensures known { result ≡ true → c.kind ≤ 17 }
 {
     if 17 < c.kind {
-        say_number(b"not known to this program: kind ", c.kind as u64);
+        say_number(rt, b"not known to this program: kind ", c.kind as u64);
         return false;
     }
     known_agrees(bytes, c)
@@ -95,24 +95,24 @@ fn no_case() -> Tally
 }
 
 // The tally with the case that it has reached.
-fn step(bytes: &[u8], t: Tally, c: Case) -> Tally
+fn step<R: Print>(rt: &R, bytes: &[u8], t: Tally, c: Case) -> Tally
     requires { (length bytes.now ≤ 1000000) × Whole bytes.now c × Few t × (t.at < c.end) }
     ensures answer { Few result × (result.at ≡ c.end) }
 {
-    let agrees = case_agrees(bytes, c);
-    let more = judge(agrees, t.cases);
+    let agrees = case_agrees(rt, bytes, c);
+    let more = judge(rt, agrees, t.cases);
     with_case(t, c, more)
 }
 
 // The tally of all cases.
-pub fn walk(bytes: &[u8]) -> Tally
+pub fn walk<R: Print>(rt: &R, bytes: &[u8]) -> Tally
     requires { length bytes.now ≤ 1000000 }
     ensures past { result.at ≤ length bytes.now }
 {
     let mut t = no_case();
     let mut c = case_at(bytes, 0);
     while is_case(bytes, c) {
-        let next = step(bytes, t, c);
+        let next = step(rt, bytes, t, c);
         t = next;
         let following = case_at(bytes, t.at);
         c = following;

@@ -1,0 +1,28 @@
+-- `put_marks` meets its contract: the numbers in the line are those of the two marks in the blocks.
+use Rattle.laws.proofs.All.{◌≡◌, subst₂, List, ℕ, arith, length, times, times-two}
+use Rattle.text.specs.Texts.{Added}
+use Rattle.codec_steps.specs.Reading.{mark_before, mark_ahead}
+use Rattle.command_marks.specs.Marking.{marks_said, marks_line}
+use Rattle.command_marks.proofs.put_marks.Goals as goal
+
+-- a line with the numbers of the marks in the blocks
+counted : (bs old new : List ℕ) (before ahead e : ℕ) → before ≡ times mark_before bs → ahead ≡ times mark_ahead bs
+    → Added (marks_said before ahead (length bs)) 0 old new e → Added (marks_line bs) 0 old new e
+counted bs old new before ahead e = subst₂ (λ x y. Added (marks_said x y (length bs)) 0 old new e)
+
+pub overflow_add-before : goal.overflow_add-before
+overflow_add-before c =
+    let bs = c.args.blocks.now in
+    omega (
+      arith,
+      times-two 254 255 bs (λ e. omega arith),
+      c.count_marks-ahead.ensures.answer,
+      c.count_marks-before.ensures.answer,
+    )
+
+pub returns : goal.returns
+returns c =
+    record {
+      written = counted c.args.blocks.now _ _ _ _ _ c.count_marks-before.ensures.answer c.count_marks-ahead.ensures.answer
+          c.put_sentence.ensures.written;
+    }

@@ -1,0 +1,22 @@
+-- `folder` meets its contract, byte by byte from the path's end.
+use Rattle.laws.proofs.All.{◌≡◌, sym, ap, ◌∙◌, arith}
+use Rattle.command_store.specs.Storing.{folder_in}
+use Rattle.command_store.proofs.Parts.{folder-here, folder-back}
+use Rattle.command_store.proofs.folder.Goals as goal
+
+pub returns-then-path-n-eq47-clause-answer : goal.returns-then-path-n-eq47-clause-answer
+returns-then-path-n-eq47-clause-answer c =
+    let l = c.loop-n in
+    sym (l.invariant.1 ∙ folder-here l.n c.args.path.now c.loop-n-test.true c.if-path-n-eq47.true)
+
+pub loop-n-preserved : goal.loop-n-preserved
+loop-n-preserved c =
+    let l = c.loop-n in
+    (omega arith, l.invariant.1 ∙ folder-back l.n c.args.path.now c.loop-n-test.true c.if-path-n-eq47.false)
+
+pub returns-clause-answer : goal.returns-clause-answer
+unfolding folder_in
+returns-clause-answer c =
+    let l = c.loop-n in
+    let z : l.n ≡ 0 = omega arith in
+    z ∙ sym (l.invariant.1 ∙ ap (λ k. folder_in k c.args.path.now) z)
