@@ -1,8 +1,9 @@
 -- The folder of a path, byte by byte from its end.
 -- In order: folder-here, folder-back.
 -- Assumes nothing.
-use Rattle.laws.proofs.All.{◌≡◌, sym, ap, subst, ◌∙◌, List, ℕ, zero, suc, ◌-◌, ◌<◌, arith, get_or}
-use Rattle.laws.proofs.All.{eq-eqb, ne_eqb, if◌then◌else◌}
+use Rattle.std.proofs.Common.{◌≡◌, ◌-◌, ◌<◌, if◌then◌else◌}
+use Rattle.laws.proofs.All.{sym, ap, subst, ◌∙◌, List, ℕ, zero, suc, arith, get_or}
+use Rattle.laws.proofs.All.{eq-eqb, ne_eqb}
 use Rattle.command_store.specs.Storing.{folder_in}
 
 pub folder-here : (n : ℕ) (path : List ℕ) → 0 < n → get_or path (n - 1) 0 ≡ 47 → folder_in n path ≡ n

@@ -1,5 +1,6 @@
 -- `count_marks` meets its contract: one more block passed is one more mark, or none.
-use Rattle.laws.proofs.All.{sym, ap₂, ◌∙◌, ◌+◌, arith, eqb, one, tot-take-more}
+use Rattle.std.proofs.Common.{◌+◌}
+use Rattle.laws.proofs.All.{sym, ap₂, ◌∙◌, arith, eqb, one, tot-take-more}
 use Rattle.command_marks.proofs.count_marks.Goals as goal
 
 pub loop-i-preserved : goal.loop-i-preserved

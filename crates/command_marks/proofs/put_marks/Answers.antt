@@ -1,5 +1,6 @@
 -- `put_marks` meets its contract: the numbers in the line are those of the two marks in the blocks.
-use Rattle.laws.proofs.All.{◌≡◌, subst₂, List, ℕ, arith, length, times, times-two}
+use Rattle.std.proofs.Common.{◌≡◌}
+use Rattle.laws.proofs.All.{subst₂, List, ℕ, arith, length, times, times-two}
 use Rattle.text.specs.Texts.{Added}
 use Rattle.codec_steps.specs.Reading.{mark_before, mark_ahead}
 use Rattle.command_marks.specs.Marking.{marks_said, marks_line}

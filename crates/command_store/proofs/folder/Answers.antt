@@ -1,5 +1,6 @@
 -- `folder` meets its contract, byte by byte from the path's end.
-use Rattle.laws.proofs.All.{◌≡◌, sym, ap, ◌∙◌, arith}
+use Rattle.std.proofs.Common.{◌≡◌}
+use Rattle.laws.proofs.All.{sym, ap, ◌∙◌, arith}
 use Rattle.command_store.specs.Storing.{folder_in}
 use Rattle.command_store.proofs.Parts.{folder-here, folder-back}
 use Rattle.command_store.proofs.folder.Goals as goal

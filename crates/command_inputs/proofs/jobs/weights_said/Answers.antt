@@ -1,5 +1,6 @@
 -- `weights_said` meets its contract: the five numbers stay where a weight is put behind them.
-use Rattle.laws.proofs.All.{sym, ◌∙◌, ◌+◌, arith, length-set}
+use Rattle.std.proofs.Common.{◌+◌}
+use Rattle.laws.proofs.All.{sym, ◌∙◌, arith, length-set}
 use lib.Seq.{take-set-le}
 use Rattle.command_inputs.proofs.jobs.weights_said.Goals as goal
 
