@@ -73,3 +73,6 @@ returns c =
           c.requires.8 c.requires.9 c.requires.5)
           (take_rest (base / 8 * a.q) xs) c.get_words.ensures.written a.out.now _ (omega arith) c.read_blocks.ensures.written;
     }
+
+pub slice_bounds-get_words-count : goal.slice_bounds-get_words-count
+slice_bounds-get_words-count c = skip c
