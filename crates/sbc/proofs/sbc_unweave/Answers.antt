@@ -1,0 +1,8 @@
+-- `sbc_unweave` meets its contract: it is the answer of `unweave` as one number, and the bytes are its.
+use mathlib.Core.Path.{ap, ◌∙◌}
+use Rattle.word.specs.Words.{word_of}
+use Rattle.sbc.proofs.sbc_unweave.Goals as goal
+
+pub returns : goal.returns
+returns c =
+    record { answer = c.word.ensures.answer ∙ ap word_of c.unweave.ensures.answer; written = c.unweave.ensures.written }
