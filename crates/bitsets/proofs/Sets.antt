@@ -12,7 +12,8 @@ use Rattle.bitsets.proofs.Places.{any-places→, →any-places}
 use Rattle.bitsets.proofs.Rising.{places-rising, places-find, places-hold}
 
 -- ---- tests over the states of a set, and of two
-pub any-members→ : (p : ℕ → Bool) (s : BitSet) → T (any p (members_of s)) → (i : ℕ) × (i < 128) × T (holds s i) × T (p i)
+pub any-members→ : (p : ℕ → Bool) (s : BitSet) → T (any p (members_of s)) → (i : ℕ) × (i < 128) × T (holds s i)
+    × T (p i)
 any-members→ p s = any-places→ p 128 (value_of s)
 
 pub →any-members : (p : ℕ → Bool) (s : BitSet) (i : ℕ) → i < 128 → T (holds s i) → T (p i) → T (any p (members_of s))

@@ -32,7 +32,8 @@ unfolding places_of
 places-head d n = filter-head (bit_at n) d (range d)
 
 lowest-of : (s : BitSet) → Words s
-    → (if eqb s.low 0 then 64 + count_trailing_zeros 64 s.high else count_trailing_zeros 64 s.low) ≡ get_or (members_of s) 0 128
+    → (if eqb s.low 0 then 64 + count_trailing_zeros 64 s.high else count_trailing_zeros 64 s.low)
+    ≡ get_or (members_of s) 0 128
 lowest-of s (l, h) = go (eq-zero-or-pos s.low)
   where
     go : (s.low ≡ 0) ⊎ (0 < s.low)

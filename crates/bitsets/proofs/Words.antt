@@ -4,7 +4,8 @@
 use Rattle.std.proofs.Common.{◌≡◌, ◌⊎◌, ◌&&◌, ◌+◌, ◌-◌, ◌*◌, ◌/◌, ◌%◌, ◌^◌, ◌<◌}
 use Rattle.laws.proofs.All.{refl, sym, ap, ap₂, ◌∙◌, subst, inl, inr, ℕ, zero, suc}
 use Rattle.laws.proofs.All.{add-zero, zero-add, suc-add, add_comm, mul_comm, one-mul, mod-eq_of_lt}
-use Rattle.laws.proofs.All.{arith, eq-eqb, ne_eqb, digits_lt, bit_and, bit_or, T, eqb, eqb→eq, lit<, length, get_or, drop}
+use Rattle.laws.proofs.All.{arith, eq-eqb, ne_eqb, digits_lt, bit_and, bit_or, T, eqb, eqb→eq, lit<, length, get_or}
+use Rattle.laws.proofs.All.{drop}
 use Rattle.laws.proofs.All.{pow-add, pow_pos, shl_exact, shr_lt, bool_eq}
 use native.Mathlib.Nat.{eq-zero-or-pos, mul-one}
 use lib.Arith.{lt-one}
@@ -76,12 +77,15 @@ tz-low zero k a r p h = absurd (omega arith)
 tz-low (suc j) k a r p h =
     rw (suc-add j k, block_odd a j r, block_half a j r) (go (λ p. tz-low j k a (r / 2) p (half j r h)) (bit r))
   where
-    go : (0 < r / 2 → count_trailing_zeros (j + k) (a * 2 ^ j + r / 2) ≡ count_trailing_zeros j (r / 2)) → (r % 2 ≡ 0) ⊎ (r % 2 ≡ 1)
-        → under (r % 2) (count_trailing_zeros (j + k) (a * 2 ^ j + r / 2)) ≡ under (r % 2) (count_trailing_zeros j (r / 2))
+    go : (0 < r / 2 → count_trailing_zeros (j + k) (a * 2 ^ j + r / 2) ≡ count_trailing_zeros j (r / 2)) → (r % 2 ≡ 0)
+        ⊎ (r % 2 ≡ 1)
+        → under (r % 2) (count_trailing_zeros (j + k) (a * 2 ^ j + r / 2))
+        ≡ under (r % 2) (count_trailing_zeros j (r / 2))
     go ih (inl e) = ap (under (r % 2)) (ih (omega arith))
     go ih (inr e) = rw e
 
-pub first-low : (h l : ℕ) → 0 < l → l < 2 ^ 64 → get_or (places_of 128 (h * 2 ^ 64 + l)) 0 128 ≡ count_trailing_zeros 64 l
+pub first-low : (h l : ℕ) → 0 < l → l < 2 ^ 64 → get_or (places_of 128 (h * 2 ^ 64 + l)) 0 128
+    ≡ count_trailing_zeros 64 l
 first-low h l p q = places-first 128 (h * 2 ^ 64 + l) ∙ tz-low 64 64 h l p q
 
 pub first-high : (h l : ℕ) → l ≡ 0 → get_or (places_of 128 (h * 2 ^ 64 + l)) 0 128 ≡ 64 + count_trailing_zeros 64 h

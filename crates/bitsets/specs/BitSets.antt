@@ -1,5 +1,6 @@
 -- Sets of states in two machine words, one bit for each of 128 states, and the lists that they stand for.
--- In order: bit_at, places_of, the bits of a number; value_of; holds, members_of, yes_no, meeting; set_of, set_at, Put, sets
+-- In order: bit_at, places_of, the bits of a number; value_of; holds, members_of, yes_no, meeting; set_of, set_at,
+-- Put, sets
 -- in an array, two words each.
 -- Assumes nothing.
 use Rattle.std.specs.Prelude.{◌≡◌, Bool, ◌&&◌, List, map, ℕ, ◌+◌, ◌*◌, ◌/◌, ◌%◌, ◌^◌, eqb, length, get_or}

@@ -1,7 +1,8 @@
 -- A product modulo 2^64 from the products of its halves.
 -- In order: three-terms; product; sum_more, sum-append.
 -- Assumes nothing.
-use Rattle.std.proofs.Common.{◌≡◌, ℕ, ◌+◌, ◌*◌, ◌/◌, ◌%◌, ◌^◌, ◌<◌, List, [], ◌∷◌, ◌++◌, length, get_or, drop, sym, refl, ap, ◌∙◌, div-add-mod', add-one, arith, drop-cons}
+use Rattle.std.proofs.Common.{◌≡◌, ℕ, ◌+◌, ◌*◌, ◌/◌, ◌%◌, ◌^◌, ◌<◌, List, [], ◌∷◌, ◌++◌, length, get_or, drop, sym}
+use Rattle.std.proofs.Common.{refl, ap, ◌∙◌, div-add-mod', add-one, arith, drop-cons}
 use native.Mathlib.Nat.{mod-add-mod, add-mod-mod}
 use Rattle.checksum.specs.Fnv.{step, sum}
 

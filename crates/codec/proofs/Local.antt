@@ -4,7 +4,8 @@
 -- Assumes nothing.
 use Rattle.std.proofs.Common.{◌≡◌, ◌⊎◌, ◌+◌, ◌-◌, ◌≤◌, ◌<◌}
 use Rattle.laws.proofs.All.{sym, ap, ◌∙◌, inl, inr, Bool, List, ℕ, suc, arith, dec_le}
-use Rattle.laws.proofs.All.{get_or, take, drop, lt-ltb, le-ltb, take-take, get_or-take, get_or-drop, drop-take, drop-drop}
+use Rattle.laws.proofs.All.{get_or, take, drop, lt-ltb, le-ltb, take-take, get_or-take, get_or-drop, drop-take}
+use Rattle.laws.proofs.All.{drop-drop}
 use Rattle.table.specs.Rows.{Rows, Code}
 use Rattle.codec_steps.specs.StateSets.{every_state, one_state, along_all}
 use Rattle.codec_steps.specs.Reading.{reading, past, block}

@@ -24,7 +24,8 @@ module _ (t : Table) (room : ℕ) (ws : List ℕ) (v : Verdict)
   -- words enough, and room for their blocks
   pub room-good : v ≡ Good → (t.lookahead ≤ length ws) × (length ws - t.lookahead ≤ room)
   room-good g =
-      decode-within (code_in t) room ws (decode (code_in t) ws) (outcome ∙ ap (λ v. verdict_on v (decode (code_in t) ws)) g)
+      decode-within (code_in t) room ws (decode (code_in t) ws)
+      (outcome ∙ ap (λ v. verdict_on v (decode (code_in t) ws)) g)
 
   module _ (r : ready t ≡ true) where
     pub under-bad : (x : Refusal) → v ≡ Bad x → decoded_with t room ws ≡ refused x

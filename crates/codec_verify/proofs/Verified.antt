@@ -113,7 +113,8 @@ module _ (c : Code) (h : c.tail < 2 ^ c.p) (L F : List ℕ) (e : verified c L �
   rebuilt-front : (k ≤ length (rebuilt c L)) × (take k (rebuilt c L) ≡ F)
       × (k < length (rebuilt c L) → k < length L → get_or (rebuilt c L) k 0 ≡ get_or L k 0 → ⊥)
   rebuilt-front = subst (λ G. (length G ≤ length (rebuilt c L)) × (take (length G) (rebuilt c L) ≡ G)
-      × (length G < length (rebuilt c L) → length G < length L → get_or (rebuilt c L) (length G) 0 ≡ get_or L (length G) 0
+      × (length G < length (rebuilt c L) → length G < length L → get_or (rebuilt c L) (length G) 0
+      ≡ get_or L (length G) 0
       → ⊥)) front
       ((front-left (rebuilt c L) L).0, (front-left (rebuilt c L) L).1, front-differs (rebuilt c L) L)
 

@@ -16,7 +16,8 @@ use Rattle.command_store.specs.declared.Stored.{Stored}
 use Rattle.command_store.specs.declared.Stored.TheVariants.{Whole, Unwritten, Source}
 use Rattle.command_outputs.specs.Results.{Within, Fails, FailsBy, Gives, EndsBy, WellOnly, ended_by}
 
-pub result-within : (o : Outcome (List ℕ)) (a : Answer) (B C : List ℕ) → a ≡ answer_of o → C ≡ output_of o B → Within a C
+pub result-within : (o : Outcome (List ℕ)) (a : Answer) (B C : List ℕ) → a ≡ answer_of o → C ≡ output_of o B
+    → Within a C
 result-within o a B C e w = subst (λ a. Within a C) (sym e) (go o w)
   where
     go : (o : Outcome (List ℕ)) → C ≡ output_of o B → Within (answer_of o) C
@@ -33,7 +34,8 @@ pub fails-done : (a : Answer) (n : ℕ) (s : Status) → a ≡ Done n → Fails 
 fails-done a n s e = subst (λ a. Fails a s) (sym e) tt
 
 -- how a run ends is said of the call's outcome
-pub fails-outcome : (o : Outcome (List ℕ)) (a : Answer) (s : Status) → a ≡ answer_of o → Fails a s → Fails (answer_of o) s
+pub fails-outcome : (o : Outcome (List ℕ)) (a : Answer) (s : Status) → a ≡ answer_of o → Fails a s
+    → Fails (answer_of o) s
 fails-outcome o a s e = subst (λ a. Fails a s) e
 
 -- a run that fails ends with status 1

@@ -15,7 +15,8 @@ module _ (v : List ℕ) (s w : ℕ) (hs : s < length v) where
   length' = length-append (set v s w) ((get_or v s 0 - w) ∷ []) ∙ rw (length-set v s w) (omega arith)
 
   pub w-old : get_or weights' s 0 ≡ w
-  w-old = get_or-append (set v s w) ((get_or v s 0 - w) ∷ []) 0 s (rw (length-set v s w) hs) ∙ get_or-set_same v s w 0 hs
+  w-old = get_or-append (set v s w) ((get_or v s 0 - w) ∷ []) 0 s (rw (length-set v s w) hs)
+      ∙ get_or-set_same v s w 0 hs
 
   pub w-new : get_or weights' (length v) 0 ≡ get_or v s 0 - w
   w-new = cc (length-set v s w, get_or-append_seam (set v s w) (get_or v s 0 - w) [] 0)

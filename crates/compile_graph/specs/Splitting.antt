@@ -3,7 +3,8 @@
 -- runs_to, runs, divisible, first_run, kept; moved, redirected, doubled, parted; split; few_edges, unfinished, crowded,
 -- goes_on, splits, split_all.
 -- Assumes nothing.
-use Rattle.std.specs.Prelude.{if◌then◌else◌, Bool, true, false, not, ◌&&◌, ◌||◌, List, [], ◌∷◌, ◌++◌, map, ℕ, zero, suc, ◌+◌, ◌-◌, ◌/◌, ◌%◌, max, ltb, eqb, length, get_or, take, drop, set}
+use Rattle.std.specs.Prelude.{if◌then◌else◌, Bool, true, false, not, ◌&&◌, ◌||◌, List, [], ◌∷◌, ◌++◌, map, ℕ, zero, suc}
+use Rattle.std.specs.Prelude.{◌+◌, ◌-◌, ◌/◌, ◌%◌, max, ltb, eqb, length, get_or, take, drop, set}
 use Rattle.laws.specs.Lists.{range, sum, filter, any, first, concat}
 use Rattle.laws.specs.Sorted.{insert_by, sort_by}
 use Rattle.compile_graph.specs.Arcs.{Arc, arc, Work, leaves, enters, out}

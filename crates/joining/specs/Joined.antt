@@ -3,7 +3,8 @@
 -- In order: pair_of; allowed, leads_to, one bit from a pair; adjoin, met; walked, walked_from, pairs; next_pair,
 -- joined_state, joined; Reachable, what the pairs mean; MeetsAt, FirstMet, what their numbers mean.
 -- Assumes nothing.
-use Rattle.std.specs.Prelude.{if◌then◌else◌, ◌≡◌, Bool, not, ◌&&◌, List, [], ◌∷◌, ◌++◌, map, ℕ, zero, suc, ◌+◌, ◌*◌, ◌/◌, ◌%◌, ◌<◌, T, ltb, eqb, length, get_or}
+use Rattle.std.specs.Prelude.{if◌then◌else◌, ◌≡◌, Bool, not, ◌&&◌, List, [], ◌∷◌, ◌++◌, map, ℕ, zero, suc, ◌+◌, ◌*◌}
+use Rattle.std.specs.Prelude.{◌/◌, ◌%◌, ◌<◌, T, ltb, eqb, length, get_or}
 use Rattle.laws.specs.Lists.{elem, index_of}
 use Rattle.constraint.specs.Walking.{none, NextStates, Constraint, after}
 use Rattle.constraint.specs.Follow.{follow, Finds}

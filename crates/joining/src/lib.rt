@@ -139,7 +139,8 @@ fn next_pair(ps: PairList, c: Constraint, d: Constraint, b: usize, z: u8) -> u8
 // The constraint whose states are the pairs.
 fn join_states(ps: PairList, c: Constraint, d: Constraint) -> Constraint
     requires { Lawful (constraint_of c) × Lawful (constraint_of d) × (ps.count ≤ 16) }
-    ensures answer { constraint_of result ≡ map (joined_state (constraint_of c) (constraint_of d) (pairs_in ps)) (pairs_in ps) }
+    ensures answer { constraint_of result
+        ≡ map (joined_state (constraint_of c) (constraint_of d) (pairs_in ps)) (pairs_in ps) }
 {
     let count = ps.count;
     let mut zero = [255u8; 16];

@@ -9,14 +9,16 @@ pub use denote.Ref.{NamedLft, Bor, MutBor}
 pub use lib.Arith.{digits_div, digits_lt, digits_mod}
 pub use lib.Bits.{and_mask, bit_and, bit_or, or_shifted}
 pub use lib.Dec.{T, T_not, eqb, eqb_refl, eqb→eq, leb, leb→le, le→leb, lit<, lit≤, ltb, ltb→lt, lt→ltb, not_T}
-pub use lib.ListN.{get_or-append as get_or-append, get_or-eq_default as get_or-eq_default, get_or-map as get_or-map, drop, drop_of_length-le, get_or}
+pub use lib.ListN.{get_or-append as get_or-append, get_or-eq_default as get_or-eq_default, get_or-map as get_or-map}
+pub use lib.ListN.{drop, drop_of_length-le, get_or}
 pub use lib.ListN.{get_or-replicate, length, length-append, length-drop, length-map, length-replicate, length-set}
 pub use lib.ListN.{length-take, replicate, set, take, take-append-drop}
 pub use lib.Pow.{field, high, low, mod-mod-pow, mod-pow-add, pow-add, pow_mono, pow_pos, shl_exact, shr_lt, shr-shr}
 pub use lib.Pow.{split}
 pub use lib.Seq.{append_snoc, drop-append-add, drop-append-le, drop_at, drop-cons, drop-drop, drop-length, drop-nil}
 pub use lib.Seq.{drop-paste, drop-set-lt, ext_get_or, get_or-append-add, get_or-append_seam, get_or_at, get_or-drop}
-pub use lib.Seq.{get_or-set_other, get_or-set_same, get_or-take, length-paste, length-take-le, paste, paste-suc, paste-zero}
+pub use lib.Seq.{get_or-set_other, get_or-set_same, get_or-take, length-paste, length-take-le, paste, paste-suc}
+pub use lib.Seq.{paste-zero}
 pub use lib.Seq.{set_split, slice, slice-cons, slice_empty, split_at, take_all, take-append-add, take-append-le}
 pub use lib.Seq.{take-append_seam, take_at, take-nil, take-paste, take-set-lt, take-suc, take-suc-set, take-take}
 pub use mathlib.Core.Bool.{Bool, beq as Bool·beq, ◌&&◌, ◌||◌, and_assoc, and-false, and-true, false, not, or_assoc}

@@ -68,7 +68,8 @@ module _ (xs B : List ℕ) (room : 43028 ≤ length B) where
   -- THEOREM: `refused` and its number
   pub list-told : (r : Refusal) (C D : List ℕ) (a : Answer) (n : ℕ) → length C ≡ length B
       → Refused r ≡ answer_of (list_into xs (length B)) → a ≡ answer_of (fitting (length C) (refusal r))
-      → D ≡ output_of (fitting (length C) (refusal r)) C → n ≡ answer_value a → (take n D ≡ listing_of xs) × IsPrefixLen n D
+      → D ≡ output_of (fitting (length C) (refusal r)) C → n ≡ answer_value a → (take n D ≡ listing_of xs)
+      × IsPrefixLen n D
   list-told r C D a n same told answered w v =
       let fit : length (refusal r) ≤ length C = omega (arith, refusal-short r) in
       let e = fitting-true (length C) (refusal r) fit in

@@ -3,7 +3,8 @@
 -- In order: header, head_of, front_values; header_fields, header_bits, header_bytes, state_size; bit_count, size, fill,
 -- widths; present, shown, nexts, pairs, rows, values, pack; opened, nexts_of, edges_of, rows_of, code_of.
 -- Assumes nothing.
-use Rattle.std.specs.Prelude.{if◌then◌else◌, List, [], ◌∷◌, ◌++◌, ℕ, zero, suc, ◌+◌, ◌*◌, ◌-◌, ◌/◌, ◌^◌, eqb, length, get_or, drop}
+use Rattle.std.specs.Prelude.{if◌then◌else◌, List, [], ◌∷◌, ◌++◌, ℕ, zero, suc, ◌+◌, ◌*◌, ◌-◌, ◌/◌, ◌^◌, eqb, length}
+use Rattle.std.specs.Prelude.{get_or, drop}
 use Rattle.std.specs.Prelude.{replicate}
 use Rattle.laws.specs.Lists.{sum, repeat}
 use Rattle.bits.specs.Fields.{write, read}

@@ -1,7 +1,8 @@
 -- The tests of a record's fields, and a record written into lent bytes.
 -- In order: good_head; good_field, good_fields, good_target, filler, good_rest; pack_into.
 -- Assumes nothing.
-use Rattle.std.specs.Prelude.{if◌then◌else◌, Bool, true, ◌&&◌, List, ℕ, zero, suc, ◌*◌, ◌^◌, ltb, leb, eqb, get_or, drop}
+use Rattle.std.specs.Prelude.{if◌then◌else◌, Bool, true, ◌&&◌, List, ℕ, zero, suc, ◌*◌, ◌^◌, ltb, leb, eqb, get_or}
+use Rattle.std.specs.Prelude.{drop}
 use Rattle.laws.specs.Lists.{all}
 use Rattle.answer.specs.Outcomes.{Outcome, fitting}
 use Rattle.table.specs.Rows.{Edge, Code}

@@ -55,7 +55,8 @@ reason xs =
     go false pa b pb c pc d pd = short (leb-false header_bytes n pa)
     go true pa false pb c pc d pd = headless (leb-true header_bytes n pa) pb
     go true pa true pb false pc d pd =
-        misfit (leb-true header_bytes n pa) (yes-so (good_head (header_of xs)) pb) (eqb-false n (size (header_of xs)) pc)
+        misfit (leb-true header_bytes n pa) (yes-so (good_head (header_of xs)) pb)
+        (eqb-false n (size (header_of xs)) pc)
     go true pa true pb true pc false pd = unranged (sized pa pb pc) pd
     go true pa true pb true pc true pd =
         good (sized pa pb pc) pd (obeys (code_from xs)) refl (works (code_from xs).table (code_from xs).window) refl

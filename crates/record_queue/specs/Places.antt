@@ -2,7 +2,8 @@
 -- the arrays are the table's words and next states and the power table in bytes.
 -- In order: state_after, pair_after, finds_at, one edge; absent, Queue, Grown, the list of places still to be followed.
 -- Assumes nothing.
-use Rattle.std.specs.Prelude.{if◌then◌else◌, ◌≡◌, ◌⊎◌, Bool, not, List, ℕ, ◌+◌, ◌*◌, ◌/◌, ◌%◌, ◌≤◌, ◌<◌, T, eqb, length, get_or}
+use Rattle.std.specs.Prelude.{if◌then◌else◌, ◌≡◌, ◌⊎◌, Bool, not, List, ℕ, ◌+◌, ◌*◌, ◌/◌, ◌%◌, ◌≤◌, ◌<◌, T, eqb, length}
+use Rattle.std.specs.Prelude.{get_or}
 use Rattle.laws.specs.Sums.{tot, one}
 use Rattle.laws.specs.Sets.{member}
 use Rattle.constraint.specs.Walking.{none}

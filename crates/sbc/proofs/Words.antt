@@ -20,6 +20,7 @@ set-number-le (Bad i r) = number-most r
 
 -- the number and the value of a set's answer are got back from its word
 pub set_words : ((n : ℕ) → (set_word_of (Good n) / 2 ^ 56 ≡ 0) × (set_word_of (Good n) % 2 ^ 56 ≡ held n))
-    × ((i : ℕ) (r : Refusal) → (set_word_of (Bad i r) / 2 ^ 56 ≡ number_of r) × (set_word_of (Bad i r) % 2 ^ 56 ≡ held i))
+    × ((i : ℕ) (r : Refusal) → (set_word_of (Bad i r) / 2 ^ 56 ≡ number_of r)
+    × (set_word_of (Bad i r) % 2 ^ 56 ≡ held i))
 unfolding set_word_of
 set_words = ((λ n. joined-parts 0 n), (λ i r. joined-parts (number_of r) i))

@@ -51,7 +51,8 @@ module _ (s : List ℕ) where
       let (w, _) = reached h i (omega arith) (one_less i g) in
       let (c, e) = g i (omega arith) in
       let b : i < get_or s 0 0 = omega arith in
-      let (k, v) = walking_on s (get_or s 0 0) i (offset_of s i) (offset_of s (suc i)) b w (step-record s i (done c) b e) in
+      let (k, v) = walking_on s (get_or s 0 0) i (offset_of s i) (offset_of s (suc i)) b w
+      (step-record s i (done c) b e) in
       let one : i + 1 ≡ suc i = omega arith in
       (subst (λ j. Walking s (get_or s 0 0) j (offset_of s (suc i))) one v, k)
 

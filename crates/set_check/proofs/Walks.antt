@@ -123,7 +123,8 @@ pub step-stop : (s : List ℕ) (at start len : ℕ) (r : Refusal) → place_at s
 step-stop s at start len r e q =
     let (a, b, h) = place→ s at start len e in
     let xs = part s at start len a b in
-    sym (step-whole s at (refused r) h (check-bad (bytes_at s at) r (sym (ap (λ x. answer_of (checked_only x)) xs) ∙ q)))
+    sym (step-whole s at (refused r) h (check-bad (bytes_at s at) r
+    (sym (ap (λ x. answer_of (checked_only x)) xs) ∙ q)))
 
 pub step-on : (s : List ℕ) (at start len k : ℕ) → place_at s at ≡ At start len
     → answer_of (checked_only (take (start + len - start) (drop start s))) ≡ Done k → On (start + len) ≡ step_at s at

@@ -1,7 +1,8 @@
 -- "A set is one count byte, 0 to 255, then each record behind a two-byte length, most significant first."
 -- In order: Walk; also, next, walked, read_set; framed, write_set; Readable, codes whose records are good.
 -- Assumes nothing.
-use Rattle.std.specs.Prelude.{if◌then◌else◌, ◌≡◌, List, [], ◌∷◌, map, ℕ, zero, suc, ◌+◌, ◌*◌, ◌/◌, ◌%◌, ltb, length, take, drop}
+use Rattle.std.specs.Prelude.{if◌then◌else◌, ◌≡◌, List, [], ◌∷◌, map, ℕ, zero, suc, ◌+◌, ◌*◌, ◌/◌, ◌%◌, ltb, length}
+use Rattle.std.specs.Prelude.{take, drop}
 use Rattle.laws.specs.Lists.{concat}
 use Rattle.answer.specs.declared.Refusal.{Refusal}
 use Rattle.answer.specs.declared.Refusal.TheVariants.{Length}

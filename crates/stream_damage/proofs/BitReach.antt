@@ -30,7 +30,8 @@ module _ (q count f l : ℕ) (xs ys : List ℕ) (s : SameOutside f l (bits_of xs
   same-field : (o w : ℕ) → (o + w ≤ f) ⊎ (l < o) → field (bits_of xs) o w ≡ field (bits_of ys) o w
   same-field o w h = ap value (same-stretch f l (bits_of xs) (bits_of ys) s o w h)
 
-  same_word : (i : ℕ) → (i * q + q ≤ f) ⊎ (l < i * q) → get_or (unpacked q count xs) i 0 ≡ get_or (unpacked q count ys) i 0
+  same_word : (i : ℕ) → (i * q + q ≤ f) ⊎ (l < i * q) → get_or (unpacked q count xs) i 0
+      ≡ get_or (unpacked q count ys) i 0
   same_word i h = elim (dec_lt i count) [
     | yes k ↦ unpacked-at q count xs i k ∙ same-field (i * q) q h ∙ sym (unpacked-at q count ys i k)
     | no k ↦ none xs (omega arith) ∙ sym (none ys (omega arith))

@@ -67,7 +67,8 @@ reach-told rec d = (
         λ h. answered (refused Stream) (past.1 h),
       ),
   λ r p. let (e, l, h) = (reach-quoted rec d).1 r p in
-      let n : reach_number (reach_answer (reach_under rec d)) ≡ number_of r = ap (λ o. reach_number (reach_answer o)) e in
+      let n : reach_number (reach_answer (reach_under rec d))
+      ≡ number_of r = ap (λ o. reach_number (reach_answer o)) e in
       (n, ap (λ o. reach_values (reach_answer o)) e ∙ ap (λ k. k ∷ []) (place_none r (λ x. omega arith))),
 )
   where

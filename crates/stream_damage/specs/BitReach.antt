@@ -1,6 +1,7 @@
 -- The reach of damage in channel bits: "only blocks f / q − a (0 if negative) to l / q + m, quotients rounded down, can
 -- then differ from the data written".
--- In order: first_block, last_block; block_range, blocks_of; reach_in, reach_under; reach_answer; reach_number, reach_values.
+-- In order: first_block, last_block; block_range, blocks_of; reach_in, reach_under; reach_answer; reach_number,
+-- reach_values.
 -- Assumes nothing.
 use Rattle.std.specs.Prelude.{List, [], ◌∷◌, ℕ, ◌+◌, ◌*◌, ◌-◌, ◌/◌, ltb}
 use Rattle.answer.specs.declared.Refusal.TheVariants.{Stream}

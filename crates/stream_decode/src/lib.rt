@@ -2,7 +2,8 @@
 // words of one part. The reading of a block depends on its window alone.
 #![tactic(auto)]
 
-ghost use Rattle.std.specs.Prelude.{◌≡◌, ◌++◌, map, ℕ, ◌+◌, ◌*◌, ◌-◌, ◌%◌, ◌^◌, ◌≤◌, ◌<◌, min, length, get_or, take, drop};
+ghost use Rattle.std.specs.Prelude.{◌≡◌, ◌++◌, map, ℕ, ◌+◌, ◌*◌, ◌-◌, ◌%◌, ◌^◌, ◌≤◌, ◌<◌, min, length, get_or, take};
+ghost use Rattle.std.specs.Prelude.{drop};
 ghost use Rattle.laws.specs.Lists.{range, from};
 ghost use Rattle.answer.specs.Outcomes.{answer_of, output_of};
 ghost use Rattle.table.specs.Edges.{borrowed, rows_of, Fits};

@@ -81,7 +81,8 @@ unpacked-part q base k count xs e h =
     unpacked-at q k (drop m xs) i b'
     ∙ ap (λ t. value (take q t)) (ap (drop (i * q)) (sym (drop-bytes m xs)) ∙ drop-drop (i * q) (m * 8) (bits_of xs)
     ∙ ap (λ n. drop n (bits_of xs)) p)
-    ∙ sym (get_or-take k (drop base U) i 0 b' ∙ get_or-drop base U i 0 ∙ unpacked-at q count xs (base + i) (omega arith)))
+    ∙ sym (get_or-take k (drop base U) i 0 b' ∙ get_or-drop base U i 0
+    ∙ unpacked-at q count xs (base + i) (omega arith)))
   where
     place : (d i : ℕ) → d * q * 8 + i * q ≡ (d * 8 + i) * q
     place d i = omega arith

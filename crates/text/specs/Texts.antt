@@ -2,7 +2,8 @@
 -- In order: bytes, of a quoted text; size, how many digits a number has; decimal, hex; Added, a text put after
 -- another.
 -- Assumes nothing.
-use Rattle.std.specs.Prelude.{if◌then◌else◌, ◌≡◌, List, [], ◌∷◌, ◌++◌, ℕ, zero, suc, ◌/◌, min, max, ltb, length, take, drop}
+use Rattle.std.specs.Prelude.{if◌then◌else◌, ◌≡◌, List, [], ◌∷◌, ◌++◌, ℕ, zero, suc, ◌/◌, min, max, ltb, length, take}
+use Rattle.std.specs.Prelude.{drop}
 use Prim.Native.Char.{code}
 use Prim.Native.String.{String, [] as []ˢ, ◌∷◌ as ◌∷ˢ◌}
 use Rattle.io.specs.Counts.{IsPrefixLen}

@@ -180,12 +180,14 @@ pub record Examples : Type 0 where
   pub e10-closed : encode_under (pack (with_tail code10 2)) 1 [] ≡ done (5 ∷ [])
   -- "Unreachable states of a foreign table count too": state 1 is not reachable, and only with it the window fails
   pub foreign-alone : parse (pack (all_bits (one_way 0 ∷ []))) ≡ done (all_bits (one_way 0 ∷ []))
-  pub foreign-alike : parse (pack (all_bits (one_way 0 ∷ one_way 1 ∷ []))) ≡ done (all_bits (one_way 0 ∷ one_way 1 ∷ []))
+  pub foreign-alike : parse (pack (all_bits (one_way 0 ∷ one_way 1 ∷ [])))
+      ≡ done (all_bits (one_way 0 ∷ one_way 1 ∷ []))
   pub foreign-fails : parse (pack (all_bits (one_way 0 ∷ other_way 1 ∷ []))) ≡ refused WindowFails
 
 -- they hold
 pub examples : Examples
-unfolding held_job read_job held_run_length read_run_length read_listed compile compile_run_length pack_into pack fields_checked
+unfolding held_job read_job held_run_length read_run_length read_listed compile compile_run_length pack_into pack
+    fields_checked
     parse closed_with encoded decoded encode_under decode_under works sizes window obeys power weights component_states
     component_graph split splits split_all table_states table_of data_of relabelled decimal entry listing list_into
 examples = record {

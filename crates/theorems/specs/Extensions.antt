@@ -11,7 +11,8 @@
 -- encode-calls, decode-calls, checked-calls; info-numbers, phrase-words, phrases, with-tail; refusal-numbers,
 -- answer-words, word-numbers, set_words, outputs.
 -- Assumes nothing.
-use Rattle.std.specs.Prelude.{if◌then◌else◌, ◌≡◌, ◌⊎◌, ◌↔◌, true, not, ◌&&◌, List, [], ◌∷◌, ◌++◌, map, ℕ, ◌+◌, ◌*◌, ◌-◌, ◌/◌, ◌%◌, ◌^◌, ◌≤◌, ◌<◌, min, T, eqb, length, get_or, take, drop, replicate}
+use Rattle.std.specs.Prelude.{if◌then◌else◌, ◌≡◌, ◌⊎◌, ◌↔◌, true, not, ◌&&◌, List, [], ◌∷◌, ◌++◌, map, ℕ, ◌+◌, ◌*◌, ◌-◌}
+use Rattle.std.specs.Prelude.{◌/◌, ◌%◌, ◌^◌, ◌≤◌, ◌<◌, min, T, eqb, length, get_or, take, drop, replicate}
 use Rattle.std.specs.Int.Count.{ones, count_trailing_zeros}
 use Rattle.laws.specs.Lists.{range, concat, sum, elem}
 use Rattle.laws.specs.Sums.{Each, Once, Below}
@@ -459,7 +460,8 @@ pub scratch : (rec : List ℕ) → Below 256 rec → (c : Code) → parse rec �
     × (differences out ds ≤ c.window.memory + c.window.lookahead + 1)
 scratch = Rattle.stream_damage.proofs.Scratch.scratch
 
--- ---- (g) State sets in machine words: `holds s i` is bit i of the two words of s, and `yes_no n s` the list of yes and
+-- ---- (g) State sets in machine words: `holds s i` is bit i of the two words of s, and `yes_no n s` the list of yes
+-- and
 -- no, one a state, for the first n states. What Main says of windows and decoding is said of such lists, and stays.
 
 -- Counting by ones, the lowest by trailing zeros, emptiness by the words and joining by "or" are those of the list.
@@ -480,7 +482,8 @@ step-bits = Rattle.codec_steps.proofs.SetSteps.step-bits
 
 -- Stepping back: the set of those states whose group of the word leads into S is the list stepped back.
 pub back-bits : (t : Arrays) (start edge low high : List ℕ) → Grouped t start edge low high → (S R : BitSet) (w : ℕ)
-    → w < 256 → ((s : ℕ) → holds R s ≡ between (leads_into edge low high S s) (get_or start w 0) (get_or start (w + 1) 0))
+    → w < 256 → ((s : ℕ) → holds R s ≡ between (leads_into edge low high S s) (get_or start w 0)
+    (get_or start (w + 1) 0))
     → yes_no t.states R ≡ back (rows_of t) (yes_no t.states S) w
 back-bits = Rattle.codec_steps.proofs.SetSteps.back-bits
 

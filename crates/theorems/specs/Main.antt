@@ -4,7 +4,8 @@
 -- record-order, record-fields, record-numbers, record-table, field-bits, records; encodes, decodes, returns,
 -- recognised, one-datum, demand-3, reach, local, different-data, loaded, checked; sets, good-places; words.
 -- Assumes nothing.
-use Rattle.std.specs.Prelude.{◌≡◌, ◌⊎◌, ◌↔◌, List, [], ◌∷◌, ℕ, suc, ◌+◌, ◌*◌, ◌-◌, ◌/◌, ◌%◌, ◌^◌, ◌≤◌, ◌<◌, min, T, length, get_or, take, drop}
+use Rattle.std.specs.Prelude.{◌≡◌, ◌⊎◌, ◌↔◌, List, [], ◌∷◌, ℕ, suc, ◌+◌, ◌*◌, ◌-◌, ◌/◌, ◌%◌, ◌^◌, ◌≤◌, ◌<◌, min, T}
+use Rattle.std.specs.Prelude.{length, get_or, take, drop}
 use Rattle.laws.specs.Lists.{sum, elem}
 use Rattle.laws.specs.Sums.{Below}
 use Rattle.answer.specs.declared.Refusal.{Refusal}
@@ -38,7 +39,8 @@ use Rattle.compile_graph.specs.Splitting.{sort, chosen, candidates, stretch, div
 use Rattle.compile_table.specs.TableOf.{table_of}
 use Rattle.compile_labels.specs.Labels.{relabelled}
 use Rattle.compile_job.specs.Jobs.{computed, Job, read_job, read_run_length, read_joined, Allowed}
-use Rattle.compile.specs.Compile.{ways, graph_of, Vector, weights_of, component_of, finished_of, table_for, code, compile}
+use Rattle.compile.specs.Compile.{ways, graph_of, Vector, weights_of, component_of, finished_of, table_for, code}
+use Rattle.compile.specs.Compile.{compile}
 use Rattle.compile.specs.Compile.{compile_job, compile_run_length, compile_joined}
 use Rattle.compile.specs.Kinds.{Kind, general, run_length, joined as both, read_as, compile_as}
 use Rattle.view_job.specs.Listings.{list_into}

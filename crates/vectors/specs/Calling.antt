@@ -17,7 +17,11 @@ told_of a = record { number = answer_number a; value = answer_value a }
 
 -- the number and the value of what a set is answered
 abbrev pub told_of_set : List ℕ → Told
-told_of_set set = record { number = set_number (set_answer (read_set set)); value = set_value (set_answer (read_set set)) }
+told_of_set set = record {
+  number = set_number (set_answer (read_set set));
+  value = set_value
+      (set_answer (read_set set));
+}
 
 -- a case of kind 3 checks a record, one of kind 4 encodes, of kind 5 decodes, and of kind 6 walks a set
 pub record Called (kind : ℕ) (first second : List ℕ) (room : ℕ) (a : Told) : Type 0 where

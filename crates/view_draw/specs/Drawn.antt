@@ -3,7 +3,8 @@
 -- In order: joined, opens; other, others; arrow_head, arrow_text, arrow, arrow_of; opening, diagram; table_arrow,
 -- arrows_to, of a table by value; drawn; draw_text.
 -- Assumes nothing.
-use Rattle.std.specs.Prelude.{if◌then◌else◌, Bool, not, ◌&&◌, List, [], ◌∷◌, ◌++◌, map, ℕ, ◌/◌, ◌%◌, ◌^◌, eqb, ltb, leb, length}
+use Rattle.std.specs.Prelude.{if◌then◌else◌, Bool, not, ◌&&◌, List, [], ◌∷◌, ◌++◌, map, ℕ, ◌/◌, ◌%◌, ◌^◌, eqb, ltb, leb}
+use Rattle.std.specs.Prelude.{length}
 use Rattle.laws.specs.Lists.{range, concat}
 use Rattle.table.specs.Marks.{some}
 use Rattle.table.specs.declared.Table.{Table}

@@ -117,13 +117,15 @@ runs-found d k h =
     less = let l = long in omega arith
 
     own : is_runs (run_length d k) d ≡ true
-    own = all-range-true (alike_at (run_length d k) (run_length d (length (run_length d k) - 1))) (length (run_length d k))
+    own = all-range-true (alike_at (run_length d k) (run_length d (length (run_length d k) - 1)))
+        (length (run_length d k))
         (λ i l. ap (λ n. alike_at (run_length d k) (run_length d n) i) less
         ∙ alike-own (get_or (run_length d k) i nowhere))
 
     lower : (j : ℕ) → j < d → is_runs (run_length d k) j ≡ false
     lower j l =
-        all-range-false (alike_at (run_length d k) (run_length j (length (run_length d k) - 1))) (length (run_length d k)) j
+        all-range-false (alike_at (run_length d k) (run_length j (length (run_length d k) - 1)))
+        (length (run_length d k)) j
         (subst (λ n. j < n) (sym long) (omega arith))
         (ap (λ n. alike_at (run_length d k) (run_length j n) j) less
         ∙ ap₂ alike (map-range-at (run_length_state d k) (k + 1) j nowhere (omega arith))

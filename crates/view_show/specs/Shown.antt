@@ -1,6 +1,7 @@
 -- A code as `show` prints it: its rate, its window with the reach of damage, its constraint, the datum with which its
 -- recordings close, and the listing.
--- In order: rate_line, window_line, closing_line; shown; whole, a table that a record can give; show_text, of a table by
+-- In order: rate_line, window_line, closing_line; shown; whole, a table that a record can give; show_text, of a table
+-- by
 -- value.
 -- Assumes nothing.
 use Rattle.std.specs.Prelude.{if◌then◌else◌, Bool, ◌&&◌, List, [], ◌∷◌, ◌++◌, ℕ, eqb, leb, length}

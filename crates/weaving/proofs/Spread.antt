@@ -5,7 +5,8 @@ use Rattle.std.proofs.Common.{◌≡◌, ◌++◌, ◌+◌, ◌-◌, ◌*◌, �
 use Rattle.laws.proofs.All.{refl, sym, ap, ap₂, subst, ◌∙◌, List, ℕ}
 use Rattle.laws.proofs.All.{arith, dec_lt, mul_comm, mul-le-mul_right, div-add-mod', div-lt_iff_lt-mul, mod-lt}
 use Rattle.laws.proofs.All.{length, get_or, set, drop, length-set, length-append, length-drop, get_or-drop, ext_get_or}
-use Rattle.laws.proofs.All.{get_or-set_same, get_or-set_other, get_or-append-add, get_or-append, below_more, remainder_of}
+use Rattle.laws.proofs.All.{get_or-set_same, get_or-set_other, get_or-append-add, get_or-append, below_more}
+use Rattle.laws.proofs.All.{remainder_of}
 use Rattle.weaving.specs.Weaving.{transposed}
 use Rattle.weaving.specs.Spread.{Spread}
 use Rattle.weaving.proofs.Transposed.{in_array, columns, length-transposed, transposed-at}

@@ -3,7 +3,8 @@
 -- Assumes nothing.
 use Rattle.std.proofs.Common.{◌≡◌, ◌+◌, ◌*◌, ◌/◌, ◌%◌, ◌≤◌, ◌<◌}
 use Rattle.laws.proofs.All.{sym, ap, ap₂, subst, ◌∙◌, List, ℕ, zero, suc, arith}
-use Rattle.laws.proofs.All.{mul_comm, mul-le-mul_right, div-add-mod', div-lt_iff_lt-mul, mod-lt, length, get_or, ext_get_or}
+use Rattle.laws.proofs.All.{mul_comm, mul-le-mul_right, div-add-mod', div-lt_iff_lt-mul, mod-lt, length, get_or}
+use Rattle.laws.proofs.All.{ext_get_or}
 use Rattle.laws.proofs.All.{length-map-range, map-range-at, quotient-of, remainder_of, place-lt}
 use Rattle.weaving.specs.Weaving.{transposed_at, transposed}
 

@@ -25,6 +25,7 @@ returns-else-i-lt64 c =
           let i = c.args.i in
           let l : s.low < 2 ^ 64 = omega arith in
           let e : 64 + (i - 64) ≡ i = omega arith in
-          ap (λ x. bit_at x j) (with-high s.high s.low (i - 64) (omega arith) l ∙ ap (λ n. bit_or (value_of s) (2 ^ n)) e)
+          ap (λ x. bit_at x j) (with-high s.high s.low (i - 64) (omega arith) l
+          ∙ ap (λ n. bit_or (value_of s) (2 ^ n)) e)
           ∙ or-bit (value_of s) (2 ^ i) j ∙ ap (λ x. bit_at (value_of s) j || x) (pow-bit i j);
     }

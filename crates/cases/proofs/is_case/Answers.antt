@@ -6,7 +6,13 @@ use borrow.Author.Tests.{leb-true}
 use Rattle.cases.proofs.is_case.Goals as goal
 
 pub returns : goal.returns
-returns c = record { answer = λ e. record { known = omega (arith, c.if-c-ge24.false); placed = c.requires; last = leb-true _ _ e } }
+returns c = record {
+  answer = λ e. record {
+    known = omega (arith, c.if-c-ge24.false);
+    placed = c.requires;
+    last = leb-true _ _ e;
+  };
+}
 
 pub returns-then-c-eq0 : goal.returns-then-c-eq0
 returns-then-c-eq0 c = record { answer = λ e. absurd (subst T (sym e) tt) }

@@ -8,18 +8,23 @@ pub returns-then-words-a : goal.returns-then-words-a
 returns-then-words-a c = record { answer = λ k e f. decode-12 k _ _ (omega (arith, f, c.if-words-a.true)) }
 
 pub returns-then-room-count : goal.returns-then-room-count
-returns-then-room-count c = record { answer = λ k e f. decode-13 k _ _ (omega (arith, f, c.if-words-a.false)) (omega (arith, f, c.if-room-count.true)) }
+returns-then-room-count c = record {
+  answer = λ k e f. decode-13 k _ _ (omega (arith, f, c.if-words-a.false))
+      (omega (arith, f, c.if-room-count.true));
+}
 
 pub returns-then-bad-words : goal.returns-then-bad-words
 returns-then-bad-words c =
     record {
-      answer = λ k e f. decode-11 k _ _ (omega (arith, f, c.if-words-a.false)) (omega (arith, f, c.if-room-count.false)) _ _
+      answer = λ k e f. decode-11 k _ _ (omega (arith, f, c.if-words-a.false)) (omega (arith, f, c.if-room-count.false))
+          _ _
           (c.power.ensures.answer ∙ ap (λ q. 2 ^ q) (sym e)) c.first_bad-bad.ensures.answer c.if-bad-words.true;
     }
 
 pub returns : goal.returns
 returns c =
     record {
-      answer = λ k e f. decode-done k _ _ (omega (arith, f, c.if-words-a.false)) (omega (arith, f, c.if-room-count.false)) _ _
+      answer = λ k e f. decode-done k _ _ (omega (arith, f, c.if-words-a.false))
+          (omega (arith, f, c.if-room-count.false)) _ _
           (c.power.ensures.answer ∙ ap (λ q. 2 ^ q) (sym e)) c.first_bad-bad.ensures.answer c.if-bad-words.false;
     }

@@ -63,7 +63,8 @@ returns-in-Good c =
     let out = a.out.now in
     let n = length ws - a.t.lookahead in
     let w = finished (decoded_with a.t (length out) ws) (decode (code_in a.t) ws) out _ n
-    (under-good a.t (length out) ws c.check_words.result c.check_words.ensures.answer (is-ready (goal.at.returns-in-Good c).Else-not-is_ready)
+    (under-good a.t (length out) ws c.check_words.result c.check_words.ensures.answer
+    (is-ready (goal.at.returns-in-Good c).Else-not-is_ready)
     c.in-Good.is)
     (length-decode (code_in a.t) ws)
     (c.read_few.ensures.written ∙ decoded-in a.t c.ways-n.result ws (drop n out) c.ways-n.ensures.answer.0) in

@@ -31,7 +31,8 @@ tail-small c = (ready-formed c.args.t (subst T (sym (is-ready c)) tt)).range.tai
 fits : (c : After-ways-n)
     → let t = c.args.t in Fits (arrays t.states c.ways-n.result
     t.word t.next)
-fits c = fits-lent c.args.t c.ways-n.result (ready→ c.args.t (subst T (sym (sym c.is_ready.ensures.answer ∙ c.if-not-is_ready.false)) tt))
+fits c = fits-lent c.args.t c.ways-n.result (ready→ c.args.t
+    (subst T (sym (sym c.is_ready.ensures.answer ∙ c.if-not-is_ready.false)) tt))
     c.ways-n.ensures.answer.0
 
 room : (c : Else-lacks_room)
@@ -69,7 +70,8 @@ pub returns-then-bad-blocks : goal.returns-then-bad-blocks
 returns-then-bad-blocks c =
     let a = c.args in
     let w = declined (encoded_with a.t (length a.out.now) a.blocks.now) (BadByte c.first_bad-bad.result) a.out.now
-    (encode-11 a.t (length a.out.now) a.blocks.now (is-ready (goal.at.returns-then-bad-blocks c).Else-not-is_ready) (room (goal.at.returns-then-bad-blocks c).Else-lacks_room)
+    (encode-11 a.t (length a.out.now) a.blocks.now (is-ready (goal.at.returns-then-bad-blocks c).Else-not-is_ready)
+    (room (goal.at.returns-then-bad-blocks c).Else-lacks_room)
     c.ways-n.result
     c.first_bad-bad.result c.ways-n.ensures.answer.0 c.first_bad-bad.ensures.answer c.if-bad-blocks.true) in
     record { answer = w.0; written = w.1 }
@@ -78,8 +80,13 @@ pub overflow_add-end : goal.overflow_add-end
 overflow_add-end c = omega (arith, room (goal.at.overflow_add-end c).Else-lacks_room)
 
 pub write_blocks-s-requires : goal.write_blocks-s-requires
-write_blocks-s-requires c =
-    (fits (goal.at.write_blocks-s-requires c).After-ways-n, blocks-below (goal.at.write_blocks-s-requires c).Else-bad-blocks, omega (arith, room (goal.at.write_blocks-s-requires c).Else-lacks_room))
+write_blocks-s-requires c = (
+  fits (goal.at.write_blocks-s-requires c).After-ways-n,
+  blocks-below
+      (goal.at.write_blocks-s-requires c).Else-bad-blocks,
+  omega
+      (arith, room (goal.at.write_blocks-s-requires c).Else-lacks_room),
+)
 
 pub write_closing-requires : goal.write_closing-requires
 write_closing-requires c = (
@@ -96,7 +103,8 @@ returns c =
     let ds = a.blocks.now in
     let out = a.out.now in
     let w = finished (encoded_with a.t (length out) ds) (recording (code_in a.t) ds) out _ (length ds + a.t.lookahead)
-    (encode-done a.t (length out) ds (is-ready (goal.at.returns c).Else-not-is_ready) (room (goal.at.returns c).Else-lacks_room) c.ways-n.result
+    (encode-done a.t (length out) ds (is-ready (goal.at.returns c).Else-not-is_ready)
+    (room (goal.at.returns c).Else-lacks_room) c.ways-n.result
     c.first_bad-bad.result
     c.ways-n.ensures.answer.0 c.first_bad-bad.ensures.answer c.if-bad-blocks.false)
     (sym (length-recording (code_in a.t) ds))

@@ -25,7 +25,10 @@ returns-then-not-is_ready c =
 pub returns-then-words-t : goal.returns-then-words-t
 returns-then-words-t c =
     let a = c.args in
-    record { answer = sym (ap answer_of (verify-12 a.t a.words.now (is-ready (goal.at.returns-then-words-t c).Else-not-is_ready) c.if-words-t.true)) }
+    record {
+      answer = sym (ap answer_of (verify-12 a.t a.words.now
+          (is-ready (goal.at.returns-then-words-t c).Else-not-is_ready) c.if-words-t.true));
+    }
 
 pub power-requires : goal.power-requires
 power-requires c = omega (arith, (ready-table (goal.at.power-requires c).Else-not-is_ready).short)
@@ -34,7 +37,8 @@ pub returns-then-bad-words : goal.returns-then-bad-words
 returns-then-bad-words c =
     let a = c.args in
     record {
-      answer = sym (ap answer_of (verify-11 a.t a.words.now (is-ready (goal.at.returns-then-bad-words c).Else-not-is_ready) c.if-words-t.false c.power.result
+      answer = sym (ap answer_of (verify-11 a.t a.words.now
+          (is-ready (goal.at.returns-then-bad-words c).Else-not-is_ready) c.if-words-t.false c.power.result
           c.first_bad-bad.result c.power.ensures.answer c.first_bad-bad.ensures.answer c.if-bad-words.true));
     }
 
@@ -44,14 +48,17 @@ sizes_of-requires c = (ready-table (goal.at.sizes_of-requires c).Else-not-is_rea
 pub count_all-requires : goal.count_all-requires
 count_all-requires c =
     let a = c.args in
-    counted a.t (ready-table (goal.at.count_all-requires c).Else-not-is_ready) c.sizes_of.result c.sizes_of.ensures.answer a.words.now
+    counted a.t (ready-table (goal.at.count_all-requires c).Else-not-is_ready) c.sizes_of.result
+    c.sizes_of.ensures.answer a.words.now
     c.if-words-t.false
 
 pub returns : goal.returns
 returns c =
     let a = c.args in
     record {
-      answer = verify-done a.t a.words.now (is-ready (goal.at.returns c).Else-not-is_ready) c.if-words-t.false c.power.result
-          c.first_bad-bad.result c.power.ensures.answer c.first_bad-bad.ensures.answer c.if-bad-words.false c.sizes_of.result
+      answer = verify-done a.t a.words.now (is-ready (goal.at.returns c).Else-not-is_ready) c.if-words-t.false
+          c.power.result
+          c.first_bad-bad.result c.power.ensures.answer c.first_bad-bad.ensures.answer c.if-bad-words.false
+          c.sizes_of.result
           c.count_all.result c.sizes_of.ensures.answer c.count_all.ensures.answer;
     }

@@ -24,6 +24,7 @@ overflow_add-before c =
 pub returns : goal.returns
 returns c =
     record {
-      written = counted c.args.blocks.now _ _ _ _ _ c.count_marks-before.ensures.answer c.count_marks-ahead.ensures.answer
+      written = counted c.args.blocks.now _ _ _ _ _ c.count_marks-before.ensures.answer
+          c.count_marks-ahead.ensures.answer
           c.put_sentence.ensures.written;
     }

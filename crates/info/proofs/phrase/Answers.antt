@@ -10,5 +10,6 @@ pub returns : goal.returns
 unfolding phrase_into
 returns c =
     let a = c.args in
-    let w = fill-same a.out.now (added-whole c.put_words-end.ensures.written (words-short _)).0 (c.fill.ensures.answer, c.fill.ensures.written) in
+    let w = fill-same a.out.now (added-whole c.put_words-end.ensures.written (words-short _)).0
+    (c.fill.ensures.answer, c.fill.ensures.written) in
     record { answer = w.0; written = w.1 }

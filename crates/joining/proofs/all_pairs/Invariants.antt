@@ -9,7 +9,8 @@ use Rattle.joining.proofs.all_pairs.Given as goal
 abbrev pub invariant-loop-i : goal.invariant-loop-i
 invariant-loop-i l =
     (l.i ≤ 16) × (l.ps.count ≤ 2 * l.i + 1)
-    × (walked_from (constraint_of l.c) (constraint_of l.d) (16 - l.i) l.i (pairs_in l.ps) ≡ pairs (constraint_of l.c) (constraint_of l.d))
+    × (walked_from (constraint_of l.c) (constraint_of l.d) (16 - l.i) l.i (pairs_in l.ps)
+    ≡ pairs (constraint_of l.c) (constraint_of l.d))
 
 abbrev pub decreases-loop-i : goal.decreases-loop-i
 decreases-loop-i l = 16 - l.i

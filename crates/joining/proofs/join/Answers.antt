@@ -13,7 +13,11 @@ returns-then-ps-gt16 c =
     let n : length p.result.pair ≡ 33 = search rules in
     let l = pairs-long p.result (omega arith) in
     let s = length (pairs (constraint_of a.c) (constraint_of a.d)) in
-    record { answer = sym (lt-leb s 16 (omega (arith, ap length p.ensures.answer))); kept = λ e. absurd (subst T (sym e) tt) }
+    record {
+      answer = sym (lt-leb s 16 (omega (arith, ap length p.ensures.answer)));
+      kept = λ e. absurd
+          (subst T (sym e) tt);
+    }
 
 pub returns : goal.returns
 unfolding joined

@@ -12,8 +12,10 @@ use Rattle.joining.proofs.join_states.Given as goal
 abbrev pub invariant-loop-s : goal.invariant-loop-s
 invariant-loop-s l =
     (l.s ≤ l.count) × (l.count ≤ 16)
-    × Filled (λ k. next_pair (constraint_of l.c) (constraint_of l.d) (pairs_in l.ps) 0 (get_or l.ps.pair k 0)) none 16 l.s l.zero
-    × Filled (λ k. next_pair (constraint_of l.c) (constraint_of l.d) (pairs_in l.ps) 1 (get_or l.ps.pair k 0)) none 16 l.s l.one
+    × Filled (λ k. next_pair (constraint_of l.c) (constraint_of l.d) (pairs_in l.ps) 0 (get_or l.ps.pair k 0)) none 16
+    l.s l.zero
+    × Filled (λ k. next_pair (constraint_of l.c) (constraint_of l.d) (pairs_in l.ps) 1 (get_or l.ps.pair k 0)) none 16
+    l.s l.one
 
 abbrev pub decreases-loop-s : goal.decreases-loop-s
 decreases-loop-s l = l.count - l.s

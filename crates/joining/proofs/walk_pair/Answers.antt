@@ -11,7 +11,10 @@ returns-then-ps-i c =
     let a = c.args in
     let n : length a.ps.pair ≡ 33 = search rules in
     let l = pairs-long a.ps (omega arith) in
-    record { answer = sym (walked-past (constraint_of a.c) (constraint_of a.d) (pairs_in a.ps) a.i (omega arith)); past = omega arith }
+    record {
+      answer = sym (walked-past (constraint_of a.c) (constraint_of a.d) (pairs_in a.ps) a.i (omega arith));
+      past = omega arith;
+    }
 
 pub returns : goal.returns
 returns c =

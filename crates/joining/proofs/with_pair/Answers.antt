@@ -10,7 +10,11 @@ returns-then-at-count c =
     let a = c.args in
     let n : length a.ps.pair ≡ 33 = search rules in
     let l = pairs-long a.ps (omega arith) in
-    record { answer = sym (adjoin-old a.z (pairs_in a.ps) (omega (arith, c.number_of-at.ensures.answer))); past = omega arith }
+    record {
+      answer = sym (adjoin-old a.z (pairs_in a.ps) (omega (arith, c.number_of-at.ensures.answer)));
+      past = omega
+          arith;
+    }
 
 pub returns : goal.returns
 returns c =

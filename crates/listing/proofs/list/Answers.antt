@@ -8,7 +8,7 @@ returns-in-Done-clause-written c =
     let a = c.args in
     let call = c.list_run_length in
     (list_done a.job.now a.out.now c.requires _ c.in-Done.size (sym c.in-Done.is ∙ call.ensures.answer)
-        call.ensures.written).0
+    call.ensures.written).0
 
 pub returns-in-Refused-clause-written : goal.returns-in-Refused-clause-written
 returns-in-Refused-clause-written c =
@@ -16,5 +16,5 @@ returns-in-Refused-clause-written c =
     let call = c.list_run_length in
     let put = c.tell_refusal in
     (list-told a.job.now a.out.now c.requires c.in-Refused.r call.new.out _ put.result c.answer_value.result
-        call.auto.out (sym c.in-Refused.is ∙ call.ensures.answer) put.ensures.answer put.ensures.written
-        c.answer_value.ensures.answer).0
+    call.auto.out (sym c.in-Refused.is ∙ call.ensures.answer) put.ensures.answer put.ensures.written
+    c.answer_value.ensures.answer).0

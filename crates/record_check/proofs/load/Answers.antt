@@ -9,7 +9,12 @@ judge-requires c = c.read-r.ensures.kept c.in-Good.is
 pub returns-in-Bad : goal.returns-in-Bad
 returns-in-Bad c =
     let xs = c.args.bytes.now in
-    record { answer = c.declined.ensures.answer ∙ sym (parse-bad xs c.read-r.result _ c.read-r.ensures.answer c.in-Bad.is); kept = λ e. absurd (c.declined.ensures.past e); empty = λ x e. c.declined.ensures.empty }
+    record {
+      answer = c.declined.ensures.answer ∙ sym (parse-bad xs c.read-r.result _ c.read-r.ensures.answer
+          c.in-Bad.is);
+      kept = λ e. absurd (c.declined.ensures.past e);
+      empty = λ x e. c.declined.ensures.empty;
+    }
 
 pub returns-in-Good : goal.returns-in-Good
 returns-in-Good c =

@@ -5,4 +5,7 @@ use Rattle.sbc.proofs.sbc_compile.Goals as goal
 
 pub returns : goal.returns
 returns c =
-    record { answer = c.word.ensures.answer ∙ ap word_of c.compile_job.ensures.answer; written = c.compile_job.ensures.written }
+    record {
+      answer = c.word.ensures.answer ∙ ap word_of c.compile_job.ensures.answer;
+      written = c.compile_job.ensures.written;
+    }

@@ -6,4 +6,7 @@ use Rattle.sbc.proofs.sbc_compile_joined.Goals as goal
 
 pub returns : goal.returns
 returns c =
-    record { answer = c.word.ensures.answer ∙ ap word_of c.compile_joined.ensures.answer; written = c.compile_joined.ensures.written }
+    record {
+      answer = c.word.ensures.answer ∙ ap word_of c.compile_joined.ensures.answer;
+      written = c.compile_joined.ensures.written;
+    }

@@ -6,4 +6,7 @@ use Rattle.sbc.proofs.sbc_compile_run_length.Goals as goal
 
 pub returns : goal.returns
 returns c =
-    record { answer = c.word.ensures.answer ∙ ap word_of c.compile_run_length.ensures.answer; written = c.compile_run_length.ensures.written }
+    record {
+      answer = c.word.ensures.answer ∙ ap word_of c.compile_run_length.ensures.answer;
+      written = c.compile_run_length.ensures.written;
+    }

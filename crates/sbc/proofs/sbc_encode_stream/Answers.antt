@@ -5,4 +5,7 @@ use Rattle.sbc.proofs.sbc_encode_stream.Goals as goal
 
 pub returns : goal.returns
 returns c =
-    record { answer = c.word.ensures.answer ∙ ap word_of c.encode_stream.ensures.answer; written = c.encode_stream.ensures.written }
+    record {
+      answer = c.word.ensures.answer ∙ ap word_of c.encode_stream.ensures.answer;
+      written = c.encode_stream.ensures.written;
+    }

@@ -5,4 +5,7 @@ use Rattle.sbc.proofs.sbc_listing.Goals as goal
 
 pub returns : goal.returns
 returns c =
-    record { answer = c.word.ensures.answer ∙ ap word_of c.list_run_length.ensures.answer; written = c.list_run_length.ensures.written }
+    record {
+      answer = c.word.ensures.answer ∙ ap word_of c.list_run_length.ensures.answer;
+      written = c.list_run_length.ensures.written;
+    }

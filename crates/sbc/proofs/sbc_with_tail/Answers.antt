@@ -5,4 +5,7 @@ use Rattle.sbc.proofs.sbc_with_tail.Goals as goal
 
 pub returns : goal.returns
 returns c =
-    record { answer = c.word.ensures.answer ∙ ap word_of c.with_tail.ensures.answer; written = c.with_tail.ensures.written }
+    record {
+      answer = c.word.ensures.answer ∙ ap word_of c.with_tail.ensures.answer;
+      written = c.with_tail.ensures.written;
+    }

@@ -13,4 +13,7 @@ join-requires c =
 
 pub returns : goal.returns
 unfolding set_word_of
-returns c = record { answer = c.join.ensures.answer ∙ ap₂ joined c.set_number.ensures.answer c.set_value.ensures.answer }
+returns c = record {
+  answer = c.join.ensures.answer
+      ∙ ap₂ joined c.set_number.ensures.answer c.set_value.ensures.answer;
+}

@@ -9,7 +9,8 @@ use Rattle.sentences.proofs.put_sentence.Given as goal
 
 abbrev pub invariant-loop-i : goal.invariant-loop-i
 invariant-loop-i l =
-    (l.i ≤ length l.pattern) × (l.k ≡ used (take l.i l.pattern)) × Added (sentence (take l.i l.pattern) l.numbers) l.initial.end l.initial.out l.out l.end
+    (l.i ≤ length l.pattern) × (l.k ≡ used (take l.i l.pattern))
+    × Added (sentence (take l.i l.pattern) l.numbers) l.initial.end l.initial.out l.out l.end
 
 abbrev pub decreases-loop-i : goal.decreases-loop-i
 decreases-loop-i l = length l.pattern - l.i

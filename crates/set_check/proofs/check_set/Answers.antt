@@ -40,9 +40,15 @@ loop-number-preserved c =
 pub returns-then-at-set : goal.returns-then-at-set
 returns-then-at-set c =
     let s = c.args.set.now in
-    record { answer = walking-left s _ c.loop-number.number c.loop-number.at c.loop-number.invariant.0 (omega arith) c.loop-number.invariant.2 c.if-at-set.true }
+    record {
+      answer = walking-left s _ c.loop-number.number c.loop-number.at c.loop-number.invariant.0 (omega arith)
+          c.loop-number.invariant.2 c.if-at-set.true;
+    }
 
 pub returns : goal.returns
 returns c =
     let s = c.args.set.now in
-    record { answer = walking-end s _ c.loop-number.number c.loop-number.at c.loop-number.invariant.0 (omega arith) c.loop-number.invariant.2 c.if-at-set.false }
+    record {
+      answer = walking-end s _ c.loop-number.number c.loop-number.at c.loop-number.invariant.0 (omega arith)
+          c.loop-number.invariant.2 c.if-at-set.false;
+    }

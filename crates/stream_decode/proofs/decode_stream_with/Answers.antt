@@ -32,7 +32,8 @@ fits : (c : After-ways-n)
     Fits (arrays t.states c.ways-n.result t.word t.next)
 fits c =
     let t = c.args.t in
-    fits-lent t c.ways-n.result (ready→ t (subst T (sym (sym c.is_ready.ensures.answer ∙ c.if-not-is_ready.false)) tt)) c.ways-n.ensures.answer.0
+    fits-lent t c.ways-n.result (ready→ t (subst T (sym (sym c.is_ready.ensures.answer ∙ c.if-not-is_ready.false)) tt))
+    c.ways-n.ensures.answer.0
 
 pub returns-then-not-is_ready : goal.returns-then-not-is_ready
 returns-then-not-is_ready c =
@@ -49,7 +50,8 @@ pub returns-then-not-good : goal.returns-then-not-good
 returns-then-not-good c =
     let a = c.args in
     let w = declined (unstreamed_with a.t a.count (length a.out.now) a.stream.now) Stream a.out.now
-    (unstream-15 a.t a.count (length a.out.now) a.stream.now (is-ready (goal.at.returns-then-not-good c).Else-not-is_ready)
+    (unstream-15 a.t a.count (length a.out.now) a.stream.now
+    (is-ready (goal.at.returns-then-not-good c).Else-not-is_ready)
     (sym c.is_stream-good.ensures.answer ∙ c.if-not-good.true)) in
     record { answer = w.0; written = w.1 }
 
@@ -57,7 +59,9 @@ pub returns-then-count-a : goal.returns-then-count-a
 returns-then-count-a c =
     let a = c.args in
     let w = declined (unstreamed_with a.t a.count (length a.out.now) a.stream.now) TooFewWords a.out.now
-    (unstream-12 a.t a.count (length a.out.now) a.stream.now (is-ready (goal.at.returns-then-count-a c).Else-not-is_ready) (is-good (goal.at.returns-then-count-a c).Else-not-good)
+    (unstream-12 a.t a.count (length a.out.now) a.stream.now
+    (is-ready (goal.at.returns-then-count-a c).Else-not-is_ready)
+    (is-good (goal.at.returns-then-count-a c).Else-not-good)
     c.if-count-a.true) in
     record { answer = w.0; written = w.1 }
 
@@ -65,7 +69,9 @@ pub returns-then-out-count : goal.returns-then-out-count
 returns-then-out-count c =
     let a = c.args in
     let w = declined (unstreamed_with a.t a.count (length a.out.now) a.stream.now) ShortOutput a.out.now
-    (unstream-13 a.t a.count (length a.out.now) a.stream.now (is-ready (goal.at.returns-then-out-count c).Else-not-is_ready) (is-good (goal.at.returns-then-out-count c).Else-not-good)
+    (unstream-13 a.t a.count (length a.out.now) a.stream.now
+    (is-ready (goal.at.returns-then-out-count c).Else-not-is_ready)
+    (is-good (goal.at.returns-then-out-count c).Else-not-good)
     c.if-count-a.false c.if-out-count.true) in
     record { answer = w.0; written = w.1 }
 
@@ -77,7 +83,8 @@ pub read_all-requires : goal.read_all-requires
 read_all-requires c =
     let a = c.args in
     let r = (ready-formed a.t (told-ready (goal.at.read_all-requires c).Else-not-is_ready)).range in
-    let g = good-stream→ a.t.q a.count a.stream.now (subst T (sym (is-good (goal.at.read_all-requires c).Else-not-good)) tt) in (
+    let g = good-stream→ a.t.q a.count a.stream.now
+    (subst T (sym (is-good (goal.at.read_all-requires c).Else-not-good)) tt) in (
       fits (goal.at.read_all-requires c).After-ways-n,
       r.q₂,
       g.few,
@@ -86,7 +93,8 @@ read_all-requires c =
       omega (arith, r.a),
       c.if-count-a.false,
       c.if-out-count.false,
-      words-lent a.t c.ways-n.result (ready→ a.t (told-ready (goal.at.read_all-requires c).Else-not-is_ready)) c.ways-n.ensures.answer.0,
+      words-lent a.t c.ways-n.result (ready→ a.t (told-ready (goal.at.read_all-requires c).Else-not-is_ready))
+          c.ways-n.ensures.answer.0,
     )
 
 pub returns : goal.returns
@@ -96,7 +104,8 @@ returns c =
     let out = a.out.now in
     let w = finished (unstreamed_with a.t a.count (length out) xs)
     (decode (code_in a.t) (unpacked a.t.q a.count xs)) out _ (a.count - a.t.lookahead)
-    (unstream-done a.t a.count (length out) xs (is-ready (goal.at.returns c).Else-not-is_ready) (is-good (goal.at.returns c).Else-not-good) c.if-count-a.false
+    (unstream-done a.t a.count (length out) xs (is-ready (goal.at.returns c).Else-not-is_ready)
+    (is-good (goal.at.returns c).Else-not-good) c.if-count-a.false
     c.if-out-count.false)
     (length-unstreamed a.t a.count xs)
     (c.read_all.ensures.written ∙ unstreamed-in a.t a.count xs c.ways-n.result

@@ -46,7 +46,8 @@ get_words-requires c =
         arith,
         ap length (take_rest (base / 8 * a.q) xs),
         length-drop (base / 8 * a.q) xs,
-        part-holds a.q a.count base c.smaller.result (length xs) (omega arith) (words-in (goal.at.get_words-requires c).After-smaller) c.requires.3,
+        part-holds a.q a.count base c.smaller.result (length xs) (omega arith)
+            (words-in (goal.at.get_words-requires c).After-smaller) c.requires.3,
       ),
       few,
     )
@@ -68,10 +69,12 @@ returns c =
     let b : base ≡ a.i - 16 = c.less-base.ensures.answer in
     record {
       written = part-read (under (rows_of (arrays a.states a.n a.word.now a.next.now)) a.m a.a) a.q
-          a.count base c.smaller.result a.i a.end xs _ _ _ b c.requires.6 c.requires.4 (words-in (goal.at.returns c).After-smaller) c.requires.7
+          a.count base c.smaller.result a.i a.end xs _ _ _ b c.requires.6 c.requires.4
+          (words-in (goal.at.returns c).After-smaller) c.requires.7
           (part-reach a.count base c.smaller.result a.i a.end a.a b c.smaller.ensures.answer c.requires.7
           c.requires.8 c.requires.9 c.requires.5)
-          (take_rest (base / 8 * a.q) xs) c.get_words.ensures.written a.out.now _ (omega arith) c.read_blocks.ensures.written;
+          (take_rest (base / 8 * a.q) xs) c.get_words.ensures.written a.out.now _ (omega arith)
+          c.read_blocks.ensures.written;
     }
 
 pub slice_bounds-get_words-count : goal.slice_bounds-get_words-count

@@ -13,7 +13,8 @@ use Rattle.stream_pack.specs.Streams.{limit, stream_size, packed}
 use Rattle.stream.specs.Recorded.{streamed_with}
 use Rattle.stream.proofs.Written.{stream-7, stream-15, stream-13, stream-11, stream-done}
 use Rattle.stream_encode.proofs.Putting.{recorded-size, recorded-in}
-use Rattle.stream_encode.proofs.encode_stream_with.Goals.{Else-bad-blocks, Else-most-blocks, Else-not-is_ready, Else-out-size}
+use Rattle.stream_encode.proofs.encode_stream_with.Goals.{Else-bad-blocks, Else-most-blocks, Else-not-is_ready}
+use Rattle.stream_encode.proofs.encode_stream_with.Goals.{Else-out-size}
 use Rattle.stream_encode.proofs.encode_stream_with.Goals as goal
 
 is-ready : (c : Else-not-is_ready) → ready c.args.t ≡ true
@@ -31,7 +32,11 @@ tail-small c = (ready-formed c.args.t (subst T (sym (is-ready c)) tt)).range.tai
 
 few_words : (c : Else-most-blocks)
     → let a = c.args in length a.blocks.now + a.t.lookahead ≤ limit
-few_words c = omega (arith, c.if-most-blocks.false, ((ready-formed c.args.t (subst T (sym (sym c.is_ready.ensures.answer ∙ c.if-not-is_ready.false)) tt)).range.a))
+few_words c = omega (
+  arith,
+  c.if-most-blocks.false,
+  ((ready-formed c.args.t (subst T (sym (sym c.is_ready.ensures.answer ∙ c.if-not-is_ready.false)) tt)).range.a),
+)
 
 room : (c : Else-out-size)
     → let a = c.args in
@@ -62,18 +67,24 @@ pub returns-then-most-blocks : goal.returns-then-most-blocks
 returns-then-most-blocks c =
     let a = c.args in
     let w = declined (streamed_with a.t (length a.out.now) a.blocks.now) Stream a.out.now
-    (stream-15 a.t (length a.out.now) a.blocks.now (is-ready (goal.at.returns-then-most-blocks c).Else-not-is_ready) _ refl
+    (stream-15 a.t (length a.out.now) a.blocks.now (is-ready (goal.at.returns-then-most-blocks c).Else-not-is_ready) _
+    refl
     (omega (arith, c.if-most-blocks.true, lookahead-small (goal.at.returns-then-most-blocks c).Else-not-is_ready))) in
     record { answer = w.0; written = w.1 }
 
 pub stream_size-size-requires : goal.stream_size-size-requires
-stream_size-size-requires c = ((ready-table (goal.at.stream_size-size-requires c).Else-not-is_ready).short, few_words (goal.at.stream_size-size-requires c).Else-most-blocks)
+stream_size-size-requires c = (
+  (ready-table (goal.at.stream_size-size-requires c).Else-not-is_ready).short,
+  few_words
+      (goal.at.stream_size-size-requires c).Else-most-blocks,
+)
 
 pub returns-then-out-size : goal.returns-then-out-size
 returns-then-out-size c =
     let a = c.args in
     let w = declined (streamed_with a.t (length a.out.now) a.blocks.now) ShortOutput a.out.now
-    (stream-13 a.t (length a.out.now) a.blocks.now (is-ready (goal.at.returns-then-out-size c).Else-not-is_ready) _ refl (few_words (goal.at.returns-then-out-size c).Else-most-blocks)
+    (stream-13 a.t (length a.out.now) a.blocks.now (is-ready (goal.at.returns-then-out-size c).Else-not-is_ready) _ refl
+    (few_words (goal.at.returns-then-out-size c).Else-most-blocks)
     (subst (λ n. length a.out.now < n) c.stream_size-size.ensures.answer c.if-out-size.true)) in
     record { answer = w.0; written = w.1 }
 
@@ -85,8 +96,10 @@ returns-then-bad-blocks c =
     let a = c.args in
     let w = declined (streamed_with a.t (length a.out.now) a.blocks.now) (BadByte c.first_bad-bad.result)
     a.out.now
-    (stream-11 a.t (length a.out.now) a.blocks.now (is-ready (goal.at.returns-then-bad-blocks c).Else-not-is_ready) _ refl (few_words (goal.at.returns-then-bad-blocks c).Else-most-blocks)
-    (room (goal.at.returns-then-bad-blocks c).Else-out-size) c.ways-n.result c.first_bad-bad.result c.ways-n.ensures.answer.0 c.first_bad-bad.ensures.answer c.if-bad-blocks.true) in
+    (stream-11 a.t (length a.out.now) a.blocks.now (is-ready (goal.at.returns-then-bad-blocks c).Else-not-is_ready) _
+    refl (few_words (goal.at.returns-then-bad-blocks c).Else-most-blocks)
+    (room (goal.at.returns-then-bad-blocks c).Else-out-size) c.ways-n.result c.first_bad-bad.result
+    c.ways-n.ensures.answer.0 c.first_bad-bad.ensures.answer c.if-bad-blocks.true) in
     record { answer = w.0; written = w.1 }
 
 pub put_recording-requires : goal.put_recording-requires
@@ -111,8 +124,10 @@ returns c =
     let out = a.out.now in
     let w = finished (streamed_with a.t (length out) ds) (packed a.t.q (recording (code_in a.t) ds)) out _
     c.stream_size-size.result
-    (stream-done a.t (length out) ds (is-ready (goal.at.returns c).Else-not-is_ready) _ refl (few_words (goal.at.returns c).Else-most-blocks) (room (goal.at.returns c).Else-out-size)
-    c.ways-n.result c.first_bad-bad.result c.ways-n.ensures.answer.0 c.first_bad-bad.ensures.answer c.if-bad-blocks.false)
+    (stream-done a.t (length out) ds (is-ready (goal.at.returns c).Else-not-is_ready) _ refl
+    (few_words (goal.at.returns c).Else-most-blocks) (room (goal.at.returns c).Else-out-size)
+    c.ways-n.result c.first_bad-bad.result c.ways-n.ensures.answer.0 c.first_bad-bad.ensures.answer
+    c.if-bad-blocks.false)
     (recorded-size a.t ds c.stream_size-size.result c.stream_size-size.ensures.answer)
     (recorded-in a.t ds c.stream_size-size.result c.stream_size-size.ensures.answer c.ways-n.result out _
     c.ways-n.ensures.answer.0 c.put_recording.ensures.written) in

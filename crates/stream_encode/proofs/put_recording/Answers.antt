@@ -31,9 +31,11 @@ place-small c =
     omega (arith, c.loop-i.invariant.1.inside, f.few, f.narrow, datum-small c)
 
 next_small : (c : After-datum_at)
-    → next_of (arrays c.args.states c.args.n c.args.word.now c.args.next.now) (c.loop-i.s * 16 + c.datum_at.result) < c.args.states
+    → next_of (arrays c.args.states c.args.n c.args.word.now c.args.next.now) (c.loop-i.s * 16 + c.datum_at.result) <
+    c.args.states
 next_small c =
-    place-next (arrays c.args.states c.args.n c.args.word.now c.args.next.now) c.loop-i.s c.datum_at.result c.requires.0 c.loop-i.invariant.1.inside
+    place-next (arrays c.args.states c.args.n c.args.word.now c.args.next.now) c.loop-i.s c.datum_at.result c.requires.0
+    c.loop-i.invariant.1.inside
     (datum-small c)
 
 -- room for j words more
@@ -41,13 +43,17 @@ room : (l : At-loop-i) (j : ℕ) → l.loop-i.i + j ≤ l.args.count
     → l.loop-i.p.at * 8 + l.loop-i.p.count + j * l.args.q ≤ 8 * length l.loop-i.out
 room l j h =
     let a = l.args in
-    puts-room (arrays l.args.states l.args.n l.args.word.now l.args.next.now) a.q (closed l.args.blocks.now l.args.tail l.args.count) a.out.now l.loop-i.i l.loop-i.s l.loop-i.p l.loop-i.out
+    puts-room (arrays l.args.states l.args.n l.args.word.now l.args.next.now) a.q
+    (closed l.args.blocks.now l.args.tail l.args.count) a.out.now l.loop-i.i l.loop-i.s l.loop-i.p l.loop-i.out
     l.loop-i.invariant.1 j a.count h
     (rw (length-closed a.blocks.now a.tail a.count l.requires.6) l.loop-i.invariant.0) l.requires.7
 
 pub loop-i-init : goal.loop-i-init
-loop-i-init c =
-    (omega arith, puts_none (arrays c.args.states c.args.n c.args.word.now c.args.next.now) c.args.q (closed c.args.blocks.now c.args.tail c.args.count) c.args.out.now c.requires.0.some)
+loop-i-init c = (
+  omega arith,
+  puts_none (arrays c.args.states c.args.n c.args.word.now c.args.next.now) c.args.q
+      (closed c.args.blocks.now c.args.tail c.args.count) c.args.out.now c.requires.0.some,
+)
 
 pub overflow_mul-e : goal.overflow_mul-e
 overflow_mul-e c = omega (arith, c.loop-i.invariant.1.inside, c.requires.0.few)
@@ -64,7 +70,8 @@ put_word-more-requires c =
       w.few,
       w.small,
       c.requires.4,
-      c.requires.1 c.loop-i.s c.datum_at.result c.loop-i.invariant.1.inside (datum-small (goal.at.put_word-more-requires c).After-datum_at),
+      c.requires.1 c.loop-i.s c.datum_at.result c.loop-i.invariant.1.inside
+          (datum-small (goal.at.put_word-more-requires c).After-datum_at),
       omega (arith, room (goal.at.put_word-more-requires c).At-loop-i 1 (omega (arith, c.loop-i-test.true))),
     )
 
@@ -82,15 +89,23 @@ loop-i-preserved c =
     let i = c.loop-i.i in
     let m = c.loop-i.invariant.1 in (
       omega (arith, c.loop-i-test.true),
-      puts-more (arrays c.args.states c.args.n c.args.word.now c.args.next.now) a.q E a.out.now i c.loop-i.s c.loop-i.p c.loop-i.out m c.requires.0
+      puts-more (arrays c.args.states c.args.n c.args.word.now c.args.next.now) a.q E a.out.now i c.loop-i.s c.loop-i.p
+          c.loop-i.out m c.requires.0
           (rw (length-closed a.blocks.now a.tail a.count c.requires.6) c.loop-i-test.true)
-          (rw (← datum-is (goal.at.loop-i-preserved c).After-datum_at) (datum-small (goal.at.loop-i-preserved c).After-datum_at)) _ (ap (λ x. c.loop-i.s * 16 + x) (datum-is (goal.at.loop-i-preserved c).After-datum_at)) _ _
+          (rw (← datum-is (goal.at.loop-i-preserved c).After-datum_at)
+          (datum-small (goal.at.loop-i-preserved c).After-datum_at)) _
+          (ap (λ x. c.loop-i.s * 16 + x) (datum-is (goal.at.loop-i-preserved c).After-datum_at)) _ _
           (c.put_word-more.ensures.written _ a.out.now m.waits),
     )
 
 pub put_fill-requires : goal.put_fill-requires
 put_fill-requires c =
-    let w = c.loop-i.invariant.1.waits in (w.few, w.small, omega (arith, room (goal.at.put_fill-requires c).At-loop-i 0 (omega (arith, c.loop-i.invariant.0))))
+    let w = c.loop-i.invariant.1.waits in (
+      w.few,
+      w.small,
+      omega
+          (arith, room (goal.at.put_fill-requires c).At-loop-i 0 (omega (arith, c.loop-i.invariant.0))),
+    )
 
 pub returns : goal.returns
 returns c =
@@ -100,8 +115,10 @@ returns c =
     let long : length E ≡ a.count = length-closed a.blocks.now a.tail a.count c.requires.6 in
     record {
       written = c.put_fill.ensures.written a.q R a.out.now
-          (puts-end (arrays c.args.states c.args.n c.args.word.now c.args.next.now) a.q E a.out.now c.loop-i.i c.loop-i.s c.loop-i.p c.loop-i.out c.loop-i.invariant.1
+          (puts-end (arrays c.args.states c.args.n c.args.word.now c.args.next.now) a.q E a.out.now c.loop-i.i
+          c.loop-i.s c.loop-i.p c.loop-i.out c.loop-i.invariant.1
           (rw long c.loop-i-test.false))
-          ∙ ap (λ n. packed a.q R ++ drop (stream_size a.q n) a.out.now) (length-spells (rows_of (arrays c.args.states c.args.n c.args.word.now c.args.next.now)) E 0
+          ∙ ap (λ n. packed a.q R ++ drop (stream_size a.q n) a.out.now)
+          (length-spells (rows_of (arrays c.args.states c.args.n c.args.word.now c.args.next.now)) E 0
           ∙ long);
     }

@@ -7,7 +7,8 @@ use Rattle.stream_encode.proofs.put_recording.Given as goal
 
 abbrev pub invariant-loop-i : goal.invariant-loop-i
 invariant-loop-i l =
-    (l.i ≤ l.count) × Puts (arrays l.states l.n l.word l.next) l.q (closed l.blocks l.tail l.count) l.initial.out l.i l.s l.p l.out
+    (l.i ≤ l.count) × Puts (arrays l.states l.n l.word l.next) l.q (closed l.blocks l.tail l.count) l.initial.out l.i
+    l.s l.p l.out
 
 abbrev pub decreases-loop-i : goal.decreases-loop-i
 decreases-loop-i l = l.count - l.i

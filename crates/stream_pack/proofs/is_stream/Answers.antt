@@ -37,4 +37,7 @@ is_filled-requires c =
 pub returns : goal.returns
 returns c =
     let a = c.args in
-    record { answer = c.is_filled.ensures.answer ∙ sym (stream-fill a.q a.count a.bytes.now c.if-count-gt-LIMIT.false (sized (goal.at.returns c).Else-bytes-stream_size)) }
+    record {
+      answer = c.is_filled.ensures.answer ∙ sym (stream-fill a.q a.count a.bytes.now c.if-count-gt-LIMIT.false
+          (sized (goal.at.returns c).Else-bytes-stream_size));
+    }

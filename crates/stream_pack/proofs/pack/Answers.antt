@@ -25,7 +25,8 @@ pub returns-then-words-gt-LIMIT : goal.returns-then-words-gt-LIMIT
 returns-then-words-gt-LIMIT c =
     let a = c.args in
     let w = declined (pack_into a.q (length a.out.now) a.words.now) Stream a.out.now
-    (pack-15 a.q (length a.out.now) a.words.now (wide (goal.at.returns-then-words-gt-LIMIT c).Else-not-is_width) (omega arith)) in
+    (pack-15 a.q (length a.out.now) a.words.now (wide (goal.at.returns-then-words-gt-LIMIT c).Else-not-is_width)
+    (omega arith)) in
     record { answer = w.0; written = w.1 }
 
 pub power-requires : goal.power-requires
@@ -47,7 +48,8 @@ pub returns-then-bad-words : goal.returns-then-bad-words
 returns-then-bad-words c =
     let a = c.args in
     let w = declined (pack_into a.q (length a.out.now) a.words.now) (BadByte c.first_bad-bad.result) a.out.now
-    (pack-11 a.q (length a.out.now) a.words.now (wide (goal.at.returns-then-bad-words c).Else-not-is_width) (omega arith)
+    (pack-11 a.q (length a.out.now) a.words.now (wide (goal.at.returns-then-bad-words c).Else-not-is_width)
+    (omega arith)
     (omega (arith, c.stream_size-size.ensures.answer, c.if-out-size.false))
     c.power.result c.first_bad-bad.result c.power.ensures.answer c.first_bad-bad.ensures.answer
     c.if-bad-words.true) in

@@ -31,7 +31,8 @@ pub returns-then-not-is_stream : goal.returns-then-not-is_stream
 returns-then-not-is_stream c =
     let a = c.args in
     let w = declined (unpack_into a.q a.count (length a.out.now) a.bytes.now) Stream a.out.now
-    (unpack-15 a.q a.count (length a.out.now) a.bytes.now (wide (goal.at.returns-then-not-is_stream c).Else-not-is_width)
+    (unpack-15 a.q a.count (length a.out.now) a.bytes.now
+    (wide (goal.at.returns-then-not-is_stream c).Else-not-is_width)
     (sym c.is_stream.ensures.answer ∙ c.if-not-is_stream.true)) in
     record { answer = w.0; written = w.1 }
 
@@ -39,14 +40,16 @@ pub returns-then-out-count : goal.returns-then-out-count
 returns-then-out-count c =
     let a = c.args in
     let w = declined (unpack_into a.q a.count (length a.out.now) a.bytes.now) ShortOutput a.out.now
-    (unpack-13 a.q a.count (length a.out.now) a.bytes.now (wide (goal.at.returns-then-out-count c).Else-not-is_width) (good (goal.at.returns-then-out-count c).Else-not-is_stream)
+    (unpack-13 a.q a.count (length a.out.now) a.bytes.now (wide (goal.at.returns-then-out-count c).Else-not-is_width)
+    (good (goal.at.returns-then-out-count c).Else-not-is_stream)
     c.if-out-count.true) in
     record { answer = w.0; written = w.1 }
 
 pub get_words-requires : goal.get_words-requires
 get_words-requires c =
     let a = c.args in
-    let g = good-stream→ a.q a.count a.bytes.now (subst T (sym (good (goal.at.get_words-requires c).Else-not-is_stream)) tt) in
+    let g = good-stream→ a.q a.count a.bytes.now (subst T (sym (good (goal.at.get_words-requires c).Else-not-is_stream))
+    tt) in
     (width→ a.q (wide (goal.at.get_words-requires c).Else-not-is_width), g.few, g.holds, c.if-out-count.false)
 
 pub returns : goal.returns
@@ -55,6 +58,7 @@ returns c =
     let xs = a.bytes.now in
     let w = finished (unpack_into a.q a.count (length a.out.now) xs) (unpacked a.q a.count xs) a.out.now _
     a.count
-    (unpack-done a.q a.count (length a.out.now) xs (wide (goal.at.returns c).Else-not-is_width) (good (goal.at.returns c).Else-not-is_stream) c.if-out-count.false)
+    (unpack-done a.q a.count (length a.out.now) xs (wide (goal.at.returns c).Else-not-is_width)
+    (good (goal.at.returns c).Else-not-is_stream) c.if-out-count.false)
     (sym (length-unpacked a.q a.count xs)) c.get_words.ensures.written in
     record { answer = w.0; written = w.1 }

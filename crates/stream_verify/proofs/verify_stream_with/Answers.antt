@@ -34,14 +34,19 @@ pub returns-then-not-is_stream : goal.returns-then-not-is_stream
 returns-then-not-is_stream c =
     let a = c.args in
     record {
-      answer = sym (ap answer_of (stream-15 a.t a.count a.stream.now (is-ready (goal.at.returns-then-not-is_stream c).Else-not-is_ready)
+      answer = sym (ap answer_of (stream-15 a.t a.count a.stream.now
+          (is-ready (goal.at.returns-then-not-is_stream c).Else-not-is_ready)
           (sym c.is_stream.ensures.answer ∙ c.if-not-is_stream.true)));
     }
 
 pub returns-then-count-t : goal.returns-then-count-t
 returns-then-count-t c =
     let a = c.args in
-    record { answer = sym (ap answer_of (stream-12 a.t a.count a.stream.now (is-ready (goal.at.returns-then-count-t c).Else-not-is_ready) (is-good (goal.at.returns-then-count-t c).Else-not-is_stream) c.if-count-t.true)) }
+    record {
+      answer = sym (ap answer_of (stream-12 a.t a.count a.stream.now
+          (is-ready (goal.at.returns-then-count-t c).Else-not-is_ready)
+          (is-good (goal.at.returns-then-count-t c).Else-not-is_stream) c.if-count-t.true));
+    }
 
 pub sizes_of-requires : goal.sizes_of-requires
 sizes_of-requires c =
@@ -50,13 +55,15 @@ sizes_of-requires c =
 pub count_stream-requires : goal.count_stream-requires
 count_stream-requires c =
     let a = c.args in
-    streamed a.t (told-ready (goal.at.count_stream-requires c).Else-not-is_ready) a.count a.stream.now (subst T (sym (is-good (goal.at.count_stream-requires c).Else-not-is_stream)) tt) c.if-count-t.false
+    streamed a.t (told-ready (goal.at.count_stream-requires c).Else-not-is_ready) a.count a.stream.now
+    (subst T (sym (is-good (goal.at.count_stream-requires c).Else-not-is_stream)) tt) c.if-count-t.false
     c.sizes_of.result c.sizes_of.ensures.answer
 
 pub returns : goal.returns
 returns c =
     let a = c.args in
     record {
-      answer = stream-done a.t a.count a.stream.now (is-ready (goal.at.returns c).Else-not-is_ready) (is-good (goal.at.returns c).Else-not-is_stream) c.if-count-t.false c.sizes_of.result
+      answer = stream-done a.t a.count a.stream.now (is-ready (goal.at.returns c).Else-not-is_ready)
+          (is-good (goal.at.returns c).Else-not-is_stream) c.if-count-t.false c.sizes_of.result
           c.count_stream.result c.sizes_of.ensures.answer c.count_stream.ensures.answer;
     }

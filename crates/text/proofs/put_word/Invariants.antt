@@ -8,7 +8,8 @@ use Rattle.text.proofs.put_word.Given as goal
 
 abbrev pub invariant-loop-k : goal.invariant-loop-k
 invariant-loop-k l =
-    (l.k ≤ l.q) × (X : List ℕ) × (X ++ binary l.k l.w ≡ binary l.q l.w) × Added X l.initial.end l.initial.out l.out l.end
+    (l.k ≤ l.q) × (X : List ℕ) × (X ++ binary l.k l.w ≡ binary l.q l.w)
+    × Added X l.initial.end l.initial.out l.out l.end
 
 abbrev pub decreases-loop-k : goal.decreases-loop-k
 decreases-loop-k l = l.k

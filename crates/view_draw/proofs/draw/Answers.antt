@@ -28,7 +28,8 @@ put_diagram-requires c = (good (goal.at.put_diagram-requires c).Else-not-is_read
 pub returns-then-t-le24 : goal.returns-then-t-le24
 returns-then-t-le24 c =
     record {
-      written = added-same (diagram-drawn c.args.t (passed (goal.at.returns-then-t-le24 c).Else-not-is_ready) c.if-t-le24.true)
+      written = added-same (diagram-drawn c.args.t (passed (goal.at.returns-then-t-le24 c).Else-not-is_ready)
+          c.if-t-le24.true)
           c.put_diagram.ensures.written;
     }
 

@@ -44,7 +44,9 @@ returns c =
     let l = c.loop-j in
     let a = c.args in
     let e : a.d ≡ l.j = omega (arith, l.invariant.0, c.loop-j-test.false) in
-    record { answer = opens-so (next_at a.code a.s) a.d (ap (some (joined (next_at a.code a.s) a.d)) e ∙ l.invariant.3) }
+    record {
+      answer = opens-so (next_at a.code a.s) a.d (ap (some (joined (next_at a.code a.s) a.d)) e ∙ l.invariant.3);
+    }
 
 pub loop-j-smaller : goal.loop-j-smaller
 loop-j-smaller c = omega (arith, c.loop-j-test.true)

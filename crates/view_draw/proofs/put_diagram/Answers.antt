@@ -53,7 +53,8 @@ returns c =
     let e : l.e ≡ c.args.t.states * c.args.n = omega (arith, l.invariant.0, c.loop-e-test.false) in
     record {
       written = added-same (diagram-is c.args.t c.args.n c.requires.1)
-          (c.put-at.ensures.written then added-same (ap (arrows_to c.args.t) e) l.invariant.1 then c.put.ensures.written);
+          (c.put-at.ensures.written then added-same (ap (arrows_to c.args.t) e) l.invariant.1
+          then c.put.ensures.written);
     }
 
 pub nonzero_div-e : goal.nonzero_div-e

@@ -7,4 +7,10 @@ pub power-requires : goal.power-requires
 power-requires c = omega (arith, c.requires)
 
 pub returns : goal.returns
-returns c = record { answer = (c.power.ensures.answer, words-few c.args.q c.power.result c.requires c.power.ensures.answer) }
+returns c = record {
+  answer = (
+    c.power.ensures.answer,
+    words-few c.args.q c.power.result c.requires
+        c.power.ensures.answer,
+  );
+}

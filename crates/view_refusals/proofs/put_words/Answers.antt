@@ -9,4 +9,7 @@ returns-then-number-gt17 c = record { written = added-same (no_words _ c.if-numb
 
 pub returns : goal.returns
 unfolding row
-returns c = record { written = added-same (c.line.ensures.answer ∙ line-is _ c.if-number-gt17.false) c.put-2.ensures.written }
+returns c = record {
+  written = added-same (c.line.ensures.answer ∙ line-is _ c.if-number-gt17.false)
+      c.put-2.ensures.written;
+}

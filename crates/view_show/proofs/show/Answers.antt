@@ -24,6 +24,7 @@ pub returns : goal.returns
 returns c =
     record {
       written = added-same (shown-is _ (sym c.is_whole.ensures.answer ∙ c.if-not-is_whole.false))
-          (c.put_sentence-window.ensures.written then c.put_window-constraint.ensures.written then c.put_constraint-closing.ensures.written then
+          (c.put_sentence-window.ensures.written then c.put_window-constraint.ensures.written
+          then c.put_constraint-closing.ensures.written then
           c.put_sentence-first.ensures.written then c.put_listing.ensures.written);
     }

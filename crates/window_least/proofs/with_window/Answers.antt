@@ -25,7 +25,8 @@ returns c =
     let a = c.lookahead_of-a in
     record {
       answer = ap (λ x. done (code_in x)) c.with_size.ensures.answer
-          ∙ windowed-found t c.least_window-w.result c.least_window-w.ensures.answer _ _ m.ensures.answer a.ensures.answer
+          ∙ windowed-found t c.least_window-w.result c.least_window-w.ensures.answer _ _ m.ensures.answer
+          a.ensures.answer
           c.if-m-gt15.false;
       kept = λ e. subst Whole (sym c.with_size.ensures.answer)
           (whole_with t c.least_window-w.result c.least_window-w.ensures.answer _ _ m.ensures.answer a.ensures.answer

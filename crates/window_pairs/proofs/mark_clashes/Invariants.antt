@@ -6,7 +6,8 @@ use Rattle.window_pairs.proofs.mark_clashes.Given as goal
 
 abbrev pub invariant-loop-d : goal.invariant-loop-d
 invariant-loop-d l =
-    (l.d ≤ l.n) × Long l.targets × Marked l.initial.out (λ u v d. joins_by (arrays l.states l.n l.word l.next) l.pairs d u v l.w) l.d l.out
+    (l.d ≤ l.n) × Long l.targets × Marked l.initial.out
+    (λ u v d. joins_by (arrays l.states l.n l.word l.next) l.pairs d u v l.w) l.d l.out
 
 abbrev pub decreases-loop-d : goal.decreases-loop-d
 decreases-loop-d l = l.n - l.d

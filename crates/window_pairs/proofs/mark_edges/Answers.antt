@@ -13,7 +13,8 @@ use Rattle.window_pairs.proofs.mark_edges.Goals as goal
 
 -- where the chain starts
 start-on : (s : Start)
-    → get_or s.args.head.now s.args.w 0 ≡ last_below (arrays s.args.states s.args.n s.args.word.now s.args.next.now) s.args.w (s.args.states * 16)
+    → get_or s.args.head.now s.args.w 0 ≡ last_below (arrays s.args.states s.args.n s.args.word.now s.args.next.now)
+    s.args.w (s.args.states * 16)
 start-on s = s.requires.0.chained.heads s.args.w s.requires.1
 
 -- the edge in hand
@@ -21,14 +22,16 @@ edge_on : (c : In-loop-cur)
     → bears (arrays c.args.states c.args.n c.args.word.now c.args.next.now) c.args.w (c.loop-cur.cur - 1) ≡ true
 edge_on c = c.loop-cur.invariant.1 c.loop-cur-test.true
 
-next_small : (c : In-loop-cur) → next_of (arrays c.args.states c.args.n c.args.word.now c.args.next.now) (c.loop-cur.cur - 1) < 128
+next_small : (c : In-loop-cur) → next_of (arrays c.args.states c.args.n c.args.word.now c.args.next.now)
+    (c.loop-cur.cur - 1) < 128
 next_small c =
     let g = c.requires.0.fits in
     omega (
       arith,
       g.few,
       g.inside (c.loop-cur.cur - 1) (omega arith)
-          (bears-edge (arrays c.args.states c.args.n c.args.word.now c.args.next.now) _ (c.loop-cur.cur - 1) (edge_on c)),
+          (bears-edge (arrays c.args.states c.args.n c.args.word.now c.args.next.now) _ (c.loop-cur.cur - 1)
+          (edge_on c)),
     )
 
 -- the edge before it
@@ -36,12 +39,18 @@ link_on : (c : In-loop-cur)
     → get_or c.args.link.now (c.loop-cur.cur - 1) 0
     ≡ last_below (arrays c.args.states c.args.n c.args.word.now c.args.next.now) c.args.w (c.loop-cur.cur - 1)
 link_on c =
-    link-below (arrays c.args.states c.args.n c.args.word.now c.args.next.now) _ (c.loop-cur.cur - 1) (edge_on c) (c.args.states * 16) c.args.head.now
+    link-below (arrays c.args.states c.args.n c.args.word.now c.args.next.now) _ (c.loop-cur.cur - 1) (edge_on c)
+    (c.args.states * 16) c.args.head.now
     c.args.link.now c.requires.0.chained (omega arith)
 
 pub overflow_cast-cur : goal.overflow_cast-cur
 overflow_cast-cur c =
-    omega (arith, c.requires.0.fits.few, on-le (arrays c.args.states c.args.n c.args.word.now c.args.next.now) _ (c.args.states * 16) _ (start-on (goal.at.overflow_cast-cur c).Start))
+    omega (
+      arith,
+      c.requires.0.fits.few,
+      on-le (arrays c.args.states c.args.n c.args.word.now c.args.next.now) _
+          (c.args.states * 16) _ (start-on (goal.at.overflow_cast-cur c).Start),
+    )
 
 pub loop-cur-init : goal.loop-cur-init
 loop-cur-init c =
@@ -55,7 +64,8 @@ loop-cur-init c =
       on-bears t w n e (start-on (goal.at.loop-cur-init c).Start),
       (λ u. c.none-joined.ensures.answer u ∙ sym (none-joined _ _ c.none-last.ensures.answer)),
       row-jump _ f n n _ (row-start c.args.out.now f n) e
-          (λ u v. on_some t w n e (start-on (goal.at.loop-cur-init c).Start) (f u v) (λ i b. joins-only t P w c.args.k u v i b)),
+          (λ u v. on_some t w n e (start-on (goal.at.loop-cur-init c).Start) (f u v)
+          (λ i b. joins-only t P w c.args.k u v i b)),
     )
 
 pub set_at-requires : goal.set_at-requires
@@ -67,11 +77,21 @@ put_into-requires c =
 
 pub overflow_cast-cur-in-loop-cur : goal.overflow_cast-cur-in-loop-cur
 overflow_cast-cur-in-loop-cur c =
-    omega (arith, c.requires.0.fits.few, on-le (arrays c.args.states c.args.n c.args.word.now c.args.next.now) _ (c.loop-cur.cur - 1) _ (link_on (goal.at.overflow_cast-cur-in-loop-cur c).In-loop-cur))
+    omega (
+      arith,
+      c.requires.0.fits.few,
+      on-le (arrays c.args.states c.args.n c.args.word.now c.args.next.now) _
+          (c.loop-cur.cur - 1) _ (link_on (goal.at.overflow_cast-cur-in-loop-cur c).In-loop-cur),
+    )
 
 pub loop-cur-smaller : goal.loop-cur-smaller
 loop-cur-smaller c =
-    omega (arith, c.loop-cur-test.true, on-le (arrays c.args.states c.args.n c.args.word.now c.args.next.now) _ (c.loop-cur.cur - 1) _ (link_on (goal.at.loop-cur-smaller c).In-loop-cur))
+    omega (
+      arith,
+      c.loop-cur-test.true,
+      on-le (arrays c.args.states c.args.n c.args.word.now c.args.next.now) _
+          (c.loop-cur.cur - 1) _ (link_on (goal.at.loop-cur-smaller c).In-loop-cur),
+    )
 
 -- the turn has joined what it remembers
 joined-on : (c : Joined-is_taken)
@@ -87,7 +107,8 @@ joined-on c x =
 
 -- the turn has marked where its edge leads
 marked-on : (c : Joined-is_taken)
-    → Left c.args.out.now (joins (arrays c.args.states c.args.n c.args.word.now c.args.next.now) c.args.pairs.now c.args.w
+    → Left c.args.out.now (joins (arrays c.args.states c.args.n c.args.word.now c.args.next.now) c.args.pairs.now
+    c.args.w
     c.args.k) (c.args.states * 16) (c.loop-cur.cur - 1) c.if-is_taken.out
 marked-on c =
     let a = c.args in
@@ -121,7 +142,8 @@ loop-cur-preserved c =
       on-bears t w e j (link_on (goal.at.loop-cur-preserved c).In-loop-cur),
       joined-on (goal.at.loop-cur-preserved c).Joined-is_taken,
       row-jump _ f (a.states * 16) e _ (marked-on (goal.at.loop-cur-preserved c).Joined-is_taken) j
-          (λ u v. on_some t w e j (link_on (goal.at.loop-cur-preserved c).In-loop-cur) (f u v) (λ g b. joins-only t P w a.k u v g b)),
+          (λ u v. on_some t w e j (link_on (goal.at.loop-cur-preserved c).In-loop-cur) (f u v)
+          (λ g b. joins-only t P w a.k u v g b)),
     )
 
 pub returns : goal.returns

@@ -8,7 +8,8 @@ use Rattle.window_pairs.proofs.step_pairs.Given as goal
 
 abbrev pub invariant-loop-w : goal.invariant-loop-w
 invariant-loop-w l =
-    (l.w ≤ 256) × Long l.targets × Long l.initial.out × ((x y : ℕ) → x < l.states → holds (set_at l.initial.out x) y ≡ false)
+    (l.w ≤ 256) × Long l.targets × Long l.initial.out
+    × ((x y : ℕ) → x < l.states → holds (set_at l.initial.out x) y ≡ false)
     × Marked l.initial.out (joins_by (arrays l.states l.n l.word l.next) l.pairs 16) l.w l.out
 
 abbrev pub decreases-loop-w : goal.decreases-loop-w

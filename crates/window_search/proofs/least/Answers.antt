@@ -37,7 +37,8 @@ try_memory-b-requires c =
 
 pub stop_of-requires : goal.stop_of-requires
 stop_of-requires c =
-    lead-small (rows_of (arrays c.args.states c.args.n c.args.word.now c.args.next.now)) (c.loop-m.m + 1) _ (omega arith)
+    lead-small (rows_of (arrays c.args.states c.args.n c.args.word.now c.args.next.now)) (c.loop-m.m + 1) _
+    (omega arith)
     c.try_memory-b.ensures.answer
 
 pub loop-m-preserved : goal.loop-m-preserved

@@ -31,7 +31,10 @@ least-b-requires c =
     worded-lent c.args.t c.ways-n.result _ _ c.requires c.ways-n.ensures.answer.0 c.chain.ensures.written
 
 pub returns-then-b-eq16 : goal.returns-then-b-eq16
-returns-then-b-eq16 c = record { answer = none_found _ _ _ (found (goal.at.returns-then-b-eq16 c).After-least-b) c.if-b-eq16.true }
+returns-then-b-eq16 c = record {
+  answer = none_found _ _ _ (found (goal.at.returns-then-b-eq16 c).After-least-b)
+      c.if-b-eq16.true;
+}
 
 pub returns : goal.returns
 returns c = record { answer = sym (found (goal.at.returns c).After-least-b) }

@@ -19,7 +19,9 @@ some s = rw (length-rows (arrays s.args.states s.args.n s.args.word.now s.args.n
 
 -- the steps taken are those of the pairs of a clash for memory m
 gone : (c : After-lookahead_needed-a)
-    → Emptied (rows_of (arrays c.args.states c.args.n c.args.word.now c.args.next.now)) (hits (rows_of (arrays c.args.states c.args.n c.args.word.now c.args.next.now)) (pasts (rows_of (arrays c.args.states c.args.n c.args.word.now c.args.next.now))
+    → Emptied (rows_of (arrays c.args.states c.args.n c.args.word.now c.args.next.now))
+    (hits (rows_of (arrays c.args.states c.args.n c.args.word.now c.args.next.now))
+    (pasts (rows_of (arrays c.args.states c.args.n c.args.word.now c.args.next.now))
     c.args.m)) c.lookahead_limit-most.result c.lookahead_needed-a.result
 gone c =
     let t = rows_of (arrays c.args.states c.args.n c.args.word.now c.args.next.now) in
@@ -28,7 +30,8 @@ gone c =
 
 pub lookahead_limit-most-requires : goal.lookahead_limit-most-requires
 lookahead_limit-most-requires c =
-    let b = lead-small (rows_of (arrays c.args.states c.args.n c.args.word.now c.args.next.now)) c.args.m (size c.args.best.memory c.args.best.lookahead) (omega (arith, c.requires.1)) c.requires.4 in
+    let b = lead-small (rows_of (arrays c.args.states c.args.n c.args.word.now c.args.next.now)) c.args.m
+    (size c.args.best.memory c.args.best.lookahead) (omega (arith, c.requires.1)) c.requires.4 in
     (c.requires.1, b.0, b.1, c.requires.2)
 
 pub returns-then-a-most : goal.returns-then-a-most
@@ -39,9 +42,12 @@ returns-then-a-most c =
     let a = c.lookahead_needed-a.result in
     let h : a ≤ most = omega (arith, c.if-a-most.true) in
     record {
-      answer = lead-take t m (size c.args.best.memory c.args.best.lookahead) c.requires.1 c.requires.4 most c.lookahead_limit-most.ensures.answer a h
-          (works-there t (closed (goal.at.returns-then-a-most c).Start) (some (goal.at.returns-then-a-most c).Start) m most a (gone (goal.at.returns-then-a-most c).After-lookahead_needed-a) h)
-          (fails-sooner t (closed (goal.at.returns-then-a-most c).Start) (some (goal.at.returns-then-a-most c).Start) m most a (gone (goal.at.returns-then-a-most c).After-lookahead_needed-a));
+      answer = lead-take t m (size c.args.best.memory c.args.best.lookahead) c.requires.1 c.requires.4 most
+          c.lookahead_limit-most.ensures.answer a h
+          (works-there t (closed (goal.at.returns-then-a-most c).Start) (some (goal.at.returns-then-a-most c).Start) m
+          most a (gone (goal.at.returns-then-a-most c).After-lookahead_needed-a) h)
+          (fails-sooner t (closed (goal.at.returns-then-a-most c).Start) (some (goal.at.returns-then-a-most c).Start) m
+          most a (gone (goal.at.returns-then-a-most c).After-lookahead_needed-a));
       kept = c.lookahead_needed-a.ensures.kept;
     }
 
@@ -50,7 +56,9 @@ returns c =
     let t = rows_of (arrays c.args.states c.args.n c.args.word.now c.args.next.now) in
     let m = c.args.m in
     record {
-      answer = lead-skip t m (size c.args.best.memory c.args.best.lookahead) c.requires.1 c.requires.4 c.lookahead_limit-most.result c.lookahead_limit-most.ensures.answer
-          (λ k l. fails-sooner t (closed (goal.at.returns c).Start) (some (goal.at.returns c).Start) m _ _ (gone (goal.at.returns c).After-lookahead_needed-a) k (omega (arith, c.if-a-most.false)));
+      answer = lead-skip t m (size c.args.best.memory c.args.best.lookahead) c.requires.1 c.requires.4
+          c.lookahead_limit-most.result c.lookahead_limit-most.ensures.answer
+          (λ k l. fails-sooner t (closed (goal.at.returns c).Start) (some (goal.at.returns c).Start) m _ _
+          (gone (goal.at.returns c).After-lookahead_needed-a) k (omega (arith, c.if-a-most.false)));
       kept = c.lookahead_needed-a.ensures.kept;
     }

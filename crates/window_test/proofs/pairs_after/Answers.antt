@@ -14,7 +14,13 @@ closed : (s : Start) → Closed (rows_of (arrays s.args.states s.args.n s.args.w
 closed s = closed-rows (arrays s.args.states s.args.n s.args.word.now s.args.next.now) s.requires.0.linked.fits
 
 pub loop-i-init : goal.loop-i-init
-loop-i-init c = (omega arith, c.requires.3 ∙ sym (pasts-none (rows_of (arrays c.args.states c.args.n c.args.word.now c.args.next.now))), c.requires.1, c.requires.2)
+loop-i-init c = (
+  omega arith,
+  c.requires.3 ∙ sym (pasts-none
+      (rows_of (arrays c.args.states c.args.n c.args.word.now c.args.next.now))),
+  c.requires.1,
+  c.requires.2,
+)
 
 pub extend_memory-requires : goal.extend_memory-requires
 extend_memory-requires c =
@@ -24,10 +30,13 @@ extend_memory-requires c =
 -- the pairs after the turn
 stepped : (c : After-extend_memory)
     → let l = c.loop-i in
-    with_word (rows_of (arrays c.args.states c.args.n c.args.word.now c.args.next.now)) (pairs_in c.args.states l.past) ≡ pasts (rows_of (arrays c.args.states c.args.n c.args.word.now c.args.next.now)) (l.i + 1)
+    with_word (rows_of (arrays c.args.states c.args.n c.args.word.now c.args.next.now)) (pairs_in c.args.states l.past)
+    ≡ pasts (rows_of (arrays c.args.states c.args.n c.args.word.now c.args.next.now)) (l.i + 1)
 stepped c =
     let l = c.loop-i in
-    ap (with_word (rows_of (arrays c.args.states c.args.n c.args.word.now c.args.next.now))) l.invariant.1 ∙ sym (pasts-more (rows_of (arrays c.args.states c.args.n c.args.word.now c.args.next.now)) (closed-rows (arrays c.args.states c.args.n c.args.word.now c.args.next.now) c.requires.0.linked.fits) l.i)
+    ap (with_word (rows_of (arrays c.args.states c.args.n c.args.word.now c.args.next.now))) l.invariant.1
+    ∙ sym (pasts-more (rows_of (arrays c.args.states c.args.n c.args.word.now c.args.next.now))
+    (closed-rows (arrays c.args.states c.args.n c.args.word.now c.args.next.now) c.requires.0.linked.fits) l.i)
 
 pub returns-then-extend_memory : goal.returns-then-extend_memory
 returns-then-extend_memory c =
@@ -38,7 +47,9 @@ returns-then-extend_memory c =
     let same = e.answer c.if-extend_memory.true in
     record {
       written = same ∙ l.invariant.1
-          ∙ sym (pasts-rest t (closed (goal.at.returns-then-extend_memory c).Start) l.i (sym (e.written ∙ stepped (goal.at.returns-then-extend_memory c).After-extend_memory) ∙ same ∙ l.invariant.1)
+          ∙ sym (pasts-rest t (closed (goal.at.returns-then-extend_memory c).Start) l.i
+          (sym (e.written ∙ stepped (goal.at.returns-then-extend_memory c).After-extend_memory) ∙ same
+          ∙ l.invariant.1)
           (c.args.m - l.i)) ∙ ap (pasts t) q;
       kept = e.kept;
     }
@@ -52,4 +63,8 @@ pub returns : goal.returns
 returns c =
     let l = c.loop-i in
     let e : l.i ≡ c.args.m = omega arith in
-    record { written = l.invariant.1 ∙ ap (pasts (rows_of (arrays c.args.states c.args.n c.args.word.now c.args.next.now))) e; kept = (l.invariant.2, l.invariant.3) }
+    record {
+      written = l.invariant.1 ∙ ap (pasts (rows_of
+          (arrays c.args.states c.args.n c.args.word.now c.args.next.now))) e;
+      kept = (l.invariant.2, l.invariant.3);
+    }

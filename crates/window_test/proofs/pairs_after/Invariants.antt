@@ -7,7 +7,8 @@ use Rattle.window_test.proofs.pairs_after.Given as goal
 
 abbrev pub invariant-loop-i : goal.invariant-loop-i
 invariant-loop-i l =
-    (l.i ≤ l.m) × (pairs_in l.states l.past ≡ pasts (rows_of (arrays l.states l.n l.word l.next)) l.i) × Long l.past × Long l.spare
+    (l.i ≤ l.m) × (pairs_in l.states l.past ≡ pasts (rows_of (arrays l.states l.n l.word l.next)) l.i) × Long l.past
+    × Long l.spare
 
 abbrev pub decreases-loop-i : goal.decreases-loop-i
 decreases-loop-i l = l.m - l.i

@@ -16,7 +16,8 @@ pairs_after-requires c = (
   c.requires.0,
   c.fill.ensures.written.0,
   length-replicate {A = ℕ} 256 0,
-  all_of (rows_of (arrays c.args.states c.args.n c.args.word.now c.args.next.now)) c.args.states (length-rows (arrays c.args.states c.args.n c.args.word.now c.args.next.now)) _ c.fill.ensures.written.1,
+  all_of (rows_of (arrays c.args.states c.args.n c.args.word.now c.args.next.now)) c.args.states
+      (length-rows (arrays c.args.states c.args.n c.args.word.now c.args.next.now)) _ c.fill.ensures.written.1,
 )
 
 pub clashes-requires : goal.clashes-requires
@@ -35,5 +36,6 @@ returns c =
       answer = works-emptied (rows_of t) (closed-rows t g) (rw (length-rows t) g.some) c.args.memory c.args.lookahead
           c.lookahead_needed.result
           (subst (λ H. Emptied (rows_of t) H c.args.lookahead c.lookahead_needed.result)
-          (c.clashes.ensures.written.1 ∙ ap (hits (rows_of t)) c.pairs_after.ensures.written) c.lookahead_needed.ensures.answer);
+          (c.clashes.ensures.written.1 ∙ ap (hits (rows_of t)) c.pairs_after.ensures.written)
+          c.lookahead_needed.ensures.answer);
     }

@@ -12,4 +12,7 @@ join-requires c =
 
 pub returns : goal.returns
 unfolding word_of
-returns c = record { answer = c.join.ensures.answer ∙ ap₂ joined c.answer_number.ensures.answer c.answer_value.ensures.answer }
+returns c = record {
+  answer = c.join.ensures.answer
+      ∙ ap₂ joined c.answer_number.ensures.answer c.answer_value.ensures.answer;
+}

@@ -25,4 +25,6 @@ pub returns : goal.returns
 returns c =
     let a = c.args in
     let l = c.loop-i in
-    record { answer = sym (l.invariant.1 ∙ ap (λ k. l.i + k) (bad-end a.n a.bytes.now l.i (omega arith)) ∙ add-zero l.i) }
+    record {
+      answer = sym (l.invariant.1 ∙ ap (λ k. l.i + k) (bad-end a.n a.bytes.now l.i (omega arith)) ∙ add-zero l.i);
+    }

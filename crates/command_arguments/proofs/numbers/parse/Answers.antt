@@ -10,7 +10,10 @@ returns-then-d-gt9 c =
     let l = c.loop-i in
     let a = c.args in
     let d = c.digit-d in
-    record { answer = sym (l.invariant.2 ∙ number-off a.text.now l.n l.i (omega arith) (omega (arith, d.ensures.answer))) }
+    record {
+      answer = sym (l.invariant.2 ∙ number-off a.text.now l.n l.i (omega arith)
+          (omega (arith, d.ensures.answer)));
+    }
 
 pub loop-i-preserved : goal.loop-i-preserved
 loop-i-preserved c =
@@ -31,13 +34,19 @@ pub returns-then-n-gt-GREATEST : goal.returns-then-n-gt-GREATEST
 returns-then-n-gt-GREATEST c =
     let l = c.loop-i in
     let a = c.args in
-    record { answer = sym (l.invariant.2 ∙ number-end a.text.now l.n l.i (omega arith) ∙ simp (lt-leb _ _ c.if-n-gt-GREATEST.true)) }
+    record {
+      answer = sym (l.invariant.2 ∙ number-end a.text.now l.n l.i (omega arith)
+          ∙ simp (lt-leb _ _ c.if-n-gt-GREATEST.true));
+    }
 
 pub returns : goal.returns
 returns c =
     let l = c.loop-i in
     let a = c.args in
-    record { answer = sym (l.invariant.2 ∙ number-end a.text.now l.n l.i (omega arith) ∙ simp (le-leb _ _ c.if-n-gt-GREATEST.false)) }
+    record {
+      answer = sym (l.invariant.2 ∙ number-end a.text.now l.n l.i (omega arith)
+          ∙ simp (le-leb _ _ c.if-n-gt-GREATEST.false));
+    }
 
 pub returns-then-text-eq0 : goal.returns-then-text-eq0
 returns-then-text-eq0 c = record { answer = sym (parsed-none _ c.if-text-eq0.true) }

@@ -47,8 +47,15 @@ loop-s-preserved-then-w-words c =
 
 pub loop-s-preserved : goal.loop-s-preserved
 loop-s-preserved c =
-    let l = c.loop-s in
-    (l.invariant.0, l.invariant.1, l.invariant.2, omega arith, λ z. absurd (omega arith), filled (goal.at.loop-s-preserved c).After-next_of)
+    let l = c.loop-s in (
+      l.invariant.0,
+      l.invariant.1,
+      l.invariant.2,
+      omega arith,
+      λ z. absurd (omega arith),
+      filled
+          (goal.at.loop-s-preserved c).After-next_of,
+    )
 
 pub returns : goal.returns
 returns c =

@@ -7,7 +7,8 @@ use Rattle.stream_pack.proofs.reading.get_words.Given as goal
 
 abbrev pub invariant-loop-i : goal.invariant-loop-i
 invariant-loop-i l =
-    (l.i ≤ l.count) × (l.at ≡ l.i * l.q) × (length l.out ≡ length l.initial.out) × (l.out ≡ map (word_of l.q l.bytes) (range l.i) ++ drop l.i l.initial.out)
+    (l.i ≤ l.count) × (l.at ≡ l.i * l.q) × (length l.out ≡ length l.initial.out)
+    × (l.out ≡ map (word_of l.q l.bytes) (range l.i) ++ drop l.i l.initial.out)
 
 abbrev pub decreases-loop-i : goal.decreases-loop-i
 decreases-loop-i l = l.count - l.i

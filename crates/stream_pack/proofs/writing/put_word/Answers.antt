@@ -22,5 +22,6 @@ returns c =
     let a = c.args in
     record {
       written = λ B lent w. waits-full B lent a.out.now a.p w a.q a.word c.requires.3 (a.p.count + a.q - 8) _ _ _
-          (omega arith) (omega arith) c.joined-both.ensures.answer c.low_bits.ensures.answer c.low_bits-2.ensures.answer (omega arith);
+          (omega arith) (omega arith) c.joined-both.ensures.answer c.low_bits.ensures.answer c.low_bits-2.ensures.answer
+          (omega arith);
     }

@@ -18,20 +18,26 @@ datum_in-d-requires c =
 in_words : (c : After-datum_in-d) → (U : List ℕ) → (l : length U ≡ c.args.part.count) → (c.loop-j.j) < length U
 in_words c U l = omega (arith, c.loop-j-test.true, c.requires.4)
 
-in-data : (c : After-datum_in-d) → (U : List ℕ) → (l : length U ≡ c.args.part.count) → (c.loop-j.j) < length (due_in c.args.k (c.args.word.now) (c.args.next.now) U)
+in-data : (c : After-datum_in-d) → (U : List ℕ) → (l : length U ≡ c.args.part.count)
+    → (c.loop-j.j) < length (due_in c.args.k (c.args.word.now) (c.args.next.now) U)
 in-data c U l =
     let k = c.args.k in
     omega (
       arith,
       ((in_words c) U l),
-      length-followed (rows_of (arrays_of c.args.k c.args.word.now c.args.next.now)) k.memory k.lookahead k.tail U (omega (arith, c.requires.2)),
+      length-followed (rows_of (arrays_of c.args.k c.args.word.now c.args.next.now)) k.memory k.lookahead k.tail U
+          (omega (arith, c.requires.2)),
     )
 
-place-small : (c : After-datum_in-d) → (h : c.datum_in-d.result < c.args.k.ways) → (c.loop-j.s) * 16 + c.datum_in-d.result < 2048
+place-small : (c : After-datum_in-d) → (h : c.datum_in-d.result < c.args.k.ways)
+    → (c.loop-j.s) * 16 + c.datum_in-d.result < 2048
 place-small c h = let f = c.requires.0.fits in omega (arith, c.loop-j.invariant.2, f.few, f.narrow, h)
 
-next_small : (c : After-datum_in-d) → (h : c.datum_in-d.result < c.args.k.ways) → next_of (arrays_of c.args.k c.args.word.now c.args.next.now) ((c.loop-j.s) * 16 + c.datum_in-d.result) < c.args.k.states
-next_small c h = place-next (arrays_of c.args.k c.args.word.now c.args.next.now) (c.loop-j.s) _ c.requires.0.fits c.loop-j.invariant.2 h
+next_small : (c : After-datum_in-d) → (h : c.datum_in-d.result < c.args.k.ways)
+    → next_of (arrays_of c.args.k c.args.word.now c.args.next.now) ((c.loop-j.s) * 16 + c.datum_in-d.result) <
+    c.args.k.states
+next_small c h = place-next (arrays_of c.args.k c.args.word.now c.args.next.now) (c.loop-j.s) _ c.requires.0.fits
+    c.loop-j.invariant.2 h
 
 pub returns-then-k-d : goal.returns-then-k-d
 returns-then-k-d c =
@@ -42,8 +48,11 @@ returns-then-k-d c =
         before = l.invariant.1;
         inside = l.invariant.2;
         counted = l.invariant.3 U h;
-        stopped = λ k. agreed-bad (rows_of (arrays_of c.args.k c.args.word.now c.args.next.now)) c.args.k.ways l.s (due_in c.args.k c.args.word.now c.args.next.now U) U l.j (in-data (goal.at.returns-then-k-d c).After-datum_in-d U h.long)
-            (in_words (goal.at.returns-then-k-d c).After-datum_in-d U h.long) (omega (arith, c.datum_in-d.ensures.answer U h, c.if-k-d.true));
+        stopped = λ k. agreed-bad (rows_of (arrays_of c.args.k c.args.word.now c.args.next.now)) c.args.k.ways l.s
+            (due_in c.args.k c.args.word.now c.args.next.now U) U l.j
+            (in-data (goal.at.returns-then-k-d c).After-datum_in-d U h.long)
+            (in_words (goal.at.returns-then-k-d c).After-datum_in-d U h.long)
+            (omega (arith, c.datum_in-d.ensures.answer U h, c.if-k-d.true));
       };
     }
 
@@ -75,8 +84,11 @@ returns-then-word-e c =
         before = l.invariant.1;
         inside = l.invariant.2;
         counted = l.invariant.3 U h;
-        stopped = λ k. other_word (arrays_of c.args.k c.args.word.now c.args.next.now) l.s (due_in c.args.k c.args.word.now c.args.next.now U) U l.j c.datum_in-d.result (in-data (goal.at.returns-then-word-e c).After-datum_in-d U h.long)
-            (in_words (goal.at.returns-then-word-e c).After-datum_in-d U h.long) (c.datum_in-d.ensures.answer U h) l.invariant.2 c.if-k-d.false
+        stopped = λ k. other_word (arrays_of c.args.k c.args.word.now c.args.next.now) l.s
+            (due_in c.args.k c.args.word.now c.args.next.now U) U l.j c.datum_in-d.result
+            (in-data (goal.at.returns-then-word-e c).After-datum_in-d U h.long)
+            (in_words (goal.at.returns-then-word-e c).After-datum_in-d U h.long) (c.datum_in-d.ensures.answer U h)
+            l.invariant.2 c.if-k-d.false
             (λ y. c.if-word-e.true (y ∙ sym (h.words l.j l.invariant.0 c.loop-j-test.true)));
       };
     }
@@ -94,8 +106,11 @@ loop-j-preserved c =
       omega (arith, l.invariant.0),
       omega (arith, c.loop-j-test.true),
       next_small (goal.at.loop-j-preserved c).After-datum_in-d c.if-k-d.false,
-      (λ U h. l.invariant.3 U h ∙ same_word (arrays_of c.args.k c.args.word.now c.args.next.now) l.s (due_in c.args.k c.args.word.now c.args.next.now U) U l.j c.datum_in-d.result
-          (in-data (goal.at.loop-j-preserved c).After-datum_in-d U h.long) (in_words (goal.at.loop-j-preserved c).After-datum_in-d U h.long) (c.datum_in-d.ensures.answer U h) l.invariant.2 c.if-k-d.false
+      (λ U h. l.invariant.3 U h ∙ same_word (arrays_of c.args.k c.args.word.now c.args.next.now) l.s
+          (due_in c.args.k c.args.word.now c.args.next.now U) U l.j c.datum_in-d.result
+          (in-data (goal.at.loop-j-preserved c).After-datum_in-d U h.long)
+          (in_words (goal.at.loop-j-preserved c).After-datum_in-d U h.long) (c.datum_in-d.ensures.answer U h)
+          l.invariant.2 c.if-k-d.false
           (c.if-word-e.false ∙ h.words l.j l.invariant.0 c.loop-j-test.true)),
     )
 

@@ -52,7 +52,8 @@ get_words-requires c =
         ap length (take_rest (part.base / 8 * q) (c.args.stream.now)),
         length-drop (part.base / 8 * q) (c.args.stream.now),
         part-holds q part.count part.base c.smaller.result (length (c.args.stream.now))
-            (omega (arith, c.requires.7, c.requires.12)) (words-in (goal.at.get_words-requires c).After-smaller) c.requires.3,
+            (omega (arith, c.requires.7, c.requires.12)) (words-in (goal.at.get_words-requires c).After-smaller)
+            c.requires.3,
       ),
       few,
     )
@@ -65,7 +66,8 @@ held : (c : After-smaller) → (M P rest : List ℕ)
     (unpacked c.args.k.q c.args.part.count (c.args.stream.now)) M c.args.part
 held c M P rest p e =
     part_held (read_by c.args.k c.args.word.now c.args.next.now) c.args.k.q c.smaller.result
-    c.args.part (c.args.stream.now) M P rest c.requires.12 c.requires.7 c.requires.4 c.requires.5 c.smaller.ensures.answer c.requires.8
+    c.args.part (c.args.stream.now) M P rest c.requires.12 c.requires.7 c.requires.4 c.requires.5
+    c.smaller.ensures.answer c.requires.8
     c.requires.9 c.requires.10 p e
 
 pub count_in-requires : goal.count_in-requires
@@ -73,7 +75,8 @@ count_in-requires c = (
   c.requires.0,
   (
     unpacked c.args.k.q c.args.part.count (c.args.stream.now),
-    held (goal.at.count_in-requires c).After-smaller _ _ _ (take_rest (c.args.part.base / 8 * c.args.k.q) (c.args.stream.now)) c.get_words.ensures.written,
+    held (goal.at.count_in-requires c).After-smaller _ _ _
+        (take_rest (c.args.part.base / 8 * c.args.k.q) (c.args.stream.now)) c.get_words.ensures.written,
   ),
   c.requires.6,
   c.requires.8,
@@ -85,5 +88,6 @@ pub returns : goal.returns
 returns c =
     record {
       answer = c.count_in.ensures.answer (unpacked c.args.k.q c.args.part.count (c.args.stream.now))
-          (held (goal.at.returns c).After-smaller _ _ _ (take_rest (c.args.part.base / 8 * c.args.k.q) (c.args.stream.now)) c.get_words.ensures.written);
+          (held (goal.at.returns c).After-smaller _ _ _
+          (take_rest (c.args.part.base / 8 * c.args.k.q) (c.args.stream.now)) c.get_words.ensures.written);
     }

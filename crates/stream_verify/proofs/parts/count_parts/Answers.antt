@@ -14,7 +14,10 @@ loop-i-init c =
     let z = zero-min c.args.count in (
       omega arith,
       c.requires.0.fits.some,
-      sym (ap (λ j. j + agreed (rows_of (arrays_of c.args.k c.args.word.now c.args.next.now)) c.args.k.ways 0 (drop j (due_in c.args.k c.args.word.now c.args.next.now (unpacked c.args.k.q c.args.count c.args.stream.now))) (drop j (unpacked c.args.k.q c.args.count c.args.stream.now))) z
+      sym (ap (λ j. j + agreed (rows_of (arrays_of c.args.k c.args.word.now c.args.next.now)) c.args.k.ways 0
+          (drop j (due_in c.args.k c.args.word.now c.args.next.now
+          (unpacked c.args.k.q c.args.count c.args.stream.now)))
+          (drop j (unpacked c.args.k.q c.args.count c.args.stream.now))) z
           ∙ zero-add _),
     )
 
@@ -43,7 +46,10 @@ pub returns-then-place-end : goal.returns-then-place-end
 returns-then-place-end c =
     let l = c.loop-i in
     record {
-      answer = part-stops (arrays_of c.args.k c.args.word.now c.args.next.now) (due_in c.args.k c.args.word.now c.args.next.now (unpacked c.args.k.q c.args.count c.args.stream.now)) (unpacked c.args.k.q c.args.count c.args.stream.now) l.s l.i c.args.count l.invariant.2 _ c.count_part-r.result
+      answer = part-stops (arrays_of c.args.k c.args.word.now c.args.next.now)
+          (due_in c.args.k c.args.word.now c.args.next.now (unpacked c.args.k.q c.args.count c.args.stream.now))
+          (unpacked c.args.k.q c.args.count c.args.stream.now) l.s l.i c.args.count l.invariant.2 _
+          c.count_part-r.result
           c.count_part-r.ensures.answer c.loop-i-test.true refl refl c.if-place-end.true;
     }
 
@@ -52,7 +58,10 @@ loop-i-preserved c =
     let l = c.loop-i in (
       omega (arith, l.invariant.0),
       c.count_part-r.ensures.answer.inside,
-      part-passes (arrays_of c.args.k c.args.word.now c.args.next.now) (due_in c.args.k c.args.word.now c.args.next.now (unpacked c.args.k.q c.args.count c.args.stream.now)) (unpacked c.args.k.q c.args.count c.args.stream.now) l.s l.i c.args.count l.invariant.2 _ c.count_part-r.result
+      part-passes (arrays_of c.args.k c.args.word.now c.args.next.now)
+          (due_in c.args.k c.args.word.now c.args.next.now (unpacked c.args.k.q c.args.count c.args.stream.now))
+          (unpacked c.args.k.q c.args.count c.args.stream.now) l.s l.i c.args.count l.invariant.2 _
+          c.count_part-r.result
           c.count_part-r.ensures.answer c.loop-i-test.true refl refl c.if-place-end.false c.smaller-end.ensures.answer,
     )
 
@@ -62,7 +71,10 @@ returns c =
     let k = c.args.k in
     let w = length-unpacked k.q c.args.count c.args.stream.now in
     record {
-      answer = all-passed (arrays_of c.args.k c.args.word.now c.args.next.now) (due_in c.args.k c.args.word.now c.args.next.now (unpacked c.args.k.q c.args.count c.args.stream.now)) (unpacked c.args.k.q c.args.count c.args.stream.now) l.s l.i c.args.count l.invariant.2 c.loop-i-test.false
-          (length-followed (rows_of (arrays_of c.args.k c.args.word.now c.args.next.now)) k.memory k.lookahead k.tail (unpacked c.args.k.q c.args.count c.args.stream.now) (omega (arith, w, c.requires.6)))
+      answer = all-passed (arrays_of c.args.k c.args.word.now c.args.next.now)
+          (due_in c.args.k c.args.word.now c.args.next.now (unpacked c.args.k.q c.args.count c.args.stream.now))
+          (unpacked c.args.k.q c.args.count c.args.stream.now) l.s l.i c.args.count l.invariant.2 c.loop-i-test.false
+          (length-followed (rows_of (arrays_of c.args.k c.args.word.now c.args.next.now)) k.memory k.lookahead k.tail
+          (unpacked c.args.k.q c.args.count c.args.stream.now) (omega (arith, w, c.requires.6)))
           (sym w);
     }

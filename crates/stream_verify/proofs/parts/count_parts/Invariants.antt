@@ -13,7 +13,8 @@ invariant-loop-i l =
     let ds = due_in l.k l.word l.next ws in
     (l.i % 8 ≡ 0) × (l.s < l.k.states)
     × (come_back l.k l.word l.next ws ≡ min l.i l.count
-    + agreed (rows_of (arrays_of l.k l.word l.next)) l.k.ways l.s (drop (min l.i l.count) ds) (drop (min l.i l.count) ws))
+    + agreed (rows_of (arrays_of l.k l.word l.next)) l.k.ways l.s (drop (min l.i l.count) ds)
+    (drop (min l.i l.count) ws))
 
 abbrev pub decreases-loop-i : goal.decreases-loop-i
 decreases-loop-i l = l.count - l.i

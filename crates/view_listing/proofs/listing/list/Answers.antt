@@ -8,5 +8,6 @@ use Rattle.view_listing.proofs.listing.list.Goals as goal
 pub returns : goal.returns
 returns c =
     let short = listing-most _ (ready-small _ c.requires) in
-    let w = fill-same c.args.out.now (added-whole c.put_listing-end.ensures.written short).0 (c.fill.ensures.answer, c.fill.ensures.written) in
+    let w = fill-same c.args.out.now (added-whole c.put_listing-end.ensures.written short).0
+    (c.fill.ensures.answer, c.fill.ensures.written) in
     record { answer = w.0; written = w.1 }

@@ -5,4 +5,7 @@ use Rattle.view_listing.proofs.listing.put_entry.Goals as goal
 
 pub returns : goal.returns
 unfolding entry
-returns c = record { written = c.put_sentence-word.ensures.written then c.put_word-next.ensures.written then c.put_sentence.ensures.written }
+returns c = record {
+  written = c.put_sentence-word.ensures.written then c.put_word-next.ensures.written
+      then c.put_sentence.ensures.written;
+}

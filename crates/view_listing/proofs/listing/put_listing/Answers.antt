@@ -4,4 +4,7 @@ use Rattle.view_listing.proofs.Listings.{listing-is}
 use Rattle.view_listing.proofs.listing.put_listing.Goals as goal
 
 pub returns : goal.returns
-returns c = record { written = added-same (listing-is _ _ c.ways.ensures.answer.0) (c.put_sentence-first.ensures.written then c.put_entries.ensures.written) }
+returns c = record {
+  written = added-same (listing-is _ _ c.ways.ensures.answer.0)
+      (c.put_sentence-first.ensures.written then c.put_entries.ensures.written);
+}

@@ -10,4 +10,7 @@ returns c =
     let from = c.line_start-from in
     let text = c.args.text.now in
     let long : to.result - from.result ≡ line_end (drop from.result text) = omega (arith, to.ensures.answer.0) in
-    record { answer = ap (λ k. take k (drop from.result text)) long ∙ ap (λ ys. take (line_end ys) ys) from.ensures.answer.0 }
+    record {
+      answer = ap (λ k. take k (drop from.result text)) long
+          ∙ ap (λ ys. take (line_end ys) ys) from.ensures.answer.0;
+    }

@@ -28,7 +28,10 @@ returns c =
     let l = c.loop-i in
     let a = c.args.a in
     let b = c.args.b in
-    record { answer = all-passed (λ j. alike (next_states_at a j) (next_states_at b j)) a.states l.i (omega arith) l.invariant.2 }
+    record {
+      answer = all-passed (λ j. alike (next_states_at a j) (next_states_at b j)) a.states l.i (omega arith)
+          l.invariant.2;
+    }
 
 pub loop-i-init : goal.loop-i-init
 loop-i-init c = (omega arith, omega arith, λ i h. absurd (not-suc-le-zero h))

@@ -8,7 +8,8 @@ use Rattle.view_show.proofs.limits.is_same.Given as goal
 
 abbrev pub invariant-loop-i : goal.invariant-loop-i
 invariant-loop-i l =
-    (l.i ≤ l.a.states) × (l.a.states ≤ 16) × ((j : ℕ) → j < l.i → T (alike (next_states_at l.a j) (next_states_at l.b j)))
+    (l.i ≤ l.a.states) × (l.a.states ≤ 16) × ((j : ℕ) → j < l.i
+    → T (alike (next_states_at l.a j) (next_states_at l.b j)))
 
 abbrev pub decreases-loop-i : goal.decreases-loop-i
 decreases-loop-i l = l.a.states - l.i

@@ -8,7 +8,8 @@ use Rattle.view_show.proofs.limits.put_states.Given as goal
 
 abbrev pub invariant-loop-s : goal.invariant-loop-s
 invariant-loop-s l =
-    (l.s ≤ l.c.states) × (l.c.states ≤ 16) × Added (states_to (constraint_of l.c) l.s) l.initial.at l.initial.out l.out l.at
+    (l.s ≤ l.c.states) × (l.c.states ≤ 16) × Added (states_to (constraint_of l.c) l.s) l.initial.at l.initial.out l.out
+    l.at
 
 abbrev pub decreases-loop-s : goal.decreases-loop-s
 decreases-loop-s l = l.c.states - l.s

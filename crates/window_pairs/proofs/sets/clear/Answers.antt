@@ -12,7 +12,13 @@ pub returns : goal.returns
 returns c =
     let l = c.loop-z in
     let f = l.invariant.1 in
-    record { written = (f.long, λ x y h. cleared l.out x (f.holds (2 * x) (omega arith)) (f.holds (2 * x + 1) (omega arith)) y) }
+    record {
+      written = (
+        f.long,
+        λ x y h. cleared l.out x (f.holds (2 * x) (omega arith))
+            (f.holds (2 * x + 1) (omega arith)) y,
+      );
+    }
 
 pub loop-z-init : goal.loop-z-init
 loop-z-init c = (omega arith, record { long = c.requires.1; holds = λ j l. absurd (omega arith) })

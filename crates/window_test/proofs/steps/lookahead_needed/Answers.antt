@@ -15,15 +15,18 @@ use Rattle.window_test.proofs.steps.lookahead_needed.Goals as goal
 -- the answer of the test for none
 emptied : (c : After-is_empty)
     → let l = c.loop-states in
-    c.is_empty.result ≡ empty (rows_of (arrays c.args.states c.args.n c.args.word.now c.args.next.now)) (pairs_in c.args.states l.set)
+    c.is_empty.result ≡ empty (rows_of (arrays c.args.states c.args.n c.args.word.now c.args.next.now))
+    (pairs_in c.args.states l.set)
 emptied c =
     c.is_empty.ensures.answer
-    ∙ empty_of (rows_of (arrays c.args.states c.args.n c.args.word.now c.args.next.now)) c.args.states (length-rows (arrays c.args.states c.args.n c.args.word.now c.args.next.now)) c.loop-states.set
+    ∙ empty_of (rows_of (arrays c.args.states c.args.n c.args.word.now c.args.next.now)) c.args.states
+    (length-rows (arrays c.args.states c.args.n c.args.word.now c.args.next.now)) c.loop-states.set
 
 -- one step forward
 stepped : (c : After-replace)
     → pairs_in c.args.states c.replace.new.out
-    ≡ into (reversed (rows_of (arrays c.args.states c.args.n c.args.word.now c.args.next.now))) (pairs_in c.args.states c.loop-states.set)
+    ≡ into (reversed (rows_of (arrays c.args.states c.args.n c.args.word.now c.args.next.now)))
+    (pairs_in c.args.states c.loop-states.set)
 stepped c = c.replace.ensures.written.1 ∙ c.forward.ensures.written.1
 
 pub loop-states-init : goal.loop-states-init
@@ -32,12 +35,20 @@ loop-states-init c = (stepped_start _ _ _ _ _ refl, c.requires.2, c.requires.3)
 pub returns-then-is_empty : goal.returns-then-is_empty
 returns-then-is_empty c =
     let l = c.loop-states in
-    record { answer = stepped-stop _ _ _ _ l.set l.k l.invariant.0 (sym (emptied (goal.at.returns-then-is_empty c).After-is_empty) ∙ c.if-is_empty.true); kept = (l.invariant.1, l.invariant.2) }
+    record {
+      answer = stepped-stop _ _ _ _ l.set l.k l.invariant.0
+          (sym (emptied (goal.at.returns-then-is_empty c).After-is_empty) ∙ c.if-is_empty.true);
+      kept = (l.invariant.1, l.invariant.2);
+    }
 
 pub returns-then-k-most : goal.returns-then-k-most
 returns-then-k-most c =
     let l = c.loop-states in
-    record { answer = stepped-end _ _ _ _ l.set l.k l.invariant.0 c.if-k-most.true (sym (emptied (goal.at.returns-then-k-most c).After-is_empty) ∙ c.if-is_empty.false); kept = (l.invariant.1, l.invariant.2) }
+    record {
+      answer = stepped-end _ _ _ _ l.set l.k l.invariant.0 c.if-k-most.true
+          (sym (emptied (goal.at.returns-then-k-most c).After-is_empty) ∙ c.if-is_empty.false);
+      kept = (l.invariant.1, l.invariant.2);
+    }
 
 pub forward-requires : goal.forward-requires
 forward-requires c =
@@ -51,7 +62,8 @@ pub returns-then-replace : goal.returns-then-replace
 returns-then-replace c =
     let l = c.loop-states in
     record {
-      answer = stepped-rest _ _ _ _ l.set l.k _ l.invariant.0 (sym (emptied (goal.at.returns-then-replace c).After-is_empty) ∙ c.if-is_empty.false)
+      answer = stepped-rest _ _ _ _ l.set l.k _ l.invariant.0
+          (sym (emptied (goal.at.returns-then-replace c).After-is_empty) ∙ c.if-is_empty.false)
           (stepped (goal.at.returns-then-replace c).After-replace)
           (replaced _ _ _ _ _ c.replace.ensures.answer c.replace.ensures.written.1 c.if-replace.true);
       kept = (c.replace.ensures.written.0, c.forward.ensures.written.0);
@@ -61,7 +73,8 @@ pub loop-states-preserved : goal.loop-states-preserved
 loop-states-preserved c =
     let l = c.loop-states in (
       stepped-more _ _ _ _ l.set l.k _ l.invariant.0 c.if-k-most.false
-          (sym (emptied (goal.at.loop-states-preserved c).After-is_empty) ∙ c.if-is_empty.false) (stepped (goal.at.loop-states-preserved c).After-replace),
+          (sym (emptied (goal.at.loop-states-preserved c).After-is_empty) ∙ c.if-is_empty.false)
+          (stepped (goal.at.loop-states-preserved c).After-replace),
       c.replace.ensures.written.0,
       c.forward.ensures.written.0,
     )

@@ -7,7 +7,8 @@ use Rattle.window_test.proofs.steps.lookahead_needed.Given as goal
 
 abbrev pub invariant-loop-states : goal.invariant-loop-states
 invariant-loop-states l =
-    Stepped (rows_of (arrays l.states l.n l.word l.next)) l.states (pairs_in l.states l.initial.set) l.most l.set l.k × Long l.set × Long l.spare
+    Stepped (rows_of (arrays l.states l.n l.word l.next)) l.states (pairs_in l.states l.initial.set) l.most l.set l.k
+    × Long l.set × Long l.spare
 
 abbrev pub decreases-loop-states : goal.decreases-loop-states
 decreases-loop-states l = l.most - l.k
