@@ -63,14 +63,17 @@ fn store_aside<R: Files>(rt: &R, path: &[u8], bytes: &[u8]) -> Stored
     store_by(rt, &mut name[..n], path, bytes)
 }
 
-// Whether a name, unless it is empty, leads to the file of this path.
+// Whether a name, unless it is empty, leads to the file of this path, which is text; true where the system does not say
+// it.
 fn leads_to<R: Files + Alloc>(rt: &R, name: &[u8], path: &[u8]) -> bool {
     if name.len() == 0 {
         return false;
     }
     let mut real = io::buffer();
-    let n = real_name(rt, name, &mut real);
-    is_same(&real[..n], path)
+    match real_name(rt, name, &mut real) {
+        Ok(n) => is_same(&real[..n], path),
+        Err(e) => e.kind() != ErrorKind::InvalidFilename,
+    }
 }
 
 // Writes the file of this path, which is there, in place of its bytes.
@@ -92,7 +95,8 @@ fn replace<R: Files + Alloc>(
     store_aside(rt, path, bytes)
 }
 
-// Writes the file of this name in place of its bytes. A link is followed to the file.
+// Writes the file of this name in place of its bytes. A link is followed to the file; where the system does not say its
+// path, the file is left as it is.
 fn store_over<R: Files + Alloc>(
     rt: &R,
     name: &[u8],
@@ -103,11 +107,10 @@ fn store_over<R: Files + Alloc>(
     ensures answer { Held result bytes.now }
 {
     let mut path = io::buffer();
-    let n = path_of(rt, name, &mut path);
-    if n == 0 {
-        return replace(rt, name, first, second, bytes);
+    match path_of(rt, name, &mut path) {
+        Ok(n) => replace(rt, &path[..n], first, second, bytes),
+        Err(e) => Stored::Unwritten(e),
     }
-    replace(rt, &path[..n], first, second, bytes)
 }
 
 // Writes the file of this name, in place of one that is there, unless it is the first or the second file that the bytes

@@ -1,4 +1,5 @@
 // Files by name: opened, and the path that a name leads to.
+ghost use Rattle.std.specs.Prelude.{IfOk};
 ghost use Rattle.io.specs.Counts.{IsPrefixLen};
 
 use std::fs::{OpenOptions, canonicalize};
@@ -14,18 +15,13 @@ pub fn named(name: &[u8]) -> Result<&str, Error> {
     }
 }
 
-// The path of the file of this name, by any way to it, at the start of the lent bytes; 0 where the system does not say
-// it.
-pub fn path_of<R: Files + Alloc>(rt: &R, name: &[u8], out: &mut [u8]) -> usize
-    ensures past { IsPrefixLen result out.new }
+// The path of the file of this name, by any way to it, at the start of the lent bytes.
+pub fn path_of<R: Files + Alloc>(rt: &R, name: &[u8], out: &mut [u8]) -> Result<usize, Error>
+    ensures past { IfOk result (λ n. IsPrefixLen n out.new) }
 {
-    match named(name) {
-        Ok(text) => match canonicalize(rt, text) {
-            Ok(path) => put(out, 0, path.as_str().as_bytes()),
-            Err(_) => 0,
-        },
-        Err(_) => 0,
-    }
+    let text = named(name)?;
+    let path = canonicalize(rt, text)?;
+    Ok(put(out, 0, path.as_str().as_bytes()))
 }
 
 // Opens the file of this name, which is there, to read and to write it; its bytes stay.
@@ -42,17 +38,11 @@ pub fn open_append<R: Files>(rt: &R, name: &[u8]) -> Result<R::File, Error> {
 
 // The path of the file of this name, by any way to it, at the start of the lent bytes; the name itself where it
 // cannot be opened.
-pub fn real_name<R: Files + Alloc>(rt: &R, name: &[u8], out: &mut [u8]) -> usize
-    ensures past { IsPrefixLen result out.new }
+pub fn real_name<R: Files + Alloc>(rt: &R, name: &[u8], out: &mut [u8]) -> Result<usize, Error>
+    ensures past { IfOk result (λ n. IsPrefixLen n out.new) }
 {
     match open_update(rt, name) {
-        Ok(_) => {
-            let n = path_of(rt, name, out);
-            if n == 0 {
-                return put(out, 0, name);
-            }
-            n
-        }
-        Err(_) => put(out, 0, name),
+        Ok(_) => path_of(rt, name, out),
+        Err(_) => Ok(put(out, 0, name)),
     }
 }
