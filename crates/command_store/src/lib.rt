@@ -63,8 +63,8 @@ fn store_aside<R: Files>(rt: &R, path: &[u8], bytes: &[u8]) -> Stored
     store_by(rt, &mut name[..n], path, bytes)
 }
 
-// Whether a name, unless it is empty, leads to the file of this path, which is text; true where the system does not say
-// it.
+// Whether a name, unless it is empty, leads to the file of this path; true where there is no memory to tell. What the
+// system has no path for (a pipe) is no such file.
 fn leads_to<R: Files + Alloc>(rt: &R, name: &[u8], path: &[u8]) -> bool {
     if name.len() == 0 {
         return false;
@@ -72,7 +72,7 @@ fn leads_to<R: Files + Alloc>(rt: &R, name: &[u8], path: &[u8]) -> bool {
     let mut real = io::buffer();
     match real_name(rt, name, &mut real) {
         Ok(n) => is_same(&real[..n], path),
-        Err(e) => e.kind() != ErrorKind::InvalidFilename,
+        Err(e) => e.kind() == ErrorKind::OutOfMemory,
     }
 }
 
