@@ -1,6 +1,6 @@
 -- Laws of the check of refusal 11.
 -- In order: bad-here, bad-later, bad-end, the first bad byte from a place on; bad-le; first_bad-below, below-first_bad;
--- all-below; below-bad, below-done, bad-found, none-bad, all_below-true, all_below→.
+-- below-bad, below-done, all_below-true, all_below→.
 -- Assumes nothing.
 use Rattle.std.proofs.Common.{◌≡◌, ◌∷◌, ◌+◌, ◌≤◌, ◌<◌, if◌then◌else◌}
 use Rattle.laws.proofs.All.{refl, sym, ap, ◌∙◌, Bool, true, false, List, [], ℕ, suc, add-one}
@@ -44,14 +44,6 @@ below-first_bad n (x ∷ xs) e = go (ltb x n) refl e (λ e'. below-first_bad n x
     go true t e f = (ltb→lt x n (rw t tt), f (omega arith))
     go false t e f = absurd (omega arith)
 
--- ---- as the code finds it: the bound m and the first bad byte k, computed
-module _ (n : ℕ) (xs : List ℕ) (m k : ℕ) (e : m ≡ n) (f : k ≡ first_bad m xs) where
-  found : first_bad n xs ≡ k
-  found = sym (f ∙ ap (λ x. first_bad x xs) e)
-
-  pub all-below : length xs ≤ k → Below n xs
-  all-below h = below-first_bad n xs (omega (arith, bad-le n xs, found))
-
 -- ---- the check
 module _ (n : ℕ) (xs result : List ℕ) where
   pub below-bad : first_bad n xs < length xs → all_below n xs result ≡ refused (BadByte (first_bad n xs))
@@ -61,14 +53,6 @@ module _ (n : ℕ) (xs result : List ℕ) where
 
   pub below-done : first_bad n xs ≡ length xs → all_below n xs result ≡ done result
   below-done e = ap (λ b. unless (BadByte (first_bad n xs)) b (done result)) (eq-eqb (first_bad n xs) (length xs) e)
-
-  module _ (m k : ℕ) (e : m ≡ n) (f : k ≡ first_bad m xs) where
-    pub bad-found : k < length xs → all_below n xs result ≡ refused (BadByte k)
-    bad-found h =
-        let q = found n xs m k e f in below-bad (rw q h) ∙ ap (λ x. refused (BadByte x)) q
-
-    pub none-bad : length xs ≤ k → all_below n xs result ≡ done result
-    none-bad h = below-done (omega (arith, bad-le n xs, found n xs m k e f))
 
   pub all_below-true : Below n xs → all_below n xs result ≡ done result
   all_below-true b =

@@ -1,14 +1,14 @@
 -- Laws of outcomes: what a finished result says of the checks before it.
--- In order: done_inj, refused-not; unless-true, unless-false, unless→; onward→; said-good, said-bad; fitting-true,
+-- In order: done_inj, refused-not; unless-true, unless-false, unless→; onward→; said-good, said-bad; handed_on; fitting-true,
 -- fitting→.
 -- Assumes nothing.
-use Rattle.std.proofs.Common.{◌≡◌, ◌≤◌}
+use Rattle.std.proofs.Common.{Result, Ok, Err}
+use Rattle.std.proofs.Common.{◌≡◌, ◌≤◌, IsErrAnd}
+use Rattle.std.proofs.lemmas.Result.{err_from_is_err_and}
 use Rattle.laws.proofs.All.{refl, sym, ap, subst, ◌∙◌, Bool, true, false, List, ℕ, T, leb, leb→le, le→leb}
 use Rattle.laws.proofs.All.{length}
 use Rattle.answer.specs.declared.Refusal.{Refusal}
 use Rattle.answer.specs.declared.Refusal.TheVariants.{ShortOutput}
-use Rattle.answer.specs.declared.Verdict.{Verdict}
-use Rattle.answer.specs.declared.Verdict.TheVariants.{Good, Bad}
 use Rattle.answer.specs.Outcomes.{Outcome, done, refused, unless, onward, verdict_on, fitting}
 
 -- the result, or the one given
@@ -48,13 +48,17 @@ pub onward→ : {A B : Type 0} (a : Outcome A) (f : A → Outcome B) (y : B) →
 onward→ (done x) f y e = (x, refl, e)
 onward→ (refused r) f y e = absurd (refused-not r y e)
 
--- ---- what a check said
-module _ {A : Type 0} (v : Verdict) (a : A) (o : Outcome A) (e : verdict_on v a ≡ o) where
-  pub said-good : v ≡ Good → o ≡ done a
+-- ---- what a check said, and the exit of a `?`
+module _ {A : Type 0} (v : Result Unit Refusal) (a : A) (o : Outcome A) (e : verdict_on v a ≡ o) where
+  pub said-good : v ≡ Ok tt → o ≡ done a
   said-good q = sym e ∙ ap (λ v. verdict_on v a) q
 
-  pub said-bad : (r : Refusal) → v ≡ Bad r → o ≡ refused r
+  pub said-bad : (r : Refusal) → v ≡ Err r → o ≡ refused r
   said-bad r q = sym e ∙ ap (λ v. verdict_on v a) q
+
+-- the refusal of a `?` is what the function answers
+pub handed_on : {A : Type 0} (r : Result A Refusal) (x : Refusal) → IsErrAnd r (λ y. y ≡ x) → r ≡ Err x
+handed_on r x h = let (y, e, q) = err_from_is_err_and r h in e ∙ ap Err q
 
 -- ---- the check of the room
 pub fitting-true : (room : ℕ) (xs : List ℕ) → length xs ≤ room → fitting room xs ≡ done xs

@@ -47,72 +47,60 @@ pub enum Refusal {
     BadWeights,
 }
 
-// What a check says of a value that stands beside it: the value is good, or why it is declined.
-#[derive(Clone, Copy)]
-pub enum Verdict {
-    Good,
-    Bad(Refusal),
-}
-
-// The answer of a call that writes bytes: how many it wrote, or why it declines.
-#[derive(Clone, Copy)]
-pub enum Answer {
-    Done(usize),
-    Refused(Refusal),
-}
-
-// The number of a refusal.
-pub fn refusal_number(r: Refusal) -> u64
-    ensures answer { result ≡ number_of r }
-{
-    match r {
-        Refusal::Parameters => 1,
-        Refusal::States => 2,
-        Refusal::NoCode => 3,
-        Refusal::TooHeavy => 4,
-        Refusal::TooManyEdges => 5,
-        Refusal::NoWindow => 6,
-        Refusal::Field => 7,
-        Refusal::Length => 8,
-        Refusal::Disobeys => 9,
-        Refusal::WindowFails => 10,
-        Refusal::BadByte(_) => 11,
-        Refusal::TooFewWords => 12,
-        Refusal::ShortOutput => 13,
-        Refusal::TooManyPairs => 14,
-        Refusal::Stream => 15,
-        Refusal::Depth => 16,
-        Refusal::BadWeights => 17,
+impl Refusal {
+    // The number of the refusal.
+    pub fn number(self) -> u64
+        ensures answer { result ≡ number_of self }
+    {
+        match self {
+            Refusal::Parameters => 1,
+            Refusal::States => 2,
+            Refusal::NoCode => 3,
+            Refusal::TooHeavy => 4,
+            Refusal::TooManyEdges => 5,
+            Refusal::NoWindow => 6,
+            Refusal::Field => 7,
+            Refusal::Length => 8,
+            Refusal::Disobeys => 9,
+            Refusal::WindowFails => 10,
+            Refusal::BadByte(_) => 11,
+            Refusal::TooFewWords => 12,
+            Refusal::ShortOutput => 13,
+            Refusal::TooManyPairs => 14,
+            Refusal::Stream => 15,
+            Refusal::Depth => 16,
+            Refusal::BadWeights => 17,
+        }
     }
-}
 
-// The place that a refusal names: of the first bad byte for 11, and 0 for the others.
-pub fn refusal_place(r: Refusal) -> usize
-    ensures answer { result ≡ place_of r }
-{
-    if let Refusal::BadByte(place) = r {
-        place
-    } else {
-        0
+    // The place that the refusal names: of the first bad byte for 11, and 0 for the others.
+    pub fn place(self) -> usize
+        ensures answer { result ≡ place_of self }
+    {
+        if let Refusal::BadByte(place) = self {
+            place
+        } else {
+            0
+        }
     }
 }
 
 // The number of an answer: 0 for a result, otherwise its refusal's.
-pub fn answer_number(a: Answer) -> u64
-    ensures answer { result ≡ answer_number a }
+pub fn answer_number(answer: Result<usize, Refusal>) -> u64
+    ensures answer { result ≡ answer_number answer }
 {
-    match a {
-        Answer::Done(_) => 0,
-        Answer::Refused(r) => refusal_number(r),
+    match answer {
+        Ok(_) => 0,
+        Err(refusal) => refusal.number(),
     }
 }
 
 // The value of an answer: the bytes written for a result, otherwise the place that its refusal names.
-pub fn answer_value(a: Answer) -> usize
-    ensures answer { result ≡ answer_value a }
+pub fn answer_value(answer: Result<usize, Refusal>) -> usize
+    ensures answer { result ≡ answer_value answer }
 {
-    match a {
-        Answer::Done(count) => count,
-        Answer::Refused(r) => refusal_place(r),
+    match answer {
+        Ok(count) => count,
+        Err(refusal) => refusal.place(),
     }
 }

@@ -4,5 +4,4 @@ pub mod Rising
 pub mod Words
 pub mod Members
 pub mod Sets
-pub mod Puts
 pub mod StateSets

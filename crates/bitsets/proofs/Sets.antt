@@ -1,8 +1,11 @@
 -- Sets by their states, their members in order, and the lists of yes and no that they stand for.
 -- In order: any-members→, →any-members, meeting→, →meeting, tests over sets; yes-member, yes-length, yes-same;
--- set-none; members-rising, members-find, members-hold.
+-- set-none; members-rising, members-find, members-hold; alike, same-sets, lists of sets compared.
 -- Assumes nothing.
-use Rattle.std.proofs.Common.{◌≡◌, ◌&&◌, ◌<◌}
+use Rattle.std.proofs.Common.{◌≡◌, ◌&&◌, ◌<◌, List, true, rules, refl, ap₂}
+use lib.Pointwise.{pointwise, pointwise_decides}
+use Rattle.std.proofs.Common.{IsTrue, ◌↔◌}
+use Rattle.laws.proofs.All.{eqb, eqb-true, eq-eqb}
 use Rattle.laws.proofs.All.{Bool, false, map, ℕ, T, length, get_or, range, any, member, any-below→}
 use Rattle.laws.proofs.All.{→any-below, and→, →and, map-range-at, length-map-range, map-range-same}
 use Rattle.bitsets.specs.declared.BitSet.{BitSet}
@@ -59,3 +62,22 @@ members-find s = places-find 128 (value_of s)
 pub members-hold : (s : BitSet) (j : ℕ) → j < length (members_of s)
     → (get_or (members_of s) j 0 < 128) × T (holds s (get_or (members_of s) j 0))
 members-hold s = places-hold 128 (value_of s)
+
+-- ---- lists of sets, compared
+-- the words are the same
+abbrev pub alike : BitSet → BitSet → Bool
+alike s t = eqb s.low t.low && eqb s.high t.high
+
+alike→ : (s t : BitSet) → alike s t ≡ true → s ≡ t
+alike→ s t h = ap₂ set_of (eqb-true s.low t.low (both.0)) (eqb-true s.high t.high (both.1))
+  where
+    both : (eqb s.low t.low ≡ true) × (eqb s.high t.high ≡ true)
+    both = search rules
+
+→alike : (s t : BitSet) → s ≡ t → alike s t ≡ true
+→alike s t e = rw e (ap₂ (λ a b. a && b) (eq-eqb t.low t.low refl) (eq-eqb t.high t.high refl))
+
+pub same-sets : (xs ys : List BitSet) (b : Bool) → b ≡ pointwise alike xs ys → IsTrue b ↔ (xs ≡ ys)
+same-sets xs ys b e =
+    let d = pointwise_decides (λ s t. (alike→ s t, →alike s t)) xs ys in
+    rw e (λ t. d.0 t, λ q. d.1 q)

@@ -1,8 +1,8 @@
 -- Sets of two words: laws of the number that the words make.
--- In order: words_count, words-empty; first-low, first-high; rest-low, rest-high, some-high; with-low, with-high.
+-- In order: words_count, words-empty; first-low, first-high; pop-low, pop-high, pop-none; with-low, with-high.
 -- Assumes nothing.
-use Rattle.std.proofs.Common.{◌≡◌, ◌⊎◌, ◌&&◌, ◌+◌, ◌-◌, ◌*◌, ◌/◌, ◌%◌, ◌^◌, ◌<◌}
-use Rattle.laws.proofs.All.{refl, sym, ap, ap₂, ◌∙◌, subst, inl, inr, ℕ, zero, suc}
+use Rattle.std.proofs.Common.{◌≡◌, ◌⊎◌, ◌&&◌, ◌∷◌, ◌+◌, ◌-◌, ◌*◌, ◌/◌, ◌%◌, ◌^◌, ◌<◌}
+use Rattle.laws.proofs.All.{refl, sym, ap, ap₂, ◌∙◌, subst, inl, inr, List, [], ℕ, zero, suc, Each}
 use Rattle.laws.proofs.All.{add-zero, zero-add, suc-add, add_comm, mul_comm, one-mul, mod-eq_of_lt}
 use Rattle.laws.proofs.All.{arith, eq-eqb, ne_eqb, digits_lt, bit_and, bit_or, T, eqb, eqb→eq, lit<, length, get_or}
 use Rattle.laws.proofs.All.{drop}
@@ -10,11 +10,11 @@ use Rattle.laws.proofs.All.{pow-add, pow_pos, shl_exact, shr_lt, bool_eq}
 use native.Mathlib.Nat.{eq-zero-or-pos, mul-one}
 use lib.Arith.{lt-one}
 use lib.Bits.{and_block, and_self, and_zero_l, or_block, or_zero_r, block_odd, block_half, shifted_even, shifted_half}
-use lib.Count.{ones, ones_step, ones_cat, count_trailing_zeros, under}
+use lib.Count.{ones, ones_step, ones_cat, count_trailing_zeros, under, trailing_le}
 use lib.Pow.{pow-lt, ones_lt}
 use Rattle.bitsets.specs.BitSets.{places_of}
 use Rattle.bitsets.proofs.Digits.{bit}
-use Rattle.bitsets.proofs.Places.{places-ones, places-first, places-rest}
+use Rattle.bitsets.proofs.Places.{places-ones, places-first, places-rest, places-below, head-cons}
 
 half : (d n : ℕ) → n < 2 ^ suc d → n / 2 < 2 ^ d
 half d n h = let e : suc d ≡ d + 1 = omega arith in shr_lt d 1 (subst (λ (x : ℕ). n < 2 ^ x) e h)
@@ -93,6 +93,21 @@ first-high h l z =
     places-first 128 (h * 2 ^ 64 + l) ∙ ap (count_trailing_zeros 128) (ap (λ x. h * 2 ^ 64 + x) z ∙ add-zero _)
     ∙ tz-shifted 64 64 h
 
+-- ---- the ends of a list
+get_or-in : (d : ℕ) (l : List ℕ) → Each (λ i. i < d) l → 0 < length l → get_or l 0 d < d
+get_or-in d [] e h = absurd (omega arith)
+get_or-in d (x ∷ l) (a, e) h = a
+
+none-of : (l : List ℕ) → length l ≡ 0 → l ≡ []
+none-of [] e = refl
+none-of (x ∷ l) e = absurd (omega arith)
+
+-- a word that is not 0 has a bit
+trailing_lt : (n : ℕ) → 0 < n → n < 2 ^ 64 → count_trailing_zeros 64 n < 64
+trailing_lt n p q =
+    let k : 0 < length (places_of 64 n) = omega (arith, places-ones 64 n ∙ ap ones (mod-eq_of_lt q), ones_pos n q p) in
+    subst (λ (x : ℕ). x < 64) (places-first 64 n) (get_or-in 64 (places_of 64 n) (places-below 64 n) k)
+
 -- ---- without the lowest
 module _ (d : ℕ) where
   pub rest-low : (h l : ℕ) → 0 < l → l < 2 ^ 64
@@ -114,16 +129,27 @@ module _ (d : ℕ) where
       ∙ sym (and_block 64 h (h - 1) 0 (2 ^ 64 - 1) (pow_pos 64) (ones_lt 64)) ∙ ap (bit_and n) (sym m))
       ∙ places-rest d n (omega arith) ∙ ap (λ x. drop 1 (places_of d (h * 2 ^ 64 + x))) (sym z)
 
--- a set that is not empty, and has no bit in its low word, has one in its high word
-pub some-high : (h l : ℕ) → l ≡ 0 → 0 < length (places_of 128 (h * 2 ^ 64 + l)) → 0 < h
-some-high h l z k = go (eq-zero-or-pos h)
-  where
-    go : (h ≡ 0) ⊎ (0 < h) → 0 < h
-    go (inl e) =
-        let n : length (places_of 128 (h * 2 ^ 64 + l)) ≡ 0 =
-        ap₂ (λ x y. length (places_of 128 (x * 2 ^ 64 + y))) e z ∙ places-ones 128 0 ∙ ones_none in
-        absurd (omega arith)
-    go (inr q) = q
+-- ---- the lowest and the others
+pub pop-low : (h l : ℕ) → 0 < l → l < 2 ^ 64
+    → places_of 128 (h * 2 ^ 64 + l)
+    ≡ count_trailing_zeros 64 l ∷ places_of 128 (h * 2 ^ 64 + bit_and l (l - 1))
+pop-low h l p q =
+    let xs = places_of 128 (h * 2 ^ 64 + l) in
+    head-cons 128 xs (omega (arith, first-low h l p q, trailing_le 64 l))
+    ∙ ap₂ (λ x ys. x ∷ ys) (first-low h l p q) (sym (rest-low 128 h l p q))
+
+pub pop-high : (h l : ℕ) → 0 < h → h < 2 ^ 64 → l ≡ 0
+    → places_of 128 (h * 2 ^ 64 + l)
+    ≡ (64 + count_trailing_zeros 64 h) ∷ places_of 128 (bit_and h (h - 1) * 2 ^ 64 + l)
+pop-high h l p q z =
+    let xs = places_of 128 (h * 2 ^ 64 + l) in
+    head-cons 128 xs (omega (arith, first-high h l z, trailing_lt h p q))
+    ∙ ap₂ (λ x ys. x ∷ ys) (first-high h l z)
+    (sym (ap (λ x. places_of 128 (bit_and h (h - 1) * 2 ^ 64 + x)) z ∙ rest-high 128 h l p z))
+
+pub pop-none : (h l : ℕ) → h ≡ 0 → l ≡ 0 → places_of 128 (h * 2 ^ 64 + l) ≡ []
+pop-none h l y z =
+    none-of _ (ap₂ (λ a b. length (places_of 128 (a * 2 ^ 64 + b))) y z ∙ places-ones 128 0 ∙ ones_none)
 
 -- ---- one bit put in, in either word
 pub with-low : (hi lo i : ℕ) → i < 64 → lo < 2 ^ 64

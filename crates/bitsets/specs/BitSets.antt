@@ -1,9 +1,8 @@
 -- Sets of states in two machine words, one bit for each of 128 states, and the lists that they stand for.
--- In order: bit_at, places_of, the bits of a number; value_of; holds, members_of, yes_no, meeting; set_of, set_at,
--- Put, sets
--- in an array, two words each.
+-- In order: bit_at, places_of, the bits of a number; value_of; holds, members_of, yes_no, meeting; set_of; set_at, a set
+-- of an array.
 -- Assumes nothing.
-use Rattle.std.specs.Prelude.{◌≡◌, Bool, ◌&&◌, List, map, ℕ, ◌+◌, ◌*◌, ◌/◌, ◌%◌, ◌^◌, eqb, length, get_or}
+use Rattle.std.specs.Prelude.{Bool, ◌&&◌, List, map, ℕ, ◌+◌, ◌*◌, ◌/◌, ◌%◌, ◌^◌, eqb, slice_index_or}
 use Rattle.laws.specs.Lists.{range, filter, any}
 use Rattle.bitsets.specs.declared.BitSet.{BitSet}
 
@@ -39,12 +38,6 @@ meeting d r s = any (λ i. holds r i && holds s i) (range d)
 abbrev pub set_of : ℕ → ℕ → BitSet
 set_of l h = record { low = l; high = h }
 
--- set k of an array of sets, two words each
-abbrev pub set_at : List ℕ → ℕ → BitSet
-set_at A k = set_of (get_or A (2 * k) 0) (get_or A (2 * k + 1) 0)
-
--- the array B is A with s as set k
-pub record Put (A : List ℕ) (k : ℕ) (s : BitSet) (B : List ℕ) : Type 0 where
-  pub long : length B ≡ length A
-  pub here : set_at B k ≡ s
-  pub others : (v : ℕ) → (v ≡ k → ⊥) → set_at B v ≡ set_at A v
+-- set k of an array of sets
+abbrev pub set_at : List BitSet → ℕ → BitSet
+set_at A k = slice_index_or A k (set_of 0 0)

@@ -24,10 +24,7 @@ pub struct Case {
 fn byte(bytes: &[u8], at: usize) -> usize
     ensures past { result < 256 }
 {
-    if at < bytes.len() {
-        return bytes[at] as usize;
-    }
-    0
+    bytes.get(at).map_or(0, |byte| *byte as usize)
 }
 
 // The number of two bytes at a place.
@@ -51,13 +48,13 @@ pub fn case_at(bytes: &[u8], at: usize) -> Case
     Case {
         kind: byte(bytes, at),
         room: two(bytes, at + 1),
-        first: first,
-        behind: behind,
-        second: second,
-        told: told,
+        first,
+        behind,
+        second,
+        told,
         refusal: byte(bytes, told),
         value: two(bytes, told + 1) * 65536 + two(bytes, told + 3),
-        output: output,
+        output,
         end: output + two(bytes, told + 5),
     }
 }
@@ -67,11 +64,5 @@ pub fn is_case(bytes: &[u8], c: Case) -> bool
     requires { Placed c }
     ensures answer { result ≡ true → Whole bytes.now c }
 {
-    if c.kind == 0 {
-        return false;
-    }
-    if 24 <= c.kind {
-        return false;
-    }
-    c.end <= bytes.len()
+    (1..24).contains(&c.kind) && c.end <= bytes.len()
 }

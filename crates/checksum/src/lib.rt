@@ -28,11 +28,9 @@ fn with_byte(x: u64, byte: u8) -> u64
 pub fn add(x: u64, bytes: &[u8]) -> u64
     ensures answer { result ≡ sum x bytes.now }
 {
-    let mut r = x;
-    let mut i = 0;
-    while i < bytes.len() {
-        r = with_byte(r, bytes[i]);
-        i += 1;
+    let mut sum = x;
+    for byte in bytes {
+        sum = with_byte(sum, *byte);
     }
-    r
+    sum
 }

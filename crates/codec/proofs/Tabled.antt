@@ -1,14 +1,14 @@
 -- Encoding and decoding under a table by value, check by check.
--- In order: encode-7 to encode-done; decode-7, decode-ready; under a code decode-12 to decode-done, decode-within.
+-- In order: encode-7, encode-13, encode-last; decode-7, decode-ready; under a code decode-12, decode-13, decode-last,
+-- decode-within.
 -- Assumes nothing.
 use Rattle.std.proofs.Common.{◌≡◌, ◌+◌, ◌-◌, ◌^◌, ◌≤◌, ◌<◌}
-use Rattle.laws.proofs.All.{◌∙◌, true, false, List, ℕ, lt-leb, le-leb, leb, leb→le}
+use Rattle.laws.proofs.All.{true, false, List, ℕ, lt-leb, le-leb, leb, leb→le}
 use Rattle.laws.proofs.All.{length}
-use Rattle.answer.specs.declared.Refusal.TheVariants.{Field, BadByte, TooFewWords, ShortOutput}
+use Rattle.answer.specs.declared.Refusal.TheVariants.{Field, TooFewWords, ShortOutput}
 use Rattle.answer.specs.Outcomes.{Outcome, done, refused, unless}
 use Rattle.answer.proofs.Outcomes.{unless→}
-use Rattle.answer.specs.FirstBad.{first_bad, all_below}
-use Rattle.answer.proofs.FirstBad.{bad-found, none-bad}
+use Rattle.answer.specs.FirstBad.{all_below}
 use Rattle.table.specs.declared.Table.{Table}
 use Rattle.table.specs.Rows.{Code}
 use Rattle.table.specs.Paths.{recording}
@@ -29,17 +29,9 @@ module _ (t : Table) (room : ℕ) (ds : List ℕ) where
     encode-13 h = rw (r, lt-leb (length ds + t.lookahead) room h)
 
     module _ (h : length ds + t.lookahead ≤ room) where
-      last : encoded_with t room ds ≡ all_below (2 ^ t.p) ds (recording (code_in t) ds)
+      pub encode-last : encoded_with t room ds ≡ all_below (2 ^ t.p) ds (recording (code_in t) ds)
       unfolding encoded_with encoded
-      last = rw (r, le-leb (length ds + t.lookahead) room h)
-
-      pub encode-11 : (n k : ℕ) → n ≡ 2 ^ t.p → k ≡ first_bad n ds → k < length ds
-          → encoded_with t room ds ≡ refused (BadByte k)
-      encode-11 n k e q l = last ∙ bad-found (2 ^ t.p) ds (recording (code_in t) ds) n k e q l
-
-      pub encode-done : (n k : ℕ) → n ≡ 2 ^ t.p → k ≡ first_bad n ds → length ds ≤ k
-          → encoded_with t room ds ≡ done (recording (code_in t) ds)
-      encode-done n k e q l = last ∙ none-bad (2 ^ t.p) ds (recording (code_in t) ds) n k e q l
+      encode-last = rw (r, le-leb (length ds + t.lookahead) room h)
 
 -- ---- decoding
 module _ (t : Table) (room : ℕ) (ws : List ℕ) where
@@ -65,17 +57,9 @@ module _ (c : Code) (room : ℕ) (ws : List ℕ) where
     decode-13 l = rw (le-leb c.window.lookahead (length ws) h, lt-leb (length ws - c.window.lookahead) room l)
 
     module _ (l : length ws - c.window.lookahead ≤ room) where
-      fits : decoded c room ws ≡ last-check
+      pub decode-last : decoded c room ws ≡ last-check
       unfolding decoded
-      fits = rw (le-leb c.window.lookahead (length ws) h, le-leb (length ws - c.window.lookahead) room l)
-
-      pub decode-11 : (n k : ℕ) → n ≡ 2 ^ c.q → k ≡ first_bad n ws → k < length ws
-          → decoded c room ws ≡ refused (BadByte k)
-      decode-11 n k e q b = fits ∙ bad-found (2 ^ c.q) ws (decode c ws) n k e q b
-
-      pub decode-done : (n k : ℕ) → n ≡ 2 ^ c.q → k ≡ first_bad n ws → length ws ≤ k
-          → decoded c room ws ≡ done (decode c ws)
-      decode-done n k e q b = fits ∙ none-bad (2 ^ c.q) ws (decode c ws) n k e q b
+      decode-last = rw (le-leb c.window.lookahead (length ws) h, le-leb (length ws - c.window.lookahead) room l)
 
   -- what is decoded has words enough and room
   pub decode-within : (out : List ℕ) → decoded c room ws ≡ done out

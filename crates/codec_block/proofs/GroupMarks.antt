@@ -22,7 +22,7 @@ use Rattle.codec_steps.proofs.StateSteps.{test-place, place-test}
 abbrev worded : ℕ → Edge → Bool
 worded w e = eqb w e.word
 
-module _ (t : Arrays) (start first low high : List ℕ) (g : Grouped t start first low high) (P : BitSet) (w : ℕ)
+module _ (t : Arrays) (start first : List ℕ) (sets : List BitSet) (g : Grouped t start first sets) (P : BitSet) (w : ℕ)
     (hw : w < 256) where
   abbrev S : List Bool
   S = yes_no t.states P

@@ -1,6 +1,7 @@
 -- The first group of a word between two sets, and in it the first edge: the first edge of all between them.
 -- In order: from_first, reads-group, none_reads, an edge and its group; end-small, entry_next, goes-reads, reads-goes,
--- some-goes, the entries of a group's state; least-reads, group-datum; found_within, found-datum, found_none.
+-- some-goes, the entries of a group's state; least-reads, group-datum; found_within, found-datum, entry-found,
+-- found_none.
 -- Assumes nothing.
 use Rattle.std.proofs.Common.{◌≡◌, ◌&&◌, ◌+◌, ◌*◌, ◌/◌, ◌%◌, ◌≤◌, ◌<◌}
 use Rattle.laws.proofs.All.{refl, sym, ap, subst, ◌∙◌, inl, inr, Bool, true, false, List, [], ℕ}
@@ -23,10 +24,10 @@ no_false : (b : Bool) → (T b → ⊥) → b ≡ false
 no_false true h = absurd (h tt)
 no_false false h = refl
 
-module _ (t : Arrays) (start first low high : List ℕ) (g : Grouped t start first low high) (P A : BitSet) (w : ℕ)
+module _ (t : Arrays) (start first : List ℕ) (sets : List BitSet) (g : Grouped t start first sets) (P A : BitSet) (w : ℕ)
     (hw : w < 256) where
   abbrev joins : ℕ → Bool
-  joins = joins_at first low high P A
+  joins = joins_at first sets P A
 
   abbrev reads : ℕ → Bool
   reads = reads_at t P A w
@@ -48,14 +49,14 @@ module _ (t : Arrays) (start first low high : List ℕ) (g : Grouped t start fir
   reads-group e l h =
       let (b, m) = and→ (bears t w e) (holds P (e / 16) && holds A (next_of t e)) h in
       let (p, a) = and→ (holds P (e / 16)) (holds A (next_of t e)) m in
-      let (k, i, s, r) = edge-group t start first low high g w hw e l b in
+      let (k, i, s, r) = edge-group t start first sets g w hw e l b in
       let n : next_of t e < t.states = g.fits.inside e l (bears-edge t w e (T→true (bears t w e) b)) in (
         k,
         i,
         s,
-        →and (holds P (source_at first k)) (meeting 128 (targets_at low high k) A)
+        →and (holds P (source_at first k)) (meeting 128 (targets_at sets k) A)
             (subst (λ x. T (holds P x)) (sym s) p)
-            (→meeting 128 (targets_at low high k) A (next_of t e) (omega (arith, n, g.fits.few)) r a),
+            (→meeting 128 (targets_at sets k) A (next_of t e) (omega (arith, n, g.fits.few)) r a),
       )
 
   -- no group between the sets, and no edge
@@ -88,7 +89,7 @@ module _ (t : Arrays) (start first low high : List ℕ) (g : Grouped t start fir
     -- one of them that goes into A is an edge between the sets, where the state is in P
     goes-reads : T (joins k) → (e : ℕ) → get_or first k 0 ≤ e → e < end → T (goes e) → T (reads e)
     goes-reads q e l m h =
-        let (p, _) = and→ (holds P (source_at first k)) (meeting 128 (targets_at low high k) A) q in
+        let (p, _) = and→ (holds P (source_at first k)) (meeting 128 (targets_at sets k) A) q in
         let (x, a) = and→ (eqb (word_of t e) w) (holds A (next_of t e)) h in
         →and (bears t w e) (holds P (e / 16) && holds A (next_of t e))
         (→and (is_edge t e) (eqb (word_of t e) w) (subst T (sym (lt-ltb _ _ (inside e l m).1)) tt) x)
@@ -110,9 +111,9 @@ module _ (t : Arrays) (start first low high : List ℕ) (g : Grouped t start fir
     -- some of them goes into A
     some-goes : T (joins k) → (e : ℕ) × (get_or first k 0 ≤ e) × (e < end) × T (goes e)
     some-goes q =
-        let (p, m) = and→ (holds P (source_at first k)) (meeting 128 (targets_at low high k) A) q in
-        let (u, _, x, y) = meeting→ 128 (targets_at low high k) A m in
-        let (e, l, b, s, n) = group-edge t start first low high g w k u i x in
+        let (p, m) = and→ (holds P (source_at first k)) (meeting 128 (targets_at sets k) A) q in
+        let (u, _, x, y) = meeting→ 128 (targets_at sets k) A m in
+        let (e, l, b, s, n) = group-edge t start first sets g w k u i x in
         let r = reads-goes e s (→and (bears t w e) (holds P (e / 16) && holds A (next_of t e)) (subst T (sym b) tt)
         (→and (holds P (e / 16)) (holds A (next_of t e)) (subst (λ v. T (holds P v)) (sym s) p)
         (subst (λ v. T (holds A v)) (sym n) y))) in
@@ -155,11 +156,11 @@ module _ (t : Arrays) (start first low high : List ℕ) (g : Grouped t start fir
             (T→true (reads e) (goes-reads q e l m (subst T (sym u) tt))) (least-reads q before e l m h) d
 
   -- ---- the first group
-  module _ (k : ℕ) (e : k ≡ first_group start first low high P w A) where
+  module _ (k : ℕ) (e : k ≡ first_group start first sets P w A) where
     as-scan : Scanned joins no_place (get_or start w 0) (get_or start (w + 1) 0) k
     as-scan =
         subst (Scanned joins no_place (get_or start w 0) (get_or start (w + 1) 0))
-        (sym (e ∙ group-scan start first low high P w A))
+        (sym (e ∙ group-scan start first sets P w A))
         (scanned joins no_place (get_or start w 0) (get_or start (w + 1) 0))
 
     -- a group is found, and it is one of the word
@@ -180,6 +181,24 @@ module _ (t : Arrays) (start first low high : List ℕ) (g : Grouped t start fir
             → v % 16 ≡ get_or (readings (rows_of t) (yes_no t.states P) w (yes_no t.states A)) 0 d
         go (inl (f, _)) = absurd (omega arith)
         go (inr (l, m, u, b)) = ap (λ x. x % 16) q ∙ group-datum k (hw, l, m) (subst T (sym u) tt) b d
+
+    -- and there is such an entry
+    pub entry-found : k < no_place
+        → first_into t.word t.next w A (get_or first k 0) (get_or first k 0 / 16 * 16 + t.ways) < no_place
+    entry-found h = go as-scan
+      where
+        within : (e : ℕ) (i : Within start w k) → T (joins k) → Scanned goes no_place (get_or first k 0) (end k i) e
+            → e < no_place
+        within e i q (inl (_, n)) = let (x, a, b, u) = some-goes k i q in absurd (subst T (n x a b) u)
+        within e i q (inr (_, m, _, _)) = omega (arith, m, end-small k i)
+
+        go : Scanned joins no_place (get_or start w 0) (get_or start (w + 1) 0) k
+            → first_into t.word t.next w A (get_or first k 0) (get_or first k 0 / 16 * 16 + t.ways) < no_place
+        go (inl (f, _)) = absurd (omega arith)
+        go (inr (l, m, u, b)) =
+            let s = scanned goes no_place (get_or first k 0) (get_or first k 0 / 16 * 16 + t.ways) in
+            let e = into-scan t.word t.next w A (get_or first k 0) (get_or first k 0 / 16 * 16 + t.ways) in
+            subst (λ x. x < no_place) (sym e) (within _ (hw, l, m) (subst T (sym u) tt) s)
 
     -- none is found, and there is no reading
     pub found_none : no_place ≤ k → readings (rows_of t) (yes_no t.states P) w (yes_no t.states A) ≡ []

@@ -64,11 +64,11 @@ module _ (f : ℕ → Bool) (d : ℕ) where
   scanned i j = scanned-by (j - i) i j refl
 
 -- ---- the parts of a block are such numbers
-pub group-scan : (start edge low high : List ℕ) (P : BitSet) (w : ℕ) (A : BitSet)
-    → first_group start edge low high P w A
-    ≡ scan (joins_at edge low high P A) no_place (get_or start w 0) (get_or start (w + 1) 0)
+pub group-scan : (start edge : List ℕ) (sets : List BitSet) (P : BitSet) (w : ℕ) (A : BitSet)
+    → first_group start edge sets P w A
+    ≡ scan (joins_at edge sets P A) no_place (get_or start w 0) (get_or start (w + 1) 0)
 unfolding first_group
-group-scan start edge low high P w A = refl
+group-scan start edge sets P w A = refl
 
 pub into-scan : (word next : List ℕ) (w : ℕ) (A : BitSet) (e end : ℕ)
     → first_into word next w A e end ≡ scan (enters_at word next w A) no_place e end

@@ -4,5 +4,4 @@ pub mod FirstEdges
 pub mod Puts
 pub mod WordGroups
 pub mod AllGroups
-pub mod ReadyWords
 pub mod Ranks

@@ -1,20 +1,20 @@
 -- The groups of one word, as the code writes them.
--- In order: GroupOf, one group; targets-same, member-source, member-group, the group of one state; states-few, no more
+-- In order: GroupOf, one group; member-source, member-group, the group of one state; states-few, no more
 -- states than edges; OfWord, word-laid, word-sources, word_same, sources-same, the groups of one word.
 -- Assumes nothing.
-use Rattle.std.proofs.Common.{◌≡◌, ◌&&◌, ◌+◌, ◌-◌, ◌*◌, ◌/◌, ◌%◌, ◌≤◌, ◌<◌}
-use Rattle.laws.proofs.All.{refl, sym, ap, ap₂, subst, subst₂, ◌∙◌, Bool, true, false, not, and-false}
+use Rattle.std.proofs.Common.{None, ◌≡◌, ◌&&◌, ◌+◌, ◌-◌, ◌*◌, ◌/◌, ◌%◌, ◌≤◌, ◌<◌}
+use Rattle.laws.proofs.All.{refl, sym, ap, ap₂, subst, subst₂, ◌∙◌, Bool, true, false, and-false}
 use Rattle.laws.proofs.All.{List, ℕ}
-use Rattle.laws.proofs.All.{arith, T, eqb, eqb→eq, eqb_refl, ne_eqb, lt-ltb}
-use Rattle.laws.proofs.All.{ltb-true, length, get_or, any-range-same, and→, →and, T→true}
+use Rattle.laws.proofs.All.{arith, T, eqb→eq, eqb_refl, lt-ltb}
+use Rattle.laws.proofs.All.{ltb-true, length, get_or, and→, →and, T→true}
 use Rattle.table.specs.Marks.{some}
-use Rattle.table.specs.Edges.{Arrays, places, is_edge, next_of, Fits, bears}
+use Rattle.table.specs.Edges.{Arrays, places, is_edge, Fits, bears}
 use Rattle.table.proofs.Marks.{found, some_at}
 use Rattle.table.proofs.Edges.{bears-edge}
 use Rattle.bitsets.specs.declared.BitSet.{BitSet}
 use Rattle.bitsets.specs.BitSets.{places_of, value_of, holds, members_of, set_at}
 use Rattle.bitsets.proofs.Sets.{members-rising, members-find, members-hold}
-use Rattle.table_words.specs.Gathered.{leaves, beside_from, beside_to, Gathered}
+use Rattle.table_words.specs.Gathered.{leaves, beside_from, Gathered}
 use Rattle.codec_groups.specs.Groups.{goes_to, has_at, first_edge, targets_at, source_at, have_at}
 use Rattle.codec_groups.specs.Groups.{Sources, PutAll, PutHave}
 use Rattle.codec_groups.specs.Counts.{count}
@@ -28,38 +28,22 @@ pub record GroupOf (t : Arrays) (w e : ℕ) (S : BitSet) : Type 0 where
   pub least : (x : ℕ) → x / 16 ≡ e / 16 → x < e → bears t w x ≡ false
   pub targets : (u : ℕ) → holds S u ≡ some (goes_to t w (e / 16) u) (places t)
 
--- tests that agree on each number agree on all
-some_same : (f g : ℕ → Bool) (n : ℕ) → ((e : ℕ) → f e ≡ g e) → some f n ≡ some g n
-unfolding some
-some_same f g n h = any-range-same f g n (λ e l. h e)
-
--- 16 is no datum: no edge is left out
-kept : (s e : ℕ) → leaves 16 s e ≡ eqb (e / 16) s
-kept s e = ap (λ b. not b && eqb (e / 16) s) (ne_eqb (e % 16) 16 (λ q. omega arith))
-
--- so the edges beside the datum 16 are all edges
-targets-same : (t : Arrays) (w s u : ℕ) → some (beside_to t w 16 s u) (places t) ≡ some (goes_to t w s u) (places t)
-targets-same t w s u =
-    some_same (beside_to t w 16 s u) (goes_to t w s u) (places t)
-    (λ e. ap (λ b. bears t w e && (b && eqb (next_of t e) u)) (kept s e))
-
-module _ (t : Arrays) (g : Fits t) (w : ℕ) (have : BitSet) (sets : List ℕ) (G : Gathered t w 16 have sets) where
+module _ (t : Arrays) (g : Fits t) (w : ℕ) (have : BitSet) (gathered : List BitSet) (G : Gathered t w None have gathered) where
   -- a state of the set has an edge with the word
   held-edge : (s : ℕ) → s < 128 → T (holds have s)
       → (e : ℕ) × (e < places t) × (e / 16 ≡ s) × (bears t w e ≡ true)
   held-edge s h x =
-      let (e, l, f) = found (beside_from t w 16 s) (places t) (subst T (G.haves s h) x) in
-      let (b, k) = and→ (bears t w e) (leaves 16 s e) f in
-      (e, l, eqb→eq (e / 16) s (subst T (kept s e) k), T→true (bears t w e) b)
+      let (e, l, f) = found (beside_from t w None s) (places t) (subst T (G.haves s h) x) in
+      let (b, k) = and→ (bears t w e) (leaves None s e) f in
+      (e, l, eqb→eq (e / 16) s k, T→true (bears t w e) b)
 
   -- the state of an edge with the word is in the set
   edge-held : (e : ℕ) → e < places t → bears t w e ≡ true → T (holds have (e / 16))
   edge-held e l q =
       let h : e / 16 < 128 = omega (arith, g.few) in
       subst T (sym (G.haves (e / 16) h))
-      (some_at (beside_from t w 16 (e / 16)) (places t) e l
-      (→and (bears t w e) (leaves 16 (e / 16) e) (subst T (sym q) tt)
-      (subst T (sym (kept (e / 16) e)) (eqb_refl (e / 16)))))
+      (some_at (beside_from t w None (e / 16)) (places t) e l
+      (→and (bears t w e) (leaves None (e / 16) e) (subst T (sym q) tt) (eqb_refl (e / 16))))
 
   -- the first edge of a state with the word
   abbrev edge_of : ℕ → ℕ
@@ -86,7 +70,7 @@ module _ (t : Arrays) (g : Fits t) (w : ℕ) (have : BitSet) (sets : List ℕ) (
         omega (arith, first-least.low, first-least.high, (held-edge s h x).2, edge-way, g.narrow)
 
     -- it makes a group with the targets that were gathered
-    pub member-group : GroupOf t w (edge_of s) (set_at sets s)
+    pub member-group : GroupOf t w (edge_of s) (set_at gathered s)
     member-group =
         let q = (held-edge s h x).2 in
         let l = first-least in
@@ -97,8 +81,8 @@ module _ (t : Arrays) (g : Fits t) (w : ℕ) (have : BitSet) (sets : List ℕ) (
           least = λ y z b.
               ap (λ c. is_edge t y && c) (l.none y (omega (arith, z, member-source)) b) ∙ and-false (is_edge t y);
           targets = λ u.
-              sym (ap (λ b. b && holds (set_at sets s) u) (T→true (holds have s) x)) ∙ G.leads s u h
-              ∙ targets-same t w s u ∙ ap (λ y. some (goes_to t w y u) (places t)) (sym member-source);
+              sym (ap (λ b. b && holds (set_at gathered s) u) (T→true (holds have s) x)) ∙ G.leads s u h
+              ∙ ap (λ y. some (goes_to t w y u) (places t)) (sym member-source);
         }
 
   -- no more states in the set than edges with the word
@@ -118,15 +102,15 @@ module _ (t : Arrays) (g : Fits t) (w : ℕ) (have : BitSet) (sets : List ℕ) (
           go false q = q
 
 -- ---- the groups of one word, from place `at` on and below `end`
-pub record OfWord (t : Arrays) (w at end : ℕ) (first low high : List ℕ) : Type 0 where
-  pub group : (k : ℕ) → at ≤ k → k < end → GroupOf t w (get_or first k 0) (targets_at low high k)
+pub record OfWord (t : Arrays) (w at end : ℕ) (first : List ℕ) (sets : List BitSet) : Type 0 where
+  pub group : (k : ℕ) → at ≤ k → k < end → GroupOf t w (get_or first k 0) (targets_at sets k)
   pub rising : (k l : ℕ) → at ≤ k → k < l → l < end → source_at first k < source_at first l
   pub whole : (e : ℕ) → e < places t → bears t w e ≡ true
       → (k : ℕ) × (at ≤ k) × (k < end) × (source_at first k ≡ e / 16)
 
-module _ (t : Arrays) (g : Fits t) (w : ℕ) (have : BitSet) (sets : List ℕ) (G : Gathered t w 16 have sets)
-    (first low high : List ℕ) (at : ℕ) (f l h : List ℕ)
-    (P : PutAll first low high at (members_of have) (first_edge t.ways t.word w) sets f l h) where
+module _ (t : Arrays) (g : Fits t) (w : ℕ) (have : BitSet) (gathered : List BitSet) (G : Gathered t w None have gathered)
+    (first : List ℕ) (sets : List BitSet) (at : ℕ) (f : List ℕ) (l : List BitSet)
+    (P : PutAll first sets at (members_of have) (first_edge t.ways t.word w) gathered f l) where
   -- the state of the group at place k
   abbrev state_of : ℕ → ℕ
   state_of k = get_or (members_of have) (k - at) 0
@@ -145,14 +129,14 @@ module _ (t : Arrays) (g : Fits t) (w : ℕ) (have : BitSet) (sets : List ℕ) (
     edge-at = ap (λ i. get_or f i 0) (sym back) ∙ P.edge (k - at) inside
 
     source-at : source_at f k ≡ state_of k
-    source-at = ap (λ e. e / 16) edge-at ∙ member-source t g w have sets G (state_of k) in-set.0 in-set.1
+    source-at = ap (λ e. e / 16) edge-at ∙ member-source t g w have gathered G (state_of k) in-set.0 in-set.1
 
-    group_at : GroupOf t w (get_or f k 0) (targets_at l h k)
+    group_at : GroupOf t w (get_or f k 0) (targets_at l k)
     group_at =
-        subst₂ (GroupOf t w) (sym edge-at) (sym (ap (targets_at l h) (sym back) ∙ P.targets (k - at) inside))
-        (member-group t g w have sets G (state_of k) in-set.0 in-set.1)
+        subst₂ (GroupOf t w) (sym edge-at) (sym (ap (targets_at l) (sym back) ∙ P.targets (k - at) inside))
+        (member-group t g w have gathered G (state_of k) in-set.0 in-set.1)
 
-  groups-laid : OfWord t w at (at + length (members_of have)) f l h
+  groups-laid : OfWord t w at (at + length (members_of have)) f l
   groups-laid = record {
     group = group_at;
     rising = λ k j a b c.
@@ -161,7 +145,7 @@ module _ (t : Arrays) (g : Fits t) (w : ℕ) (have : BitSet) (sets : List ℕ) (
         omega (arith, source-at k a (omega arith), source-at j (omega arith) c);
     whole = λ e b q.
         let s : e / 16 < 128 = omega (arith, g.few) in
-        let (j, c, z) = members-find have (e / 16) s (edge-held t g w have sets G e b q) in
+        let (j, c, z) = members-find have (e / 16) s (edge-held t g w have gathered G e b q) in
         let i : at + j - at ≡ j = omega arith in (
           at + j,
           omega arith,
@@ -171,15 +155,15 @@ module _ (t : Arrays) (g : Fits t) (w : ℕ) (have : BitSet) (sets : List ℕ) (
   }
 
   -- the same, with the number of states as counted
-  pub word-laid : (m : ℕ) → m ≡ length (members_of have) → OfWord t w at (at + m) f l h
-  word-laid m e = subst (λ x. OfWord t w at (at + x) f l h) (sym e) groups-laid
+  pub word-laid : (m : ℕ) → m ≡ length (members_of have) → OfWord t w at (at + m) f l
+  word-laid m e = subst (λ x. OfWord t w at (at + x) f l) (sym e) groups-laid
 
   -- the states that have the word, written after the groups, are those of its groups
-  pub word-sources : (m : ℕ) → m ≡ length (members_of have) → (l' h' : List ℕ) → PutHave l h w have l' h'
-      → 2304 ≤ length low → 2304 ≤ length high → Sources f at (at + m) (have_at l' h' w)
-  word-sources m e l' h' H x y =
+  pub word-sources : (m : ℕ) → m ≡ length (members_of have) → (l' : List BitSet) → PutHave l w have l'
+      → 2304 ≤ length sets → Sources f at (at + m) (have_at l' w)
+  word-sources m e l' H x =
       subst (Sources f at (at + m))
-      (sym (H.here (omega (arith, P.low_long)) (omega (arith, P.high_long)))) (
+      (sym (H.here (omega (arith, P.sets_long)))) (
         ap (λ n. at + n) (sym e),
         λ j b.
             let i : at + j - at ≡ j = omega arith in
@@ -187,10 +171,10 @@ module _ (t : Arrays) (g : Fits t) (w : ℕ) (have : BitSet) (sets : List ℕ) (
       )
 
 -- the same groups in arrays that are the same below their end
-pub word_same : (t : Arrays) (w at end : ℕ) (first low high f l h : List ℕ) → OfWord t w at end first low high
+pub word_same : (t : Arrays) (w at end : ℕ) (first : List ℕ) (sets : List BitSet) (f : List ℕ) (l : List BitSet) → OfWord t w at end first sets
     → ((j : ℕ) → j < end → get_or f j 0 ≡ get_or first j 0)
-    → ((j : ℕ) → j < end → targets_at l h j ≡ targets_at low high j) → OfWord t w at end f l h
-word_same t w at end first low high f l h o p q = record {
+    → ((j : ℕ) → j < end → targets_at l j ≡ targets_at sets j) → OfWord t w at end f l
+word_same t w at end first sets f l o p q = record {
   group = λ k a b. subst₂ (GroupOf t w) (sym (p k b)) (sym (q k b)) (o.group k a b);
   rising = λ k j a b c.
       let x : source_at f k ≡ source_at first k = ap (λ e. e / 16) (p k (omega arith)) in

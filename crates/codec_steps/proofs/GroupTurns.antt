@@ -1,9 +1,11 @@
 -- A loop over the groups of a word that joins what each gives.
--- In order: between_first; Joining with join-start, join-next, join-done; edge-small, group-small.
+-- In order: between_first; Joining with join-start, join-next, join-done; edge-small, group-small; room-held, end-held, of groups of some table.
 -- Assumes nothing.
 use Rattle.std.proofs.Common.{◌≡◌, ◌||◌, ◌+◌, ◌-◌, ◌≤◌, ◌<◌}
 use Rattle.laws.proofs.All.{sym, ap, ap₂, ◌∙◌, Bool, false, or_assoc, or-false, List, ℕ, suc}
 use Rattle.laws.proofs.All.{add-one, arith, length, get_or, from, any}
+use Rattle.std.proofs.Math.Logic.{∥∥₁_elim}
+use Rattle.std.proofs.Props.{props}
 use Rattle.table.specs.Edges.{Arrays}
 use Rattle.bitsets.specs.declared.BitSet.{BitSet}
 use Rattle.bitsets.specs.BitSets.{holds}
@@ -43,12 +45,21 @@ module _ (f : ℕ → ℕ → Bool) (i j : ℕ) where
         sym (m.joined u ∙ ap (λ b. holds R u || b) (between-empty (f u) k j l) ∙ or-false (holds R u))
 
 -- ---- what the code asks of a group
-module _ (t : Arrays) (start first low high : List ℕ) (g : Grouped t start first low high) (w : ℕ) where
+module _ (t : Arrays) (start first : List ℕ) (sets : List BitSet) (g : Grouped t start first sets) (w : ℕ) where
   pub edge-small : (k : ℕ) → Within start w k → get_or first k 0 < 2048
   edge-small k i = omega (arith, g.below w k i, g.fits.few)
 
   pub group-small : (k : ℕ) → Within start w k
-      → (k < 2048) × (source_at first k < 128) × (k < length low) × (k < length high)
+      → (k < 2048) × (source_at first k < 128) × (k < length sets)
   group-small k i =
-      let (a, b, c) = g.room w i.0 in
-      (omega (arith, a, i.2), omega (arith, edge-small k i), omega (arith, b, i.2), omega (arith, c, i.2))
+      let (a, b) = g.room w i.0 in
+      (omega (arith, a, i.2), omega (arith, edge-small k i), omega (arith, b, i.2))
+
+-- the same of groups of some table
+module _ (start first : List ℕ) (sets : List BitSet) (g : ∥ ((t : Arrays) × Grouped t start first sets) ∥₁) (w : ℕ)
+  where
+    pub room-held : (k : ℕ) → Within start w k → (k < 2048) × (source_at first k < 128) × (k < length sets)
+    room-held k i = ∥∥₁_elim g (hlevel props) (λ x. group-small x.0 start first sets x.1 w k i)
+
+    pub end-held : w < 256 → get_or start (w + 1) 0 ≤ 2048
+    end-held h = ∥∥₁_elim g (hlevel props) (λ x. (x.1.room w h).0)

@@ -14,22 +14,22 @@ abbrev pub no_place : ℕ
 no_place = 2048
 
 -- group k leads from a state of P into A
-abbrev pub joins_at : List ℕ → List ℕ → List ℕ → BitSet → BitSet → ℕ → Bool
-joins_at edge low high P A k = holds P (source_at edge k) && meeting 128 (targets_at low high k) A
+abbrev pub joins_at : List ℕ → List BitSet → BitSet → BitSet → ℕ → Bool
+joins_at edge sets P A k = holds P (source_at edge k) && meeting 128 (targets_at sets k) A
 
 -- the first group of the word w that leads from a state of P into A
-unfoldable pub first_group : List ℕ → List ℕ → List ℕ → List ℕ → BitSet → ℕ → BitSet → ℕ
-first_group start edge low high P w A =
-    first (joins_at edge low high P A) no_place (from (get_or start w 0) (get_or start (w + 1) 0 - get_or start w 0))
+unfoldable pub first_group : List ℕ → List ℕ → List BitSet → BitSet → ℕ → BitSet → ℕ
+first_group start edge sets P w A =
+    first (joins_at edge sets P A) no_place (from (get_or start w 0) (get_or start (w + 1) 0 - get_or start w 0))
 
 -- group k leads into A
-abbrev pub into_at : List ℕ → List ℕ → BitSet → ℕ → Bool
-into_at low high A k = meeting 128 (targets_at low high k) A
+abbrev pub into_at : List BitSet → BitSet → ℕ → Bool
+into_at sets A k = meeting 128 (targets_at sets k) A
 
 -- the first group that leads into A, of those of the members of B, where the groups of the states of H stand from `at`
 -- on
-unfoldable pub first_member : List ℕ → List ℕ → ℕ → BitSet → BitSet → BitSet → ℕ
-first_member low high at H B A = first (into_at low high A) no_place (map (group_of at H) (members_of B))
+unfoldable pub first_member : List BitSet → ℕ → BitSet → BitSet → BitSet → ℕ
+first_member sets at H B A = first (into_at sets A) no_place (map (group_of at H) (members_of B))
 
 -- the entry at place e has the word w and leads into A
 abbrev pub enters_at : List ℕ → List ℕ → ℕ → BitSet → ℕ → Bool

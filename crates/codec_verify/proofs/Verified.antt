@@ -3,12 +3,12 @@
 -- In order: rebuilt-recording, rebuilt-blocks; verified→, →verified; recording-exact; given-front, given-place,
 -- given-mark; verify-exact, verify-answer, verify-front, verify-place, verify-mark, verifies.
 -- Assumes nothing.
+use Rattle.answer.specs.declared.Refusal.{Refusal}
+use Rattle.std.proofs.Common.{Result, Ok, Err}
 use Rattle.std.proofs.Common.{◌≡◌, ◌↔◌, ◌++◌, ◌+◌, ◌-◌, ◌^◌, ◌≤◌, ◌<◌}
 use Rattle.laws.proofs.All.{refl, sym, ap, subst, ◌∙◌, List, ℕ, arith, leb}
 use Rattle.laws.proofs.All.{leb→le, le-leb, length, length-append, length-replicate, get_or, take, take_all, Below, T}
 use Rattle.laws.proofs.All.{length-take-le, Bool, true, false}
-use Rattle.answer.specs.declared.Answer.{Answer}
-use Rattle.answer.specs.declared.Answer.TheVariants.{Done, Refused}
 use Rattle.answer.specs.declared.Refusal.TheVariants.{TooFewWords}
 use Rattle.answer.specs.Outcomes.{Outcome, done, refused, answer_of}
 use Rattle.answer.specs.Answers.{answer_value}
@@ -145,9 +145,9 @@ module _ (c : Code) (h : c.tail < 2 ^ c.p) (L F : List ℕ) (e : verified c L �
       (omega arith, given-front.1 ∙ sym f, (λ i x. d (omega arith) (omega (arith, n)) (sym x)))
 
 -- ---- from bytes
-abbrev is_done : Answer → Bool
-is_done (Done n) = true
-is_done (Refused r) = false
+abbrev is_done : Result ℕ Refusal → Bool
+is_done (Ok n) = true
+is_done (Err r) = false
 
 module _ (xs : List ℕ) (bytes : Below 256 xs) (c : Code) (p : parse xs ≡ done c) (L : List ℕ) where
   good : Sound c
@@ -172,17 +172,17 @@ module _ (xs : List ℕ) (bytes : Below 256 xs) (c : Code) (p : parse xs ≡ don
           ∙ ap done ((recording-exact c L good l).1 (ds, b, e))
 
   -- the same of the value that is answered
-  pub verify-answer : (answer_of (verify_under xs L) ≡ Done (length L)) ↔ Recording c L
+  pub verify-answer : (answer_of (verify_under xs L) ≡ Ok (length L)) ↔ Recording c L
   verify-answer = (there, (λ r. ap answer_of (verify-exact.1 r)))
     where
-      go : (o : Outcome (List ℕ)) → verify_under xs L ≡ o → answer_of o ≡ Done (length L) → verify_under xs L ≡ done L
+      go : (o : Outcome (List ℕ)) → verify_under xs L ≡ o → answer_of o ≡ Ok (length L) → verify_under xs L ≡ done L
       go (done F) e q =
           let (_, f) = given-front c good.tail L F (sym under ∙ e) in
           let z : length F ≡ length L = ap answer_value q in
           e ∙ ap done (sym f ∙ take_all (length F) L (omega arith))
       go (refused r) e q = absurd (subst T (sym (ap is_done q)) tt)
 
-      there : answer_of (verify_under xs L) ≡ Done (length L) → Recording c L
+      there : answer_of (verify_under xs L) ≡ Ok (length L) → Recording c L
       there q = verify-exact.0 (go (verify_under xs L) refl q)
 
   module _ (F : List ℕ) (e : verify_under xs L ≡ done F) where

@@ -13,7 +13,7 @@ use Rattle.set_check.specs.Sets.{Walk, codes, stopped, read_set}
 use Rattle.command_arguments.specs.declared.Action.{Action}
 use Rattle.command_arguments.specs.declared.Action.TheVariants.{Compile, CompileJob, CompileJoined, Trace}
 use Rattle.command_arguments.specs.declared.Action.TheVariants.{Collection, Help, Version, Viewing, Coding}
-use Rattle.command_arguments.specs.declared.Action.TheVariants.{Stream, WithTail, Recordings, Verify, Unknown}
+use Rattle.command_arguments.specs.declared.Action.TheVariants.{Stream, WithTail, Recordings, Verify}
 use Rattle.command_arguments.specs.declared.OnStream.TheVariants.{Pack, Unpack, Encode, Decode, Reach}
 use Rattle.command_arguments.specs.declared.Form.TheVariants.{Words, Stream as AsStream}
 use Rattle.command_arguments.specs.declared.Status.{Status}
@@ -85,7 +85,6 @@ EndsWell (Stream Reach) = Reached
 EndsWell (Recordings how) = Rearranged how
 EndsWell (Verify Words) = VerifiedWords
 EndsWell (Verify AsStream) = VerifiedStream
-EndsWell Unknown = ⊥
 
 -- what lets an action end with status 3: words that were decoded and are no recording
 abbrev pub EndsShort : Action → Type 0
@@ -106,7 +105,6 @@ EndsShort (Stream Decode) = SpoiledStream
 EndsShort (Stream Reach) = ⊥
 EndsShort (Recordings how) = ⊥
 EndsShort (Verify f) = ⊥
-EndsShort Unknown = ⊥
 
 -- what the exit status r of an action says: 0 that it ended well, and 3 that it decoded words that are no recording
 pub record EndsAs (a : Action) (r : ℕ) : Type 0 where

@@ -18,7 +18,7 @@ pub fn help<R: Host>(rt: &R) -> Status
     let mut said = io::buffer();
     let n = word(rt, 2, &mut said);
     match action_of(&said[..n]) {
-        Action::Unknown => misused_word(rt, Action::Help, &said[..n], b": no such action"),
-        a => print_use(rt, a),
+        Some(a) => print_use(rt, a),
+        None => misused_word(rt, Action::Help, &said[..n], b": no such action"),
     }
 }

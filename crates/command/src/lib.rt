@@ -1,38 +1,32 @@
 // The command `sbc`: finds the action that the arguments name, does it on files, and answers with its exit status.
 #![tactic(auto)]
 
-ghost use Rattle.std.specs.Prelude.{◌≡◌, false, ◌≤◌};
+ghost use Rattle.std.specs.Prelude.{◌≡◌, false, ◌≤◌, IfSome, IsNone};
 ghost use Rattle.command_arguments.specs.declared.Action.TheVariants.{Collection, Coding, Stream, Recordings, Verify};
-ghost use Rattle.command_arguments.specs.declared.Action.TheVariants.{Unknown};
 ghost use Rattle.command_arguments.specs.declared.Form.TheVariants.{Words, Stream as AsStream};
 ghost use Rattle.command_arguments.specs.declared.OnStream.TheVariants.{Pack, Unpack, Encode, Decode};
 ghost use Rattle.command_arguments.specs.declared.OnRecordings.TheVariants.{Weave, Unweave};
 ghost use Rattle.command_arguments.specs.Naming.{action_of};
 ghost use Rattle.command_arguments.specs.Shapes.{shape_of, fits};
-ghost use Rattle.command.specs.Ending.{way_by};
 ghost use Rattle.command.specs.Acting.{EndsAs, Acted, ActedShort};
 
 mod asking;
 mod compiling;
 mod records;
-mod ways;
 
-use crate::ways::{is_decoding, way_by};
 use command_arguments::naming::action_of;
-use command_arguments::{
-    Action, Form, OnRecordings, OnStream, Status, is_fitting, shape_of, status_number,
-};
+use command_arguments::{Action, Form, OnRecordings, OnStream, Status, Way};
 use command_messages::Host;
 use command_messages::arguments::{argument, argument_count};
 use command_messages::usage::{misused, misused_word, print_version};
 
 // encode or decode. It has a stack frame of its own.
 #[inline(never)]
-pub fn sbc_action_code<R: Host>(rt: &R, back: bool) -> u32
-    ensures answer { EndsAs (Coding (way_by back)) result }
+pub fn sbc_action_code<R: Host>(rt: &R, w: Way) -> u32
+    ensures answer { EndsAs (Coding w) result }
     ensures past { result ≤ 3 }
 {
-    status_number(command_code::code_files(rt, way_by(back)))
+    command_code::code_files(rt, w).number()
 }
 
 // set. It has a stack frame of its own.
@@ -41,7 +35,7 @@ pub fn sbc_action_set<R: Host>(rt: &R) -> u32
     ensures answer { EndsAs Collection result }
     ensures past { result ≤ 3 }
 {
-    status_number(records::set_file(rt))
+    records::set_file(rt).number()
 }
 
 // pack. It has a stack frame of its own.
@@ -50,7 +44,7 @@ pub fn sbc_action_pack<R: Host>(rt: &R) -> u32
     ensures answer { EndsAs (Stream Pack) result }
     ensures past { result ≤ 3 }
 {
-    status_number(command_stream::pack_file(rt))
+    command_stream::pack_file(rt).number()
 }
 
 // unpack. It has a stack frame of its own.
@@ -59,7 +53,7 @@ pub fn sbc_action_unpack<R: Host>(rt: &R) -> u32
     ensures answer { EndsAs (Stream Unpack) result }
     ensures past { result ≤ 3 }
 {
-    status_number(command_stream::unpack_file(rt))
+    command_stream::unpack_file(rt).number()
 }
 
 // encode-stream. It has a stack frame of its own.
@@ -68,7 +62,7 @@ pub fn sbc_action_encode_stream<R: Host>(rt: &R) -> u32
     ensures answer { EndsAs (Stream Encode) result }
     ensures past { result ≤ 3 }
 {
-    status_number(command_stream::encode_file(rt))
+    command_stream::encode_file(rt).number()
 }
 
 // decode-stream. It has a stack frame of its own.
@@ -77,7 +71,7 @@ pub fn sbc_action_decode_stream<R: Host>(rt: &R) -> u32
     ensures answer { EndsAs (Stream Decode) result }
     ensures past { result ≤ 3 }
 {
-    status_number(command_stream::decode_file(rt))
+    command_stream::decode_file(rt).number()
 }
 
 // weave. It has a stack frame of its own.
@@ -86,7 +80,7 @@ pub fn sbc_action_weave<R: Host>(rt: &R) -> u32
     ensures answer { EndsAs (Recordings Weave) result }
     ensures past { result ≤ 3 }
 {
-    status_number(command_weave::rearrange_file(rt, OnRecordings::Weave))
+    command_weave::rearrange_file(rt, OnRecordings::Weave).number()
 }
 
 // unweave. It has a stack frame of its own.
@@ -95,7 +89,7 @@ pub fn sbc_action_unweave<R: Host>(rt: &R) -> u32
     ensures answer { EndsAs (Recordings Unweave) result }
     ensures past { result ≤ 3 }
 {
-    status_number(command_weave::rearrange_file(rt, OnRecordings::Unweave))
+    command_weave::rearrange_file(rt, OnRecordings::Unweave).number()
 }
 
 // verify. It has a stack frame of its own.
@@ -104,7 +98,7 @@ pub fn sbc_action_verify<R: Host>(rt: &R) -> u32
     ensures answer { EndsAs (Verify Words) result }
     ensures past { result ≤ 3 }
 {
-    status_number(command_verify::verifying::verify_file(rt))
+    command_verify::verifying::verify_file(rt).number()
 }
 
 // verify-stream. It has a stack frame of its own.
@@ -113,7 +107,7 @@ pub fn sbc_action_verify_stream<R: Host>(rt: &R) -> u32
     ensures answer { EndsAs (Verify AsStream) result }
     ensures past { result ≤ 3 }
 {
-    status_number(command_verify::verifying::verify_stream_file(rt))
+    command_verify::verifying::verify_stream_file(rt).number()
 }
 
 // Does an action on bit streams; the answer is the exit status.
@@ -126,7 +120,7 @@ fn act_on_stream<R: Host>(rt: &R, s: OnStream) -> u32
         OnStream::Unpack => sbc_action_unpack(rt),
         OnStream::Encode => sbc_action_encode_stream(rt),
         OnStream::Decode => sbc_action_decode_stream(rt),
-        OnStream::Reach => status_number(command_stream::reaching::reach_bits(rt)),
+        OnStream::Reach => command_stream::reaching::reach_bits(rt).number(),
     }
 }
 
@@ -158,20 +152,19 @@ fn act<R: Host>(rt: &R, a: Action) -> u32
     ensures past { result ≤ 3 }
 {
     match a {
-        Action::Compile(_) => status_number(compiling::compile(rt)),
-        Action::CompileJob => status_number(compiling::compile_file(rt)),
-        Action::CompileJoined => status_number(compiling::compile_joined_file(rt)),
-        Action::Trace => status_number(compiling::trace_numbers(rt)),
+        Action::Compile(_) => compiling::compile(rt).number(),
+        Action::CompileJob => compiling::compile_file(rt).number(),
+        Action::CompileJoined => compiling::compile_joined_file(rt).number(),
+        Action::Trace => compiling::trace_numbers(rt).number(),
         Action::Collection => sbc_action_set(rt),
-        Action::Help => status_number(asking::help(rt)),
-        Action::Version => status_number(print_version(rt)),
-        Action::Viewing(v) => status_number(records::view_file(rt, v)),
-        Action::WithTail => status_number(records::close_file(rt)),
-        Action::Coding(w) => sbc_action_code(rt, is_decoding(w)),
+        Action::Help => asking::help(rt).number(),
+        Action::Version => print_version(rt).number(),
+        Action::Viewing(v) => records::view_file(rt, v).number(),
+        Action::WithTail => records::close_file(rt).number(),
+        Action::Coding(w) => sbc_action_code(rt, w),
         Action::Stream(s) => act_on_stream(rt, s),
         Action::Recordings(how) => act_on_recordings(rt, how),
         Action::Verify(f) => act_on_words(rt, f),
-        Action::Unknown => status_number(misused(rt, Action::Unknown)),
     }
 }
 
@@ -181,29 +174,24 @@ fn act_fitting<R: Host>(rt: &R, a: Action, count: usize) -> u32
     ensures past { result ≤ 3 }
     ensures fitting { fits (shape_of a).fewest (shape_of a).most count ≡ false → result ≡ 2 }
 {
-    let s = shape_of(a);
-    if is_fitting(s.fewest, s.most, count) {
-        return act(rt, a);
+    if a.shape().is_fitting(count) {
+        act(rt, a)
+    } else {
+        misused(rt, a).number()
     }
-    status_number(misused(rt, a))
 }
 
-// Does the action that a word names, with so many arguments; the answer is the exit status.
+// Does the action that a word names, if one does, with so many arguments; the answer is the exit status.
 fn run_word<R: Host>(rt: &R, word: &[u8], count: usize) -> u32
-    ensures answer { EndsAs (action_of word.now) result }
+    ensures answer { IfSome (action_of word.now) (λ a. EndsAs a result) }
     ensures past { result ≤ 3 }
-    ensures named { action_of word.now ≡ Unknown → result ≡ 2 }
-    ensures fitting { fits (shape_of (action_of word.now)).fewest (shape_of (action_of word.now)).most count
-        ≡ false → result ≡ 2 }
+    ensures named { IsNone (action_of word.now) → result ≡ 2 }
+    ensures fitting { IfSome (action_of word.now) (λ a. fits (shape_of a).fewest (shape_of a).most count ≡ false
+        → result ≡ 2) }
 {
     match action_of(word) {
-        Action::Unknown => status_number(misused_word(
-            rt,
-            Action::Unknown,
-            word,
-            b": no such action",
-        )),
-        a => act_fitting(rt, a, count),
+        Some(a) => act_fitting(rt, a, count),
+        None => misused_word(rt, Action::Help, word, b": no such action").number(),
     }
 }
 
@@ -216,7 +204,7 @@ pub fn run<R: Host>(rt: &R) -> u32
     let mut word = io::buffer();
     match argument(rt, 1, &mut word) {
         Ok(n) => run_word(rt, &word[..n], argument_count(rt)),
-        Err(_) => status_number(misused(rt, Action::Unknown)),
+        Err(_) => misused(rt, Action::Help).number(),
     }
 }
 

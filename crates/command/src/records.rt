@@ -10,16 +10,15 @@ ghost use Rattle.command_inputs.specs.Inputs.{From, FromWhole, Said};
 ghost use Rattle.command_outputs.specs.Results.{Fails, FailsBy, WellOnly};
 ghost use Rattle.command.specs.Acting.{Viewed, Closed, SetFails, Listed};
 
-use answer::Verdict;
 use command_arguments::numbers::GREATEST;
-use command_arguments::{Action, Status, View, read_place, under_place, written_place};
+use command_arguments::{Action, Status, View};
 use command_inputs::{Input, Number, load, load_whole, number_at, page};
 use command_messages::system::print;
 use command_messages::{Host, refuse, refuse_set};
 use command_outputs::finish;
 use command_view::put_view;
 use record_tail::with_tail;
-use set_check::{SetAnswer, check_set};
+use set_check::check_set;
 use set_lines::put_set;
 use table::Table;
 
@@ -38,12 +37,9 @@ fn view_bytes<R: Host>(rt: &R, v: View, l: Input, bytes: &[u8]) -> Status
     ensures answer { FailsBy (parse bytes.now) result }
     ensures past { WellOnly Viewed result }
 {
-    let r = record_check::load(bytes);
-    let verdict = r.verdict;
-    let t = r.table;
-    match verdict {
-        Verdict::Bad(x) => refuse(rt, x),
-        Verdict::Good => print_view(rt, v, t),
+    match record_check::load(bytes) {
+        Err(x) => refuse(rt, x),
+        Ok(t) => print_view(rt, v, t),
     }
 }
 
@@ -52,12 +48,10 @@ pub fn view_file<R: Host>(rt: &R, v: View) -> Status
     ensures answer { WellOnly Viewed result }
 {
     let mut bytes = [0u8; 3866];
-    let l = load(rt, under_place(Action::Viewing(v)), &mut bytes);
-    if !l.good {
+    let Some(l) = load(rt, Action::Viewing(v).shape().under, &mut bytes) else {
         return Status::Failed;
-    }
-    let n = l.size;
-    view_bytes(rt, v, l, &bytes[..n])
+    };
+    view_bytes(rt, v, l, &bytes[..l.size])
 }
 
 // The record in the bytes with another tail datum; the run fails where it is refused. `l` is what was read of the
@@ -70,27 +64,24 @@ fn close_bytes<R: Host>(rt: &R, l: Input, bytes: &[u8], datum: Number, out: &mut
         out.old }
     ensures past { WellOnly Closed result }
 {
-    let i = written_place(Action::WithTail);
+    let a = Action::WithTail;
     let r = with_tail(bytes, datum.value, out);
-    finish(rt, Action::WithTail, i, r, out)
+    finish(rt, a, a.shape().written, r, out)
 }
 
 // with-tail RECORD DATUM OUT
 pub fn close_file<R: Host>(rt: &R) -> Status
     ensures answer { WellOnly Closed result }
 {
-    let datum = number_at(rt, Action::WithTail, 3, GREATEST);
-    if !datum.good {
+    let Some(datum) = number_at(rt, Action::WithTail, 3, GREATEST) else {
         return Status::Misused;
-    }
+    };
     let mut bytes = [0u8; 3866];
-    let l = load(rt, under_place(Action::WithTail), &mut bytes);
-    if !l.good {
+    let Some(l) = load(rt, Action::WithTail.shape().under, &mut bytes) else {
         return Status::Failed;
-    }
-    let n = l.size;
+    };
     let mut out = [0u8; 3865];
-    close_bytes(rt, l, &bytes[..n], datum, &mut out)
+    close_bytes(rt, l, &bytes[..l.size], datum, &mut out)
 }
 
 // Prints a good set, or says the refusal of a bad one. `l` is what was read of the set.
@@ -100,8 +91,8 @@ fn tell_set<R: Host>(rt: &R, l: Input, set: &[u8]) -> Status
     ensures past { WellOnly Listed result }
 {
     match check_set(set) {
-        SetAnswer::Bad { number, refusal } => refuse_set(rt, number, refusal),
-        SetAnswer::Good(n) => {
+        Err(bad) => refuse_set(rt, bad.number, bad.refusal),
+        Ok(n) => {
             let mut out = io::large_buffer();
             let size = put_set(&mut out, set, n);
             print(rt, &out[..size])
@@ -114,10 +105,8 @@ pub fn set_file<R: Host>(rt: &R) -> Status
     ensures answer { WellOnly Listed result }
 {
     let mut bytes = files::buffer();
-    let l = load_whole(rt, read_place(Action::Collection), &mut bytes, 1000000);
-    if !l.good {
+    let Some(l) = load_whole(rt, Action::Collection.shape().read, &mut bytes, 1000000) else {
         return Status::Failed;
-    }
-    let n = l.size;
-    tell_set(rt, l, &bytes[..n])
+    };
+    tell_set(rt, l, &bytes[..l.size])
 }

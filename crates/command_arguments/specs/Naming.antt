@@ -1,14 +1,14 @@
--- Which action a word names.
+-- Which action a word names, if one does.
 -- In order: asked_action, verify_action, recordings_action, stream_action, record_action, action_of.
 -- Assumes nothing.
-use Rattle.std.specs.Prelude.{if◌then◌else◌, List, ℕ}
+use Rattle.std.specs.Prelude.{if◌then◌else◌, List, ℕ, Option, Some, None}
 use Rattle.text.specs.Texts.{bytes}
 use Rattle.text.specs.Words.{same}
 use Rattle.command_arguments.specs.declared.Action.{Action}
 use Rattle.command_arguments.specs.declared.Action.TheVariants.{Compile, CompileJob, CompileJoined, Trace}
 use Rattle.command_arguments.specs.declared.Action.TheVariants.{Collection, Help, Version, Viewing, Coding}
 use Rattle.command_arguments.specs.declared.Action.TheVariants.{Stream}
-use Rattle.command_arguments.specs.declared.Action.TheVariants.{WithTail, Recordings, Verify, Unknown}
+use Rattle.command_arguments.specs.declared.Action.TheVariants.{WithTail, Recordings, Verify}
 use Rattle.command_arguments.specs.declared.View.TheVariants.{Check, Show, Draw}
 use Rattle.command_arguments.specs.declared.Way.TheVariants.{Encode, Decode}
 use Rattle.command_arguments.specs.declared.OnStream.TheVariants.{Pack, Unpack, Reach}
@@ -17,49 +17,49 @@ use Rattle.command_arguments.specs.declared.OnRecordings.TheVariants.{Weave, Unw
 use Rattle.command_arguments.specs.declared.Form.TheVariants.{Words, Stream as AsStream}
 
 -- the action that asks about the command itself
-unfoldable pub asked_action : List ℕ → Action
+unfoldable pub asked_action : List ℕ → Option Action
 asked_action w =
-    if same w (bytes "help") then Help else
-    if same w (bytes "--help") then Help else
-    if same w (bytes "-h") then Help else
-    if same w (bytes "--version") then Version else Unknown
+    if same w (bytes "help") then Some Help else
+    if same w (bytes "--help") then Some Help else
+    if same w (bytes "-h") then Some Help else
+    if same w (bytes "--version") then Some Version else None
 
 -- the action that tells whether words are a recording
-unfoldable pub verify_action : List ℕ → Action
+unfoldable pub verify_action : List ℕ → Option Action
 verify_action w =
-    if same w (bytes "verify") then Verify Words else
-    if same w (bytes "verify-stream") then Verify AsStream else asked_action w
+    if same w (bytes "verify") then Some (Verify Words) else
+    if same w (bytes "verify-stream") then Some (Verify AsStream) else asked_action w
 
 -- the action on several recordings at once
-unfoldable pub recordings_action : List ℕ → Action
+unfoldable pub recordings_action : List ℕ → Option Action
 recordings_action w =
-    if same w (bytes "weave") then Recordings Weave else
-    if same w (bytes "unweave") then Recordings Unweave else verify_action w
+    if same w (bytes "weave") then Some (Recordings Weave) else
+    if same w (bytes "unweave") then Some (Recordings Unweave) else verify_action w
 
 -- the action on bit streams
-unfoldable pub stream_action : List ℕ → Action
+unfoldable pub stream_action : List ℕ → Option Action
 stream_action w =
-    if same w (bytes "pack") then Stream Pack else
-    if same w (bytes "unpack") then Stream Unpack else
-    if same w (bytes "encode-stream") then Stream EncodeStream else
-    if same w (bytes "decode-stream") then Stream DecodeStream else
-    if same w (bytes "reach") then Stream Reach else recordings_action w
+    if same w (bytes "pack") then Some (Stream Pack) else
+    if same w (bytes "unpack") then Some (Stream Unpack) else
+    if same w (bytes "encode-stream") then Some (Stream EncodeStream) else
+    if same w (bytes "decode-stream") then Some (Stream DecodeStream) else
+    if same w (bytes "reach") then Some (Stream Reach) else recordings_action w
 
 -- the action on one record, or on one and what is recorded under it
-unfoldable pub record_action : List ℕ → Action
+unfoldable pub record_action : List ℕ → Option Action
 record_action w =
-    if same w (bytes "check") then Viewing Check else
-    if same w (bytes "show") then Viewing Show else
-    if same w (bytes "draw") then Viewing Draw else
-    if same w (bytes "with-tail") then WithTail else
-    if same w (bytes "encode") then Coding Encode else
-    if same w (bytes "decode") then Coding Decode else stream_action w
+    if same w (bytes "check") then Some (Viewing Check) else
+    if same w (bytes "show") then Some (Viewing Show) else
+    if same w (bytes "draw") then Some (Viewing Draw) else
+    if same w (bytes "with-tail") then Some WithTail else
+    if same w (bytes "encode") then Some (Coding Encode) else
+    if same w (bytes "decode") then Some (Coding Decode) else stream_action w
 
 -- the action that a word names
-unfoldable pub action_of : List ℕ → Action
+unfoldable pub action_of : List ℕ → Option Action
 action_of w =
-    if same w (bytes "compile") then Compile 0 else
-    if same w (bytes "compile-job") then CompileJob else
-    if same w (bytes "trace") then Trace else
-    if same w (bytes "set") then Collection else
-    if same w (bytes "compile-joined") then CompileJoined else record_action w
+    if same w (bytes "compile") then Some (Compile 0) else
+    if same w (bytes "compile-job") then Some CompileJob else
+    if same w (bytes "trace") then Some Trace else
+    if same w (bytes "set") then Some Collection else
+    if same w (bytes "compile-joined") then Some CompileJoined else record_action w

@@ -8,7 +8,7 @@ use Rattle.command_arguments.specs.declared.Action.{Action}
 use Rattle.command_arguments.specs.declared.Action.TheVariants.{Compile, CompileJob, CompileJoined, Trace}
 use Rattle.command_arguments.specs.declared.Action.TheVariants.{Collection, Help, Version, Viewing, Coding}
 use Rattle.command_arguments.specs.declared.Action.TheVariants.{Stream}
-use Rattle.command_arguments.specs.declared.Action.TheVariants.{WithTail, Recordings, Verify, Unknown}
+use Rattle.command_arguments.specs.declared.Action.TheVariants.{WithTail, Recordings, Verify}
 use Rattle.command_arguments.specs.declared.OnStream.{OnStream}
 use Rattle.command_arguments.specs.declared.OnStream.TheVariants.{Pack, Unpack, Encode, Decode, Reach}
 use Rattle.command_arguments.specs.declared.Form.{Form}
@@ -55,7 +55,6 @@ shape_of (Coding w) = shaped 5 5 0 2 3 4
 shape_of (Stream s) = stream_shape s
 shape_of (Recordings r) = shaped 5 5 2 0 3 4
 shape_of (Verify f) = verify_shape f
-shape_of Unknown = shaped 0 0 0 0 0 0
 
 -- a count of arguments is from the fewest to the most
 abbrev pub fits : ℕ → ℕ → ℕ → Bool

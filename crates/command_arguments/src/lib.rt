@@ -66,8 +66,6 @@ pub enum Action {
     Recordings(OnRecordings),
     // Whether words are a recording.
     Verify(Form),
-    // No action has this name.
-    Unknown,
 }
 
 // What an action takes: the fewest and the most arguments, the program's name among them; the argument that is its
@@ -85,7 +83,7 @@ pub struct Shape {
 }
 
 // How a run ends.
-#[derive(Clone, Copy)]
+#[derive(Clone, Copy, PartialEq, Eq)]
 pub enum Status {
     // 0: the result is written.
     Done,
@@ -97,12 +95,12 @@ pub enum Status {
     NoRecording,
 }
 
-// What an argument says that is to be a number.
+// Why an argument says no number that is read.
 #[derive(Clone, Copy)]
-pub enum Parsed {
-    Number(usize),
+pub enum NumberError {
     // It is above the greatest number that is read.
     Above,
+    // It is no number.
     Wrong,
 }
 
@@ -132,13 +130,7 @@ fn with_places(
 fn written_after(weights: usize) -> usize
     ensures answer { result ≡ written_after weights }
 {
-    if weights == 0 {
-        return 7;
-    }
-    if weights < 16 {
-        return 8 + weights;
-    }
-    24
+    if weights == 0 { 7 } else { 8 + weights.min(16) }
 }
 
 // What an action on bit streams takes.
@@ -164,74 +156,48 @@ fn verify_shape(f: Form) -> Shape
     }
 }
 
-// What an action takes.
-pub fn shape_of(a: Action) -> Shape
-    ensures answer { result ≡ shape_of a }
-{
-    match a {
-        Action::Compile(w) => with_places(7, 25, 2, 0, 0, written_after(w)),
-        Action::CompileJob => with_places(3, 4, 0, 0, 2, 3),
-        Action::CompileJoined => with_places(3, 4, 0, 0, 2, 3),
-        Action::Trace => with_places(7, 24, 2, 0, 0, 0),
-        Action::Collection => with_places(3, 3, 0, 0, 2, 0),
-        Action::Help => with_places(2, 3, 0, 0, 0, 0),
-        Action::Version => with_places(2, 2, 0, 0, 0, 0),
-        Action::Viewing(_) => with_places(3, 3, 0, 2, 0, 0),
-        Action::WithTail => with_places(5, 5, 3, 2, 0, 4),
-        Action::Coding(_) => with_places(5, 5, 0, 2, 3, 4),
-        Action::Stream(s) => stream_shape(s),
-        Action::Recordings(_) => with_places(5, 5, 2, 0, 3, 4),
-        Action::Verify(f) => verify_shape(f),
-        Action::Unknown => with_places(0, 0, 0, 0, 0, 0),
+impl Action {
+    // What an action takes.
+    pub fn shape(self) -> Shape
+        ensures answer { result ≡ shape_of self }
+    {
+        match self {
+            Action::Compile(w) => with_places(7, 25, 2, 0, 0, written_after(w)),
+            Action::CompileJob | Action::CompileJoined => with_places(3, 4, 0, 0, 2, 3),
+            Action::Trace => with_places(7, 24, 2, 0, 0, 0),
+            Action::Collection => with_places(3, 3, 0, 0, 2, 0),
+            Action::Help => with_places(2, 3, 0, 0, 0, 0),
+            Action::Version => with_places(2, 2, 0, 0, 0, 0),
+            Action::Viewing(_) => with_places(3, 3, 0, 2, 0, 0),
+            Action::WithTail => with_places(5, 5, 3, 2, 0, 4),
+            Action::Coding(_) => with_places(5, 5, 0, 2, 3, 4),
+            Action::Stream(s) => stream_shape(s),
+            Action::Recordings(_) => with_places(5, 5, 2, 0, 3, 4),
+            Action::Verify(f) => verify_shape(f),
+        }
     }
 }
 
-// The argument that names the record of an action.
-pub fn under_place(a: Action) -> usize
-    ensures answer { result ≡ (shape_of a).under }
-{
-    let s = shape_of(a);
-    s.under
-}
-
-// The argument that names the file that an action reads.
-pub fn read_place(a: Action) -> usize
-    ensures answer { result ≡ (shape_of a).read }
-{
-    let s = shape_of(a);
-    s.read
-}
-
-// The argument that names the file that an action writes.
-pub fn written_place(a: Action) -> usize
-    ensures answer { result ≡ (shape_of a).written }
-{
-    let s = shape_of(a);
-    s.written
-}
-
-// Whether a count of arguments is from the fewest to the most.
-pub fn is_fitting(fewest: usize, most: usize, count: usize) -> bool
-    ensures answer { result ≡ fits fewest most count }
-{
-    if count < fewest {
-        return false;
+impl Shape {
+    // Whether a count of arguments is from the fewest to the most.
+    pub fn is_fitting(self, count: usize) -> bool
+        ensures answer { result ≡ fits self.fewest self.most count }
+    {
+        (self.fewest..=self.most).contains(&count)
     }
-    if most < count {
-        return false;
-    }
-    true
 }
 
-// The exit status.
-pub fn status_number(s: Status) -> u32
-    ensures answer { result ≡ status_of s }
-    ensures past { result ≤ 3 }
-{
-    match s {
-        Status::Done => 0,
-        Status::Failed => 1,
-        Status::Misused => 2,
-        Status::NoRecording => 3,
+impl Status {
+    // The exit status.
+    pub fn number(self) -> u32
+        ensures answer { result ≡ status_of self }
+        ensures past { result ≤ 3 }
+    {
+        match self {
+            Status::Done => 0,
+            Status::Failed => 1,
+            Status::Misused => 2,
+            Status::NoRecording => 3,
+        }
     }
 }

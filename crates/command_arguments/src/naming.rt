@@ -7,115 +7,105 @@ use crate::{Action, Form, OnRecordings, OnStream, View, Way};
 use text::is_same;
 
 // The action that asks about the command itself.
-fn asked_action(word: &[u8]) -> Action
+#[tactic(auto, unfolding(crate::specs::Naming::asked_action))]
+fn asked_action(word: &[u8]) -> Option<Action>
     ensures answer { result ≡ asked_action word.now }
 {
-    if is_same(word, b"help") {
-        return Action::Help;
+    if is_same(word, b"help") || is_same(word, b"--help") || is_same(word, b"-h") {
+        Some(Action::Help)
+    } else if is_same(word, b"--version") {
+        Some(Action::Version)
+    } else {
+        None
     }
-    if is_same(word, b"--help") {
-        return Action::Help;
-    }
-    if is_same(word, b"-h") {
-        return Action::Help;
-    }
-    if is_same(word, b"--version") {
-        return Action::Version;
-    }
-    Action::Unknown
 }
 
 // The action that tells whether words are a recording.
-fn verify_action(word: &[u8]) -> Action
+#[tactic(auto, unfolding(crate::specs::Naming::verify_action))]
+fn verify_action(word: &[u8]) -> Option<Action>
     ensures answer { result ≡ verify_action word.now }
 {
     if is_same(word, b"verify") {
-        return Action::Verify(Form::Words);
+        Some(Action::Verify(Form::Words))
+    } else if is_same(word, b"verify-stream") {
+        Some(Action::Verify(Form::Stream))
+    } else {
+        asked_action(word)
     }
-    if is_same(word, b"verify-stream") {
-        return Action::Verify(Form::Stream);
-    }
-    asked_action(word)
 }
 
 // The action on several recordings at once.
-fn recordings_action(word: &[u8]) -> Action
+#[tactic(auto, unfolding(crate::specs::Naming::recordings_action))]
+fn recordings_action(word: &[u8]) -> Option<Action>
     ensures answer { result ≡ recordings_action word.now }
 {
     if is_same(word, b"weave") {
-        return Action::Recordings(OnRecordings::Weave);
+        Some(Action::Recordings(OnRecordings::Weave))
+    } else if is_same(word, b"unweave") {
+        Some(Action::Recordings(OnRecordings::Unweave))
+    } else {
+        verify_action(word)
     }
-    if is_same(word, b"unweave") {
-        return Action::Recordings(OnRecordings::Unweave);
-    }
-    verify_action(word)
 }
 
 // The action on bit streams.
-fn stream_action(word: &[u8]) -> Action
+#[tactic(auto, unfolding(crate::specs::Naming::stream_action))]
+fn stream_action(word: &[u8]) -> Option<Action>
     ensures answer { result ≡ stream_action word.now }
 {
     if is_same(word, b"pack") {
-        return Action::Stream(OnStream::Pack);
+        Some(Action::Stream(OnStream::Pack))
+    } else if is_same(word, b"unpack") {
+        Some(Action::Stream(OnStream::Unpack))
+    } else if is_same(word, b"encode-stream") {
+        Some(Action::Stream(OnStream::Encode))
+    } else if is_same(word, b"decode-stream") {
+        Some(Action::Stream(OnStream::Decode))
+    } else if is_same(word, b"reach") {
+        Some(Action::Stream(OnStream::Reach))
+    } else {
+        recordings_action(word)
     }
-    if is_same(word, b"unpack") {
-        return Action::Stream(OnStream::Unpack);
-    }
-    if is_same(word, b"encode-stream") {
-        return Action::Stream(OnStream::Encode);
-    }
-    if is_same(word, b"decode-stream") {
-        return Action::Stream(OnStream::Decode);
-    }
-    if is_same(word, b"reach") {
-        return Action::Stream(OnStream::Reach);
-    }
-    recordings_action(word)
 }
 
 // The action on one record, or on one and what is recorded under it.
-fn record_action(word: &[u8]) -> Action
+#[tactic(auto, unfolding(crate::specs::Naming::record_action))]
+fn record_action(word: &[u8]) -> Option<Action>
     ensures answer { result ≡ record_action word.now }
 {
     if is_same(word, b"check") {
-        return Action::Viewing(View::Check);
+        Some(Action::Viewing(View::Check))
+    } else if is_same(word, b"show") {
+        Some(Action::Viewing(View::Show))
+    } else if is_same(word, b"draw") {
+        Some(Action::Viewing(View::Draw))
+    } else if is_same(word, b"with-tail") {
+        Some(Action::WithTail)
+    } else if is_same(word, b"encode") {
+        Some(Action::Coding(Way::Encode))
+    } else if is_same(word, b"decode") {
+        Some(Action::Coding(Way::Decode))
+    } else {
+        stream_action(word)
     }
-    if is_same(word, b"show") {
-        return Action::Viewing(View::Show);
-    }
-    if is_same(word, b"draw") {
-        return Action::Viewing(View::Draw);
-    }
-    if is_same(word, b"with-tail") {
-        return Action::WithTail;
-    }
-    if is_same(word, b"encode") {
-        return Action::Coding(Way::Encode);
-    }
-    if is_same(word, b"decode") {
-        return Action::Coding(Way::Decode);
-    }
-    stream_action(word)
 }
 
-// The action that a word names.
-pub fn action_of(word: &[u8]) -> Action
+// The action that a word names, if one does.
+#[tactic(auto, unfolding(crate::specs::Naming::action_of))]
+pub fn action_of(word: &[u8]) -> Option<Action>
     ensures answer { result ≡ action_of word.now }
 {
     if is_same(word, b"compile") {
-        return Action::Compile(0);
+        Some(Action::Compile(0))
+    } else if is_same(word, b"compile-job") {
+        Some(Action::CompileJob)
+    } else if is_same(word, b"trace") {
+        Some(Action::Trace)
+    } else if is_same(word, b"set") {
+        Some(Action::Collection)
+    } else if is_same(word, b"compile-joined") {
+        Some(Action::CompileJoined)
+    } else {
+        record_action(word)
     }
-    if is_same(word, b"compile-job") {
-        return Action::CompileJob;
-    }
-    if is_same(word, b"trace") {
-        return Action::Trace;
-    }
-    if is_same(word, b"set") {
-        return Action::Collection;
-    }
-    if is_same(word, b"compile-joined") {
-        return Action::CompileJoined;
-    }
-    record_action(word)
 }

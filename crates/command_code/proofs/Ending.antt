@@ -1,9 +1,10 @@
 -- How a run ends that encodes or decodes.
 -- In order: ends-whole, ends-coded.
 -- Assumes nothing.
+use Rattle.answer.specs.declared.Refusal.{Refusal}
+use Rattle.std.proofs.Common.{Result}
 use Rattle.std.proofs.Common.{◌≡◌, ◌⊎◌}
 use Rattle.laws.proofs.All.{List, ℕ, length}
-use Rattle.answer.specs.declared.Answer.{Answer}
 use Rattle.answer.specs.Outcomes.{answer_of}
 use Rattle.codec_verify.specs.Verify.{verify_under}
 use Rattle.command_arguments.specs.declared.Way.{Way}
@@ -20,7 +21,7 @@ pub ends-whole : (w : Way) (rec xs : List ℕ) → EndsBy (Whole w rec xs) (Shor
 ends-whole Encode rec xs = tt
 ends-whole Decode rec xs = ends_by (answer_of (verify_under rec xs)) (length xs) (verify-most rec xs)
 
-pub ends-coded : (w : Way) (rec xs : List ℕ) (room : ℕ) (a : Answer) (s : Status)
+pub ends-coded : (w : Way) (rec xs : List ℕ) (room : ℕ) (a : Result ℕ Refusal) (s : Status)
     → a ≡ answer_of (coded w rec room xs) → Fails a s → (s ≡ Failed) ⊎ (s ≡ end_code w rec xs)
     → EndsBy (Coded w) (Spoiled w) s
 ends-coded w rec xs room a s e f h =

@@ -11,18 +11,17 @@ ghost use Rattle.command_outputs.specs.Results.{Fails, EndsBy};
 ghost use Rattle.command_verify.specs.Verifying.{after_by};
 ghost use Rattle.command_code.specs.Coding.{coded, Coded, Spoiled, end_code, longest_of};
 
-use answer::Answer;
+use answer::Refusal;
 use codec_record::decoding::decode;
 use codec_record::encoding::encode;
-use command_arguments::{Action, Status, Way, read_place, under_place};
+use command_arguments::{Action, Status, Way};
 use command_inputs::{Input, is_twice, load, load_whole, recording};
 use command_marks::finish_code;
 use command_messages::Host;
-use command_messages::usage::misused_word;
 use command_verify::{after_words, after_writing};
 
 // The words of blocks, or the blocks of words, under a record, in the output.
-fn code(w: Way, under: &[u8], bytes: &[u8], out: &mut [u8]) -> Answer
+fn code(w: Way, under: &[u8], bytes: &[u8], out: &mut [u8]) -> Result<usize, Refusal>
     ensures answer { result ≡ answer_of (coded w under.now (length out.old) bytes.now) }
     ensures written { out.new
         ≡ output_of (coded w under.now (length out.old) bytes.now)
@@ -84,21 +83,16 @@ pub fn code_files<R: Host>(rt: &R, w: Way) -> Status
 {
     let a = Action::Coding(w);
     if is_twice(rt, a) {
-        misused_word(rt, a, b"-", b": only one file can be standard input");
         return Status::Misused;
     }
     let mut under = [0u8; 3866];
-    let u = load(rt, under_place(a), &mut under);
-    if !u.good {
+    let Some(u) = load(rt, a.shape().under, &mut under) else {
         return Status::Failed;
-    }
-    let n = u.size;
+    };
     let mut bytes = recording();
-    let b = load_whole(rt, read_place(a), &mut bytes, longest(w));
-    if !b.good {
+    let Some(b) = load_whole(rt, a.shape().read, &mut bytes, longest(w)) else {
         return Status::Failed;
-    }
-    let k = b.size;
+    };
     let mut out = recording();
-    code_bytes(rt, w, u, &under[..n], b, &bytes[..k], &mut out)
+    code_bytes(rt, w, u, &under[..u.size], b, &bytes[..b.size], &mut out)
 }

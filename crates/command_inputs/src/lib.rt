@@ -2,29 +2,28 @@
 // Each answer says which argument it was read from.
 #![tactic(auto)]
 
-ghost use Rattle.std.specs.Prelude.{◌≡◌, true, false, ◌≤◌, ◌<◌, length};
+ghost use Rattle.std.specs.Prelude.{◌≡◌, true, false, ◌≤◌, ◌<◌, length, IfOk, IfSome};
 ghost use Rattle.io.specs.Counts.{IsPrefixLen};
-ghost use Rattle.files.specs.Files.{Fits};
 ghost use Rattle.command_arguments.specs.Shapes.{shape_of};
 ghost use Rattle.command_inputs.specs.Inputs.{input_of};
 
 mod jobs;
 mod numbers;
 
-use command_arguments::{Action, read_place, under_place};
+use command_arguments::Action;
 use command_messages::arguments::{argument, word};
 use command_messages::system::complain;
+use command_messages::usage::misused_word;
 use command_messages::{Host, say_too_long};
-use files::{Loaded, zeros};
+use files::{LoadError, zeros};
 pub use jobs::{Numbers, numbers_said};
 pub use numbers::{Number, number_at};
 use text::is_same;
 
-// What reading a file comes to: whether it went well, whether the file has more bytes than were lent, how many of the
-// lent bytes it filled, and the argument that names it.
+// What was read of a file: how many of the lent bytes it filled, whether the file has more bytes than were lent, and the
+// argument that names it.
 #[derive(Clone, Copy)]
 pub struct Input {
-    pub good: bool,
     pub more: bool,
     pub size: usize,
     pub at: usize,
@@ -51,99 +50,77 @@ fn is_dash<R: Host>(rt: &R, i: usize) -> bool {
     is_same(&name[..n], b"-")
 }
 
-// Whether the record of an action and the file it reads both are standard input, which can be read only once.
+// Whether the record of an action and the file it reads both are standard input, which can be read only once. It says
+// so.
 pub fn is_twice<R: Host>(rt: &R, a: Action) -> bool
     ensures answer { result ≡ true → (0 < (shape_of a).under) × (0 < (shape_of a).read) }
 {
-    let i = under_place(a);
-    let j = read_place(a);
-    if i == 0 {
-        return false;
+    let shape = a.shape();
+    let twice = shape.under != 0
+        && shape.read != 0
+        && is_dash(rt, shape.under)
+        && is_dash(rt, shape.read);
+    if twice {
+        misused_word(rt, a, b"-", b": only one file can be standard input");
     }
-    if j == 0 {
-        return false;
-    }
-    if is_dash(rt, i) {
-        return is_dash(rt, j);
-    }
-    false
+    twice
 }
 
-// What was read of the file that argument i names, with so much room.
-fn input_of(i: usize, room: usize, l: Loaded) -> Input
+// What was read of the file that argument i names, with so much room, if it was read.
+fn input_of(i: usize, room: usize, l: Result<usize, LoadError>) -> Option<Input>
     ensures answer { result ≡ input_of i room l }
-    ensures past { result.at ≡ i }
+    ensures past { IfSome result (λ r. r.at ≡ i) }
 {
     match l {
-        Loaded::Whole(n) => Input {
-            good: true,
+        Ok(size) => Some(Input {
             more: false,
-            size: n,
+            size,
             at: i,
-        },
-        Loaded::TooLong => Input {
-            good: true,
+        }),
+        Err(LoadError::TooLong) => Some(Input {
             more: true,
             size: room,
             at: i,
-        },
-        Loaded::Unreadable(_) => Input {
-            good: false,
-            more: false,
-            size: 0,
-            at: i,
-        },
+        }),
+        Err(LoadError::Unreadable(_)) => None,
     }
 }
 
 // Reads the file of this name. It says what goes wrong.
-fn load_from<R: Host>(rt: &R, name: &[u8], out: &mut [u8]) -> Loaded
-    ensures past { Fits result out.new }
+fn load_from<R: Host>(rt: &R, name: &[u8], out: &mut [u8]) -> Result<usize, LoadError>
+    ensures past { IfOk result (λ n. IsPrefixLen n out.new) }
 {
     if is_same(name, b"-") {
-        let mut input = rt.reader();
-        return files::load_open(&mut input, out);
-    }
-    files::load(rt, name, out)
-}
-
-// Says why the file of this name was not read, if it was not.
-fn tell_unread<R: Host>(rt: &R, name: &[u8], l: &Loaded) {
-    match l {
-        Loaded::Unreadable(e) => {
-            complain(rt, name, *e);
-        }
-        _ => {}
+        files::load_open(&mut rt.reader(), out)
+    } else {
+        files::load(rt, name, out)
     }
 }
 
-// Reads the file of this name, which is argument i. It says what goes wrong.
-fn load_named<R: Host>(rt: &R, i: usize, name: &[u8], out: &mut [u8]) -> Input
-    ensures answer { result.at ≡ i }
-    ensures past { IsPrefixLen result.size out.new }
+// Reads the file of this name, which is argument i, if it can be read. It says what goes wrong.
+fn load_named<R: Host>(rt: &R, i: usize, name: &[u8], out: &mut [u8]) -> Option<Input>
+    ensures answer { IfSome result (λ r. r.at ≡ i) }
+    ensures past { IfSome result (λ r. IsPrefixLen r.size out.new) }
 {
     let room = out.len();
     let l = load_from(rt, name, out);
-    tell_unread(rt, name, &l);
+    if let Err(LoadError::Unreadable(e)) = l {
+        complain(rt, name, e);
+    }
     input_of(i, room, l)
 }
 
-// Reads the file that argument i names. It says what goes wrong.
-pub fn load<R: Host>(rt: &R, i: usize, out: &mut [u8]) -> Input
-    ensures answer { result.at ≡ i }
-    ensures past { IsPrefixLen result.size out.new }
+// Reads the file that argument i names, if it can be read. It says what goes wrong.
+pub fn load<R: Host>(rt: &R, i: usize, out: &mut [u8]) -> Option<Input>
+    ensures answer { IfSome result (λ r. r.at ≡ i) }
+    ensures past { IfSome result (λ r. IsPrefixLen r.size out.new) }
 {
     let mut name = io::buffer();
     match argument(rt, i, &mut name) {
         Ok(n) => load_named(rt, i, &name[..n], out),
         Err(e) => {
             complain(rt, b"argument", e);
-            Input {
-                good: false,
-                more: false,
-                size: 0,
-                at: i,
-            }
+            None
         }
     }
 }
@@ -156,28 +133,14 @@ fn tell_too_long<R: Host>(rt: &R, i: usize, most: usize) {
 }
 
 // As load, and a file of more bytes than `most` is too long.
-pub fn load_whole<R: Host>(rt: &R, i: usize, out: &mut [u8], most: usize) -> Input
-    ensures answer { result.at ≡ i }
-    ensures past { IsPrefixLen result.size out.new × (result.more ≡ false) × (result.size ≤ most) }
+pub fn load_whole<R: Host>(rt: &R, i: usize, out: &mut [u8], most: usize) -> Option<Input>
+    ensures answer { IfSome result (λ r. r.at ≡ i) }
+    ensures past { IfSome result (λ r. IsPrefixLen r.size out.new × (r.more ≡ false) × (r.size ≤ most)) }
 {
-    let r = load(rt, i, out);
-    if r.more {
+    let r = load(rt, i, out)?;
+    if r.more || most < r.size {
         tell_too_long(rt, i, most);
-        return Input {
-            good: false,
-            more: false,
-            size: 0,
-            at: i,
-        };
+        return None;
     }
-    if most < r.size {
-        tell_too_long(rt, i, most);
-        return Input {
-            good: false,
-            more: false,
-            size: 0,
-            at: i,
-        };
-    }
-    r
+    Some(r)
 }

@@ -15,30 +15,25 @@ const TOO_LONG: i32 = 36;
 pub fn argument<R: Env>(rt: &R, i: usize, out: &mut [u8]) -> Result<usize, Error>
     ensures past { IfOk result (λ n. IsPrefixLen n out.new) }
 {
-    match rt.arg(i, out) {
-        Ok(n) => Ok(n),
-        Err(FillError::TooLong) => Err(Error::from_raw_os_error(TOO_LONG)),
-        Err(FillError::NotPresent) => Err(Error::from_raw_os_error(MISSING)),
-    }
+    rt.arg(i, out).map_err(|e| match e {
+        FillError::TooLong => Error::from_raw_os_error(TOO_LONG),
+        FillError::NotPresent => Error::from_raw_os_error(MISSING),
+    })
 }
 
 // As argument, and no bytes of one that is missing or too long.
 pub fn word<R: Env>(rt: &R, i: usize, out: &mut [u8]) -> usize
     ensures past { IsPrefixLen result out.new }
 {
-    match argument(rt, i, out) {
-        Ok(n) => n,
-        Err(_) => 0,
-    }
+    argument(rt, i, out).unwrap_or(0)
 }
 
 // How many arguments there are, with the name of the command.
 pub fn argument_count<R: Env>(rt: &R) -> usize {
     let mut first = [0u8; 1];
     for i in 0..usize::MAX {
-        match rt.arg(i, &mut first) {
-            Err(FillError::NotPresent) => return i,
-            _ => {}
+        if matches!(rt.arg(i, &mut first), Err(FillError::NotPresent)) {
+            return i;
         }
     }
     usize::MAX

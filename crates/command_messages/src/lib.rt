@@ -18,24 +18,27 @@ use crate::system::print;
 use answer::Refusal;
 use command_arguments::Status;
 pub use host::Host;
-use sentences::put_sentence;
-use text::put;
+use sentences::write_sentence;
+use text::Writer;
+use view_refusals::{write_refusal, write_refusal_line};
 
 // What is said of a refusal.
-fn put_refusal(out: &mut [u8], r: Refusal) -> usize
-    ensures written { Added (saying r) 0 out.old out.new result }
+fn write_saying(to: &mut Writer, r: Refusal)
+    ensures lent { to.new.out.ghost_name ≡ to.old.out.ghost_name }
+    ensures written { Added (saying r) to.old.at to.old.out.now to.new.out.now to.new.at }
 {
-    let refused = put(out, 0, b"sbc: ");
-    view_refusals::put_refusal_line(out, refused, r)
+    to.put(b"sbc: ");
+    write_refusal_line(to, r);
 }
 
 // What is said of the refusal of a set.
-fn put_set_refusal(out: &mut [u8], i: usize, r: Refusal) -> usize
-    ensures written { Added (set_saying i r) 0 out.old out.new result }
+fn write_set_saying(to: &mut Writer, i: usize, r: Refusal)
+    ensures lent { to.new.out.ghost_name ≡ to.old.out.ghost_name }
+    ensures written { Added (set_saying i r) to.old.at to.old.out.now to.new.out.now to.new.at }
 {
-    let refused = put(out, 0, b"sbc: ");
-    let number = view_refusals::put_refusal(out, refused, r);
-    put_sentence(out, number, b", at record #\n", &[i])
+    to.put(b"sbc: ");
+    write_refusal(to, r);
+    write_sentence(to, b", at record #\n", &[i]);
 }
 
 // Where a text is said.
@@ -71,7 +74,9 @@ pub fn refuse<R: Host>(rt: &R, r: Refusal) -> Status
     ensures answer { result ≡ Failed }
 {
     let mut line = [0u8; 256];
-    let n = put_refusal(&mut line, r);
+    let mut writer = Writer::new(&mut line, 0);
+    write_saying(&mut writer, r);
+    let n = writer.at;
     tell(rt, &line[..n])
 }
 
@@ -80,7 +85,9 @@ pub fn refuse_set<R: Host>(rt: &R, i: usize, r: Refusal) -> Status
     ensures answer { result ≡ Failed }
 {
     let mut line = [0u8; 256];
-    let n = put_set_refusal(&mut line, i, r);
+    let mut writer = Writer::new(&mut line, 0);
+    write_set_saying(&mut writer, i, r);
+    let n = writer.at;
     tell(rt, &line[..n])
 }
 
@@ -89,10 +96,12 @@ pub fn say<R: Host>(rt: &R, name: &[u8], what: &[u8]) -> Status
     ensures answer { result ≡ Failed }
 {
     let mut line = [0u8; 4352];
-    let a = put(&mut line, 0, b"sbc: ");
-    let b = put(&mut line, a, name);
-    let c = put(&mut line, b, what);
-    let n = put(&mut line, c, b"\n");
+    let mut writer = Writer::new(&mut line, 0);
+    writer.put(b"sbc: ");
+    writer.put(name);
+    writer.put(what);
+    writer.put(b"\n");
+    let n = writer.at;
     tell(rt, &line[..n])
 }
 
@@ -101,6 +110,8 @@ pub fn say_too_long<R: Host>(rt: &R, name: &[u8], most: usize) -> Status
     ensures answer { result ≡ Failed }
 {
     let mut what = [0u8; 64];
-    let n = put_sentence(&mut what, 0, b": longer than # bytes", &[most]);
+    let mut writer = Writer::new(&mut what, 0);
+    write_sentence(&mut writer, b": longer than # bytes", &[most]);
+    let n = writer.at;
     say(rt, name, &what[..n])
 }

@@ -1,9 +1,9 @@
 // Why a call of the system failed, as the system says it.
 ghost use Rattle.io.specs.Counts.{IsPrefixLen};
-ghost use Rattle.std.specs.Prelude.{◌≤◌, length};
+ghost use Rattle.std.specs.Prelude.{◌≡◌, ◌≤◌, length};
 
 use std::io::{Cursor, Error, Write};
-use text::put;
+use text::Writer;
 
 // What std says of an error, at the start of the lent bytes.
 fn put_error(out: &mut [u8], e: Error) -> usize
@@ -20,27 +20,24 @@ fn put_error(out: &mut [u8], e: Error) -> usize
 fn text_size(said: &[u8]) -> usize
     ensures past { result ≤ length said.now }
 {
-    let mut n = said.len();
-    while 0 < n {
-        n -= 1;
-        if said[n] == b'(' {
-            return n.saturating_sub(1);
-        }
+    match said.iter().rposition(|byte| *byte == b'(') {
+        Some(n) => n.saturating_sub(1),
+        None => said.len(),
     }
-    said.len()
 }
 
-// The system's text for an error after the first `at` bytes; the answer is the place after it.
-pub fn put_reason(out: &mut [u8], at: usize, e: Error) -> usize
-    ensures past { IsPrefixLen result out.new }
+// The system's text for an error.
+pub fn write_reason(to: &mut Writer, e: Error)
+    ensures lent { to.new.out.ghost_name ≡ to.old.out.ghost_name }
+    ensures past { IsPrefixLen to.new.at to.new.out.now }
+    ensures kept { length to.new.out.now ≡ length to.old.out.now }
 {
     let mut said = [0u8; 256];
     let n = put_error(&mut said, e);
-    match e.raw_os_error() {
-        Some(_) => {
-            let k = text_size(&said[..n]);
-            put(out, at, &said[..k])
-        }
-        None => put(out, at, &said[..n]),
-    }
+    let size = if e.raw_os_error().is_some() {
+        text_size(&said[..n])
+    } else {
+        n
+    };
+    to.put(&said[..size]);
 }

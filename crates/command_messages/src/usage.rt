@@ -7,7 +7,8 @@ use crate::recorded::{tell_coding, tell_recordings, tell_stream, tell_verify};
 use crate::system::print;
 use crate::{Host, Outlet, say, tell_text};
 use command_arguments::{Action, Status, View};
-use sentences::put_sentence;
+use sentences::write_sentence;
+use text::Writer;
 
 // All actions.
 fn tell_all<R: Host>(rt: &R, to: Outlet) -> Status
@@ -128,10 +129,9 @@ fn tell<R: Host>(rt: &R, to: Outlet, a: Action) -> Status
     ensures past { status_of result ≤ 1 }
 {
     match a {
-        Action::Compile(_) => tell_compiling(rt, to, a),
-        Action::CompileJob => tell_compiling(rt, to, a),
-        Action::CompileJoined => tell_compiling(rt, to, a),
-        Action::Trace => tell_compiling(rt, to, a),
+        Action::Compile(_) | Action::CompileJob | Action::CompileJoined | Action::Trace => {
+            tell_compiling(rt, to, a)
+        }
         Action::Viewing(v) => tell_record(rt, to, v),
         Action::WithTail => tell_text(
             rt,
@@ -153,9 +153,7 @@ Lists the records of the set in FILE: the number of each, its first byte, its le
 a count byte, then each record behind a two-byte length, most significant byte first. At most 1,000,000 bytes.
 ",
         ),
-        Action::Help => tell_all(rt, to),
-        Action::Version => tell_all(rt, to),
-        Action::Unknown => tell_all(rt, to),
+        Action::Help | Action::Version => tell_all(rt, to),
     }
 }
 
@@ -180,7 +178,9 @@ pub fn misused_above<R: Host>(rt: &R, a: Action, word: &[u8], most: usize) -> St
     ensures answer { result ≡ Misused }
 {
     let mut what = [0u8; 64];
-    let n = put_sentence(&mut what, 0, b": above #", &[most]);
+    let mut writer = Writer::new(&mut what, 0);
+    write_sentence(&mut writer, b": above #", &[most]);
+    let n = writer.at;
     misused_word(rt, a, word, &what[..n])
 }
 
@@ -189,12 +189,13 @@ pub fn misused_weights<R: Host>(rt: &R, a: Action, given: usize, states: usize) 
     ensures answer { result ≡ Misused }
 {
     let mut what = [0u8; 96];
-    let n = put_sentence(
-        &mut what,
-        0,
+    let mut writer = Writer::new(&mut what, 0);
+    write_sentence(
+        &mut writer,
         b"# weight~, the constraint has # state~",
         &[given, given, states, states],
     );
+    let n = writer.at;
     say(rt, &what[..n], b"");
     misused(rt, a)
 }
@@ -203,10 +204,7 @@ pub fn misused_weights<R: Host>(rt: &R, a: Action, given: usize, states: usize) 
 pub fn print_use<R: Host>(rt: &R, a: Action) -> Status
     ensures past { status_of result ≤ 1 }
 {
-    match tell(rt, Outlet::Output, a) {
-        Status::Done => Status::Done,
-        _ => Status::Failed,
-    }
+    tell(rt, Outlet::Output, a)
 }
 
 // Prints the version.

@@ -6,12 +6,12 @@ ghost use Rattle.io.specs.Counts.{IsPrefixLen};
 ghost use Rattle.command_arguments.specs.Shapes.{shape_of, status_of};
 ghost use Rattle.command_outputs.specs.Results.{Within, Fails, ended_by};
 
-use answer::Answer;
-use command_arguments::{Action, Status, read_place, under_place};
+use answer::Refusal;
+use command_arguments::{Action, Status};
 use command_messages::arguments::{argument, argument_count, word};
 use command_messages::system::{complain, print};
 use command_messages::{Host, refuse, say};
-use command_store::{Stored, store};
+use command_store::{StoreError, store};
 use text::{is_same, put};
 
 // The name of the file that argument i names, at the start of the lent bytes: none for 0, standard input's for -.
@@ -29,13 +29,13 @@ fn source<R: Host>(rt: &R, i: usize, out: &mut [u8]) -> usize
 }
 
 // How a run ends whose result was written so to the file of this name. It says what went wrong.
-fn ended<R: Host>(rt: &R, name: &[u8], s: Stored) -> Status
+fn ended<R: Host>(rt: &R, name: &[u8], s: Result<usize, StoreError>) -> Status
     ensures answer { result ≡ ended_by s }
 {
     match s {
-        Stored::Whole(_) => Status::Done,
-        Stored::Unwritten(e) => complain(rt, name, e),
-        Stored::Source => say(rt, name, b": it is read too, so it is left as it was"),
+        Ok(_) => Status::Done,
+        Err(StoreError::Unwritten(e)) => complain(rt, name, e),
+        Err(StoreError::Source) => say(rt, name, b": it is read too, so it is left as it was"),
     }
 }
 
@@ -48,8 +48,8 @@ fn store_named<R: Host>(rt: &R, a: Action, name: &[u8], bytes: &[u8]) -> Status
     }
     let mut first = io::buffer();
     let mut second = io::buffer();
-    let n = source(rt, under_place(a), &mut first);
-    let k = source(rt, read_place(a), &mut second);
+    let n = source(rt, a.shape().under, &mut first);
+    let k = source(rt, a.shape().read, &mut second);
     let s = store(rt, name, &first[..n], &second[..k], bytes);
     ended(rt, name, s)
 }
@@ -71,14 +71,14 @@ fn store_at<R: Host>(rt: &R, a: Action, i: usize, bytes: &[u8]) -> Status
 
 // Says the refusal of a call, or writes its result, which is at the start of `out`, to the file that argument i
 // names.
-pub fn finish<R: Host>(rt: &R, a: Action, i: usize, r: Answer, out: &[u8]) -> Status
+pub fn finish<R: Host>(rt: &R, a: Action, i: usize, r: Result<usize, Refusal>, out: &[u8]) -> Status
     requires i_value { i ≡ (shape_of a).written }
     requires within { Within r out.now }
     ensures answer { Fails r result }
     ensures past { status_of result ≤ 1 }
 {
     match r {
-        Answer::Refused(x) => refuse(rt, x),
-        Answer::Done(n) => store_at(rt, a, i, &out[..n]),
+        Err(x) => refuse(rt, x),
+        Ok(n) => store_at(rt, a, i, &out[..n]),
     }
 }

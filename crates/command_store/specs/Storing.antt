@@ -1,16 +1,12 @@
 -- What writing a file says of the bytes, and the name of the new file beside it.
 -- In order: Held; folder_in, folder_of; aside_name.
 -- Assumes nothing.
-use Rattle.std.specs.Prelude.{if◌then◌else◌, ◌≡◌, List, ◌++◌, ℕ, zero, suc, eqb, length, get_or, take}
+use Rattle.std.specs.Prelude.{if◌then◌else◌, ◌≡◌, List, ◌++◌, ℕ, zero, suc, eqb, length, get_or, take, Result, IfOk}
 use Rattle.text.specs.Texts.{bytes}
-use Rattle.command_store.specs.declared.Stored.{Stored}
-use Rattle.command_store.specs.declared.Stored.TheVariants.{Whole, Unwritten, Source}
 
 -- a file is whole only where as many bytes were taken as there are
-abbrev pub Held : Stored → List ℕ → Type 0
-Held (Whole n) bytes = n ≡ length bytes
-Held (Unwritten e) bytes = Unit {0}
-Held Source bytes = Unit {0}
+abbrev pub Held : {E : Type 0} → Result ℕ E → List ℕ → Type 0
+Held r bytes = IfOk r (λ n. n ≡ length bytes)
 
 -- how many of the first n bytes of a path name its folder: those up to the last / among them
 unfoldable pub folder_in : ℕ → List ℕ → ℕ

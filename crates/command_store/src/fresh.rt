@@ -1,7 +1,6 @@
 // New files, which take the name of the one that is written when they are whole.
 ghost use Rattle.command_store.specs.Storing.{Held};
 
-use crate::Stored;
 use crate::names::named;
 use crate::opened::fill;
 use std::fs::{File, remove_file, rename};
@@ -31,12 +30,8 @@ fn make_new<R: Files>(rt: &R, name: &mut [u8]) -> Result<R::File, Error> {
     for number in 0..1000000 {
         put_digits(name, number);
         match create(rt, name) {
-            Ok(file) => return Ok(file),
-            Err(e) => {
-                if e.kind() != ErrorKind::AlreadyExists {
-                    return Err(e);
-                }
-            }
+            Err(e) if e.kind() == ErrorKind::AlreadyExists => {}
+            made => return made,
         }
     }
     Err(Error::from(ErrorKind::AlreadyExists))
@@ -54,30 +49,34 @@ fn put_in_place<R: Files>(rt: &R, name: &[u8], path: &[u8]) -> Result<(), Error>
     rename(rt, named(name)?, named(path)?)
 }
 
-// Writes a new file of this name, and renames it when it is whole.
-pub fn store_by<R: Files>(rt: &R, name: &mut [u8], path: &[u8], bytes: &[u8]) -> Stored
+// Writes a new file of this name and gives it the name of the one that is written.
+fn fill_new<R: Files>(
+    rt: &R,
+    file: R::File,
+    name: &[u8],
+    path: &[u8],
+    bytes: &[u8],
+) -> Result<usize, Error>
     ensures answer { Held result bytes.now }
 {
-    let file = match make_new(rt, name) {
-        Ok(file) => file,
-        Err(e) => return Stored::Unwritten(e),
-    };
-    let r = fill(file, bytes);
-    match r {
-        Stored::Whole(n) => match put_in_place(rt, name, path) {
-            Ok(()) => Stored::Whole(n),
-            Err(e) => {
-                discard(rt, name);
-                Stored::Unwritten(e)
-            }
-        },
-        Stored::Unwritten(e) => {
-            discard(rt, name);
-            Stored::Unwritten(e)
-        }
-        Stored::Source => {
-            discard(rt, name);
-            Stored::Source
-        }
+    let n = fill(file, bytes)?;
+    put_in_place(rt, name, path)?;
+    Ok(n)
+}
+
+// Writes a new file of this name, and renames it when it is whole.
+pub fn store_by<R: Files>(
+    rt: &R,
+    name: &mut [u8],
+    path: &[u8],
+    bytes: &[u8],
+) -> Result<usize, Error>
+    ensures answer { Held result bytes.now }
+{
+    let file = make_new(rt, name)?;
+    let result = fill_new(rt, file, name, path, bytes);
+    if result.is_err() {
+        discard(rt, name);
     }
+    result
 }

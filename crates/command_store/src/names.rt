@@ -9,10 +9,7 @@ use text::put;
 
 // The name of a file as the system takes it.
 pub fn named(name: &[u8]) -> Result<&str, Error> {
-    match str::from_utf8(name) {
-        Ok(text) => Ok(text),
-        Err(_) => Err(Error::from(ErrorKind::InvalidFilename)),
-    }
+    str::from_utf8(name).map_err(|_| Error::from(ErrorKind::InvalidFilename))
 }
 
 // The path of the file of this name, by any way to it, at the start of the lent bytes.

@@ -2,7 +2,6 @@
 ghost use Rattle.std.specs.Prelude.{◌≡◌, ◌≤◌, length, IfOk};
 ghost use Rattle.command_store.specs.Storing.{Held};
 
-use crate::Stored;
 use std::fs::OpenFile;
 use std::io::{Error, ErrorKind, Seek, SeekFrom, Write};
 
@@ -34,42 +33,24 @@ fn write_bytes<F: Write>(file: &mut F, bytes: &[u8]) -> Result<usize, Error>
 // Sees that what was written has reached the device, if there is one.
 fn keep<F: OpenFile>(file: &F) -> Result<(), Error> {
     match file.sync_all() {
-        Ok(()) => Ok(()),
-        Err(e) => {
-            if e.raw_os_error() == Some(NOTHING_TO_KEEP) {
-                return Ok(());
-            }
-            Err(e)
-        }
+        Err(e) if e.raw_os_error() == Some(NOTHING_TO_KEEP) => Ok(()),
+        kept => kept,
     }
 }
 
-// Writes an open file and closes it.
-pub fn fill<F: Write + OpenFile + Drop>(file: F, bytes: &[u8]) -> Stored
+// Writes an open file and closes it; the answer is how many bytes were taken.
+pub fn fill<F: Write + OpenFile + Drop>(mut file: F, bytes: &[u8]) -> Result<usize, Error>
     ensures answer { Held result bytes.now }
 {
-    let mut file = file;
-    match write_bytes(&mut file, bytes) {
-        Ok(n) => match keep(&file) {
-            Ok(()) => Stored::Whole(n),
-            Err(e) => Stored::Unwritten(e),
-        },
-        Err(e) => Stored::Unwritten(e),
-    }
+    let n = write_bytes(&mut file, bytes)?;
+    keep(&file)?;
+    Ok(n)
 }
 
 // Whether an open file is one whose bytes can be lost: it has some, or its length can be set.
 pub fn is_regular<F: Seek + OpenFile>(file: &mut F) -> bool {
     match file.seek(SeekFrom::End(0)) {
-        Ok(size) => {
-            if size > 0 {
-                return true;
-            }
-            match file.set_len(0) {
-                Ok(()) => true,
-                Err(_) => false,
-            }
-        }
+        Ok(size) => size > 0 || file.set_len(0).is_ok(),
         Err(_) => false,
     }
 }

@@ -1,8 +1,8 @@
 -- What lets an action on bit streams end well, or with status 3: a result for some of what it can be given.
 -- In order: Packed, Unpacked; EncodedStream, DecodedStream, SpoiledStream; Reached.
 -- Assumes nothing.
+use Rattle.std.specs.Prelude.{Ok}
 use Rattle.std.specs.Prelude.{◌≡◌, List, ℕ, ◌≤◌}
-use Rattle.answer.specs.declared.Answer.TheVariants.{Done}
 use Rattle.answer.specs.Outcomes.{answer_of}
 use Rattle.stream_pack.specs.Streams.{pack_into, unpack_into}
 use Rattle.stream.specs.Recorded.{encode_stream, decode_stream}
@@ -41,7 +41,7 @@ pub record DecodedStream : Type 0 where
   pub room : ℕ
   pub stream : List ℕ
   pub gives : Gives (decode_stream under count room stream)
-  pub whole : answer_of (verify_stream under count stream) ≡ Done count
+  pub whole : answer_of (verify_stream under count stream) ≡ Ok count
 
 -- so many words of some stream are decoded under some record, and are no recording: fewer of them come back
 pub record SpoiledStream : Type 0 where

@@ -18,11 +18,10 @@ ghost use Rattle.command_stream.specs.Streamed.{Packed, Unpacked, EncodedStream,
 pub mod reaching;
 
 use command_arguments::numbers::GREATEST;
-use command_arguments::{Action, OnStream, Status, Way, read_place, under_place, written_place};
+use command_arguments::{Action, OnStream, Status, Way};
 use command_inputs::{Input, Number, is_twice, load, number_at, recording};
 use command_marks::finish_code;
 use command_messages::Host;
-use command_messages::usage::misused_word;
 use command_outputs::finish;
 use command_verify::after_stream;
 use stream_pack::{pack, unpack};
@@ -36,9 +35,9 @@ fn pack_words<R: Host>(rt: &R, q: Number, l: Input, words: &[u8], out: &mut [u8]
         ≡ output_of (pack_into q.value (length out.old) words.now) out.old }
     ensures past { WellOnly Packed result }
 {
-    let i = written_place(Action::Stream(OnStream::Pack));
+    let a = Action::Stream(OnStream::Pack);
     let r = pack(q.value, words, out);
-    finish(rt, Action::Stream(OnStream::Pack), i, r, out)
+    finish(rt, a, a.shape().written, r, out)
 }
 
 // pack q WORDS OUT
@@ -46,18 +45,15 @@ pub fn pack_file<R: Host>(rt: &R) -> Status
     ensures answer { WellOnly Packed result }
 {
     let a = Action::Stream(OnStream::Pack);
-    let q = number_at(rt, a, 2, GREATEST);
-    if !q.good {
+    let Some(q) = number_at(rt, a, 2, GREATEST) else {
         return Status::Misused;
-    }
+    };
     let mut words = recording();
-    let l = load(rt, read_place(a), &mut words);
-    if !l.good {
+    let Some(l) = load(rt, a.shape().read, &mut words) else {
         return Status::Failed;
-    }
-    let n = l.size;
+    };
     let mut out = recording();
-    pack_words(rt, q, l, &words[..n], &mut out)
+    pack_words(rt, q, l, &words[..l.size], &mut out)
 }
 
 // The words of q bits of a stream. `l` is what was read of the stream.
@@ -78,9 +74,9 @@ fn unpack_words<R: Host>(
         out.old }
     ensures past { WellOnly Unpacked result }
 {
-    let i = written_place(Action::Stream(OnStream::Unpack));
+    let a = Action::Stream(OnStream::Unpack);
     let r = unpack(q.value, count.value, stream, out);
-    finish(rt, Action::Stream(OnStream::Unpack), i, r, out)
+    finish(rt, a, a.shape().written, r, out)
 }
 
 // unpack q COUNT STREAM OUT
@@ -88,22 +84,18 @@ pub fn unpack_file<R: Host>(rt: &R) -> Status
     ensures answer { WellOnly Unpacked result }
 {
     let a = Action::Stream(OnStream::Unpack);
-    let q = number_at(rt, a, 2, GREATEST);
-    if !q.good {
+    let Some(q) = number_at(rt, a, 2, GREATEST) else {
         return Status::Misused;
-    }
-    let count = number_at(rt, a, 3, GREATEST);
-    if !count.good {
+    };
+    let Some(count) = number_at(rt, a, 3, GREATEST) else {
         return Status::Misused;
-    }
+    };
     let mut stream = recording();
-    let l = load(rt, read_place(a), &mut stream);
-    if !l.good {
+    let Some(l) = load(rt, a.shape().read, &mut stream) else {
         return Status::Failed;
-    }
-    let n = l.size;
+    };
     let mut out = recording();
-    unpack_words(rt, q, count, l, &stream[..n], &mut out)
+    unpack_words(rt, q, count, l, &stream[..l.size], &mut out)
 }
 
 // The stream of blocks under a record. `u` and `b` are what was read of the record and of the blocks.
@@ -132,23 +124,18 @@ pub fn encode_file<R: Host>(rt: &R) -> Status
 {
     let a = Action::Stream(OnStream::Encode);
     if is_twice(rt, a) {
-        misused_word(rt, a, b"-", b": only one file can be standard input");
         return Status::Misused;
     }
     let mut under = [0u8; 3866];
-    let u = load(rt, under_place(a), &mut under);
-    if !u.good {
+    let Some(u) = load(rt, a.shape().under, &mut under) else {
         return Status::Failed;
-    }
-    let n = u.size;
+    };
     let mut blocks = recording();
-    let b = load(rt, read_place(a), &mut blocks);
-    if !b.good {
+    let Some(b) = load(rt, a.shape().read, &mut blocks) else {
         return Status::Failed;
-    }
-    let k = b.size;
+    };
     let mut out = recording();
-    encode_blocks(rt, u, &under[..n], b, &blocks[..k], &mut out)
+    encode_blocks(rt, u, &under[..u.size], b, &blocks[..b.size], &mut out)
 }
 
 // The blocks of the words of a stream under a record; the marks are said, and where the words are no recording, that
@@ -186,26 +173,28 @@ pub fn decode_file<R: Host>(rt: &R) -> Status
     ensures answer { EndsBy DecodedStream SpoiledStream result }
 {
     let a = Action::Stream(OnStream::Decode);
-    let count = number_at(rt, a, 3, GREATEST);
-    if !count.good {
+    let Some(count) = number_at(rt, a, 3, GREATEST) else {
         return Status::Misused;
-    }
+    };
     if is_twice(rt, a) {
-        misused_word(rt, a, b"-", b": only one file can be standard input");
         return Status::Misused;
     }
     let mut under = [0u8; 3866];
-    let u = load(rt, under_place(a), &mut under);
-    if !u.good {
+    let Some(u) = load(rt, a.shape().under, &mut under) else {
         return Status::Failed;
-    }
-    let n = u.size;
+    };
     let mut stream = recording();
-    let b = load(rt, read_place(a), &mut stream);
-    if !b.good {
+    let Some(b) = load(rt, a.shape().read, &mut stream) else {
         return Status::Failed;
-    }
-    let k = b.size;
+    };
     let mut out = recording();
-    decode_words(rt, u, &under[..n], count, b, &stream[..k], &mut out)
+    decode_words(
+        rt,
+        u,
+        &under[..u.size],
+        count,
+        b,
+        &stream[..b.size],
+        &mut out,
+    )
 }

@@ -10,13 +10,14 @@ ghost use Rattle.command_outputs.specs.Results.{FailsBy, WellOnly};
 ghost use Rattle.command_stream.specs.Reaching.{bits_from, reach_line};
 ghost use Rattle.command_stream.specs.Streamed.{Reached};
 
+use answer::Refusal;
 use command_arguments::numbers::GREATEST;
-use command_arguments::{Action, OnStream, Status, under_place};
+use command_arguments::{Action, OnStream, Status};
 use command_inputs::{Input, Number, load, number_at};
 use command_messages::system::print;
 use command_messages::{Host, refuse};
 use sentences::put_sentence;
-use stream_damage::{BitNo, BitRange, BlockRange, ReachAnswer, reach};
+use stream_damage::{BitNo, BitRange, BlockRange, reach};
 
 // The line of blocks from the first to the last.
 fn put_reach(out: &mut [u8], b: BlockRange) -> usize
@@ -37,7 +38,7 @@ fn print_reach<R: Host>(rt: &R, b: BlockRange) -> Status
 }
 
 // The blocks that overwriting channel bits can spoil, under a record.
-fn reach_of(under: &[u8], first: usize, last: usize) -> ReachAnswer
+fn reach_of(under: &[u8], first: usize, last: usize) -> Result<BlockRange, Refusal>
     ensures answer { result ≡ reach_answer (reach_under under.now (bits_from first last)) }
 {
     reach(
@@ -57,8 +58,8 @@ fn tell_reach<R: Host>(rt: &R, u: Input, under: &[u8], first: Number, last: Numb
     ensures past { WellOnly Reached result }
 {
     match reach_of(under, first.value, last.value) {
-        ReachAnswer::Refused(x) => refuse(rt, x),
-        ReachAnswer::Blocks(b) => print_reach(rt, b),
+        Err(x) => refuse(rt, x),
+        Ok(b) => print_reach(rt, b),
     }
 }
 
@@ -67,19 +68,15 @@ pub fn reach_bits<R: Host>(rt: &R) -> Status
     ensures answer { WellOnly Reached result }
 {
     let a = Action::Stream(OnStream::Reach);
-    let last = number_at(rt, a, 4, GREATEST);
-    if !last.good {
+    let Some(last) = number_at(rt, a, 4, GREATEST) else {
         return Status::Misused;
-    }
-    let first = number_at(rt, a, 3, last.value);
-    if !first.good {
+    };
+    let Some(first) = number_at(rt, a, 3, last.value) else {
         return Status::Misused;
-    }
+    };
     let mut under = [0u8; 3866];
-    let u = load(rt, under_place(a), &mut under);
-    if !u.good {
+    let Some(u) = load(rt, a.shape().under, &mut under) else {
         return Status::Failed;
-    }
-    let n = u.size;
-    tell_reach(rt, u, &under[..n], first, last)
+    };
+    tell_reach(rt, u, &under[..u.size], first, last)
 }

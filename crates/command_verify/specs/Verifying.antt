@@ -1,15 +1,15 @@
 -- What is said of words that were verified, and how a run ends by how many of them come back.
 -- In order: recording_line, short_line; blocks_under; end_by, after_by, Fewer; VerifiedWords, VerifiedStream.
 -- Assumes nothing.
+use Rattle.answer.specs.declared.Refusal.{Refusal}
+use Rattle.std.specs.Prelude.{Result, Ok, Err}
 use Rattle.std.specs.Prelude.{if◌then◌else◌, ◌≡◌, List, [], ◌∷◌, ℕ, ◌-◌, ◌<◌, ltb, length}
-use Rattle.answer.specs.declared.Answer.{Answer}
-use Rattle.answer.specs.declared.Answer.TheVariants.{Done, Refused}
 use Rattle.answer.specs.Outcomes.{Outcome, done, refused, answer_of}
 use Rattle.sentences.specs.Sentences.{said}
 use Rattle.table.specs.Rows.{Code}
 use Rattle.codec_verify.specs.Verify.{verify_under, verify_stream}
 use Rattle.command_arguments.specs.declared.Status.{Status}
-use Rattle.command_arguments.specs.declared.Status.TheVariants.{Done as Ended, Failed, Misused, NoRecording}
+use Rattle.command_arguments.specs.declared.Status.TheVariants.{Done, Failed, Misused, NoRecording}
 
 -- the line of a recording of n blocks: `a recording of 12 blocks`
 abbrev pub recording_line : ℕ → List ℕ
@@ -26,30 +26,30 @@ blocks_under (done c) n = n - c.window.lookahead
 blocks_under (refused r) n = 0
 
 -- how a run ends by the answer on n words: it fails where they are refused, with status 3 where fewer come back
-abbrev pub end_by : Answer → ℕ → Status
-end_by (Refused r) n = Failed
-end_by (Done k) n = if ltb k n then NoRecording else Ended
+abbrev pub end_by : Result ℕ Refusal → ℕ → Status
+end_by (Err r) n = Failed
+end_by (Ok k) n = if ltb k n then NoRecording else Done
 
 -- how a run ends that ended so far as the first: as the second where all was written, and otherwise it fails
 abbrev pub after_by : Status → Status → Status
-after_by Ended e = e
+after_by Done e = e
 after_by Failed e = Failed
 after_by Misused e = Failed
 after_by NoRecording e = Failed
 
 -- the answer on n words is that fewer come back
-abbrev pub Fewer : Answer → ℕ → Type 0
-Fewer r n = (k : ℕ) × (r ≡ Done k) × (k < n)
+abbrev pub Fewer : Result ℕ Refusal → ℕ → Type 0
+Fewer r n = (k : ℕ) × (r ≡ Ok k) × (k < n)
 
 -- some words are a recording under some record
 pub record VerifiedWords : Type 0 where
   pub under : List ℕ
   pub words : List ℕ
-  pub whole : answer_of (verify_under under words) ≡ Done (length words)
+  pub whole : answer_of (verify_under under words) ≡ Ok (length words)
 
 -- so many words of some stream are a recording under some record
 pub record VerifiedStream : Type 0 where
   pub under : List ℕ
   pub count : ℕ
   pub stream : List ℕ
-  pub whole : answer_of (verify_stream under count stream) ≡ Done count
+  pub whole : answer_of (verify_stream under count stream) ≡ Ok count

@@ -5,12 +5,12 @@ ghost use Rattle.std.specs.Prelude.{◌≡◌, length};
 ghost use Rattle.text.specs.Texts.{Added};
 ghost use Rattle.answer.specs.Outcomes.{answer_of};
 ghost use Rattle.codec_verify.specs.Verify.{verify_under, verify_stream};
-ghost use Rattle.command_arguments.specs.declared.Status.TheVariants.{Done as Ended};
+ghost use Rattle.command_arguments.specs.declared.Status.TheVariants.{Done};
 ghost use Rattle.command_verify.specs.Verifying.{short_line, end_by, after_by};
 
 pub mod verifying;
 
-use answer::Answer;
+use answer::Refusal;
 use codec_verify::verify;
 use command_arguments::Status;
 use command_messages::{Host, refuse};
@@ -37,12 +37,12 @@ fn say_short<R: Host>(rt: &R, k: usize, n: usize) {
 }
 
 // How a run ends by the answer on n words; where some of them do not come back, that is said.
-pub fn judged<R: Host>(rt: &R, r: Answer, n: usize) -> Status
+pub fn judged<R: Host>(rt: &R, r: Result<usize, Refusal>, n: usize) -> Status
     ensures answer { result ≡ end_by r n }
 {
     match r {
-        Answer::Refused(x) => refuse(rt, x),
-        Answer::Done(k) => {
+        Err(x) => refuse(rt, x),
+        Ok(k) => {
             if k < n {
                 say_short(rt, k, n);
                 return Status::NoRecording;
@@ -54,7 +54,7 @@ pub fn judged<R: Host>(rt: &R, r: Answer, n: usize) -> Status
 
 // How a run ends that verifies nothing and ended so far as `s`: well where all was written, and otherwise it fails.
 pub fn after_writing(s: Status) -> Status
-    ensures answer { result ≡ after_by s Ended }
+    ensures answer { result ≡ after_by s Done }
 {
     match s {
         Status::Done => Status::Done,

@@ -1,7 +1,6 @@
 // The actions that tell whether words are a recording.
 ghost use Rattle.std.specs.Prelude.{◌≡◌, ◌≤◌, length};
 ghost use Rattle.text.specs.Texts.{Added};
-ghost use Rattle.answer.specs.declared.Answer.TheVariants.{Done};
 ghost use Rattle.answer.specs.Outcomes.{answer_of};
 ghost use Rattle.record_check.specs.Parse.{parse};
 ghost use Rattle.codec_verify.specs.Verify.{verify_under, verify_stream};
@@ -13,15 +12,12 @@ ghost use Rattle.command_outputs.specs.Results.{Fails, WellOnly};
 ghost use Rattle.command_verify.specs.Verifying.{recording_line, blocks_under, VerifiedWords, VerifiedStream};
 
 use crate::judged;
-use answer::Verdict;
-use codec_block::blocks::less;
 use codec_verify::verify;
 use command_arguments::numbers::GREATEST;
-use command_arguments::{Action, Form, Status, read_place, under_place};
+use command_arguments::{Action, Form, Status};
 use command_inputs::{Input, Number, is_twice, load, load_whole, number_at, recording};
 use command_messages::Host;
 use command_messages::system::print;
-use command_messages::usage::misused_word;
 use sentences::put_sentence;
 use stream_verify::verify_stream;
 
@@ -29,12 +25,9 @@ use stream_verify::verify_stream;
 fn blocks_under(bytes: &[u8], n: usize) -> usize
     ensures answer { result ≡ blocks_under (parse bytes.now) n }
 {
-    let r = record_check::load(bytes);
-    let v = r.verdict;
-    let t = r.table;
-    match v {
-        Verdict::Bad(_) => 0,
-        Verdict::Good => less(n, t.lookahead),
+    match record_check::load(bytes) {
+        Err(_) => 0,
+        Ok(t) => n.saturating_sub(t.lookahead),
     }
 }
 
@@ -58,7 +51,7 @@ fn print_recording<R: Host>(rt: &R, bytes: &[u8], n: usize) -> Status
 // of the record and of the words.
 fn verify_words<R: Host>(rt: &R, u: Input, under: &[u8], b: Input, words: &[u8]) -> Status
     requires { From (shape_of (Verify Words)).under u under.now × FromWhole (shape_of (Verify Words)).read b words.now }
-    ensures answer { WellOnly (answer_of (verify_under under.now words.now) ≡ Done (length words.now))
+    ensures answer { WellOnly (answer_of (verify_under under.now words.now) ≡ Ok (length words.now))
         result }
     ensures past { WellOnly VerifiedWords result }
     ensures failed { Fails (answer_of (verify_under under.now words.now)) result }
@@ -83,7 +76,7 @@ fn verify_counted<R: Host>(
     requires { From (shape_of (Verify Stream)).under u under.now × Said (shape_of (Verify Stream)).number count
         × From (shape_of (Verify Stream)).read b stream.now }
     ensures answer { WellOnly
-        (answer_of (verify_stream under.now count.value stream.now) ≡ Done count.value) result }
+        (answer_of (verify_stream under.now count.value stream.now) ≡ Ok count.value) result }
     ensures past { WellOnly VerifiedStream result }
     ensures failed { Fails (answer_of (verify_stream under.now count.value stream.now)) result }
     ensures most { status_of result ≤ 1 }
@@ -101,22 +94,17 @@ pub fn verify_file<R: Host>(rt: &R) -> Status
 {
     let a = Action::Verify(Form::Words);
     if is_twice(rt, a) {
-        misused_word(rt, a, b"-", b": only one file can be standard input");
         return Status::Misused;
     }
     let mut under = [0u8; 3866];
-    let u = load(rt, under_place(a), &mut under);
-    if !u.good {
+    let Some(u) = load(rt, a.shape().under, &mut under) else {
         return Status::Failed;
-    }
-    let n = u.size;
+    };
     let mut words = recording();
-    let b = load_whole(rt, read_place(a), &mut words, 1000015);
-    if !b.good {
+    let Some(b) = load_whole(rt, a.shape().read, &mut words, 1000015) else {
         return Status::Failed;
-    }
-    let k = b.size;
-    verify_words(rt, u, &under[..n], b, &words[..k])
+    };
+    verify_words(rt, u, &under[..u.size], b, &words[..b.size])
 }
 
 // verify-stream RECORD COUNT STREAM
@@ -124,25 +112,19 @@ pub fn verify_stream_file<R: Host>(rt: &R) -> Status
     ensures answer { WellOnly VerifiedStream result }
 {
     let a = Action::Verify(Form::Stream);
-    let count = number_at(rt, a, 3, GREATEST);
-    if !count.good {
+    let Some(count) = number_at(rt, a, 3, GREATEST) else {
         return Status::Misused;
-    }
+    };
     if is_twice(rt, a) {
-        misused_word(rt, a, b"-", b": only one file can be standard input");
         return Status::Misused;
     }
     let mut under = [0u8; 3866];
-    let u = load(rt, under_place(a), &mut under);
-    if !u.good {
+    let Some(u) = load(rt, a.shape().under, &mut under) else {
         return Status::Failed;
-    }
-    let n = u.size;
+    };
     let mut stream = recording();
-    let b = load(rt, read_place(a), &mut stream);
-    if !b.good {
+    let Some(b) = load(rt, a.shape().read, &mut stream) else {
         return Status::Failed;
-    }
-    let k = b.size;
-    verify_counted(rt, u, &under[..n], count, b, &stream[..k])
+    };
+    verify_counted(rt, u, &under[..u.size], count, b, &stream[..b.size])
 }

@@ -9,16 +9,16 @@ ghost use Rattle.command_inputs.specs.Inputs.{FromWhole, Said};
 ghost use Rattle.command_outputs.specs.Results.{Fails, WellOnly};
 ghost use Rattle.command_weave.specs.Weaves.{rearrange_into, Rearranged};
 
-use answer::Answer;
+use answer::Refusal;
 use command_arguments::numbers::GREATEST;
-use command_arguments::{Action, OnRecordings, Status, read_place, written_place};
+use command_arguments::{Action, OnRecordings, Status};
 use command_inputs::{Input, Number, load_whole, number_at, recording};
 use command_messages::Host;
 use command_outputs::finish;
 use weaving::{unweave, weave};
 
 // The words of d recordings, woven or taken apart, in the output.
-fn rearrange(how: OnRecordings, d: usize, words: &[u8], out: &mut [u8]) -> Answer
+fn rearrange(how: OnRecordings, d: usize, words: &[u8], out: &mut [u8]) -> Result<usize, Refusal>
     ensures answer { result ≡ answer_of (rearrange_into how d (length out.old) words.now) }
     ensures written { out.new
         ≡ output_of (rearrange_into how d (length out.old) words.now) out.old }
@@ -46,9 +46,9 @@ fn rearrange_words<R: Host>(
         out.old }
     ensures past { WellOnly (Rearranged how) result }
 {
-    let i = written_place(Action::Recordings(how));
+    let a = Action::Recordings(how);
     let r = rearrange(how, d.value, words, out);
-    finish(rt, Action::Recordings(how), i, r, out)
+    finish(rt, a, a.shape().written, r, out)
 }
 
 // weave D IN OUT, unweave D IN OUT
@@ -56,16 +56,13 @@ pub fn rearrange_file<R: Host>(rt: &R, how: OnRecordings) -> Status
     ensures answer { WellOnly (Rearranged how) result }
 {
     let a = Action::Recordings(how);
-    let d = number_at(rt, a, 2, GREATEST);
-    if !d.good {
+    let Some(d) = number_at(rt, a, 2, GREATEST) else {
         return Status::Misused;
-    }
+    };
     let mut words = recording();
-    let l = load_whole(rt, read_place(a), &mut words, 1000015);
-    if !l.good {
+    let Some(l) = load_whole(rt, a.shape().read, &mut words, 1000015) else {
         return Status::Failed;
-    }
-    let n = l.size;
+    };
     let mut out = recording();
-    rearrange_words(rt, how, d, l, &words[..n], &mut out)
+    rearrange_words(rt, how, d, l, &words[..l.size], &mut out)
 }

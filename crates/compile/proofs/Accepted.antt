@@ -3,7 +3,7 @@
 -- compiled-ready.
 -- Assumes nothing.
 use Rattle.std.proofs.Common.{◌≡◌, ◌^◌, ◌≤◌, ◌<◌}
-use Rattle.laws.proofs.All.{sym, ap, subst, ◌∙◌, inl, inr, [], ℕ, zero, le_trans, le_of_eq, arith}
+use Rattle.laws.proofs.All.{sym, ap, subst, ◌∙◌, inl, inr, [], ℕ, le_trans, le_of_eq, arith}
 use Rattle.laws.proofs.All.{T, ltb, eqb, lt→ltb, le→leb, eqb_refl, length, get_or, sum, all, Each, →and, →or_l}
 use Rattle.laws.proofs.All.{→or_r, →all, each_at, refl}
 use Rattle.answer.specs.Outcomes.{done}

@@ -5,7 +5,7 @@ use Rattle.std.proofs.Common.{◌≡◌, ◌⊎◌, ◌↔◌, ◌≤◌, ◌<�
 use Rattle.laws.proofs.All.{refl, sym, ap, ap₂, subst, ◌∙◌, inl, inr, false, List, ℕ}
 use Rattle.laws.proofs.All.{arith, sum, bool_eq}
 use Rattle.answer.specs.declared.Refusal.{Refusal}
-use Rattle.answer.specs.declared.Refusal.TheVariants.{ShortOutput, BadWeights}
+use Rattle.answer.specs.declared.Refusal.TheVariants.{BadWeights}
 use Rattle.answer.specs.Refusals.{number_of}
 use Rattle.answer.specs.Outcomes.{Outcome, done, refused, unless, onward}
 use Rattle.answer.proofs.Outcomes.{refused-not, unless-true, unless-false}

@@ -20,8 +20,6 @@ use Rattle.compile_graph.proofs.Candidates.{any-sort}
 use Rattle.compile_graph.proofs.Choice.{Chosen, chosen_is}
 use Rattle.compile_graph.proofs.PartedInv.{count-out}
 use Rattle.compile_graph.proofs.Loop.{short, splitted-end, splitted-full}
-use Rattle.compile_graph.proofs.Weights.{weights-length}
-use Rattle.compile_graph.proofs.Power.{power-inside}
 use Rattle.compile_graph.proofs.Passed.{splits-inv, each-passed, splits_last}
 use Rattle.compile_graph.proofs.Reachable.{component-is}
 use Rattle.compile_table.specs.TableOf.{table_states, table_of}

@@ -1,9 +1,9 @@
 -- Compiling stage by stage: what each stage of the code needs, and what compiling comes to at each of its returns.
 -- In order: compile-heavy, compile-crowded, compile-table; crowded-stays; weighed-bad, weighed-good; has-states,
--- held-powers, held-tabled, held-component, held-weights, held-computed, held-brought, held_low; begun-splits,
+-- held-powers, held-tabled, held-component, held-weights, held-computed, held-brought, held_low; found-begun; begun-splits,
 -- begun-crowded, begun-room, begun-short, begun-work, begun-finished.
 -- Assumes nothing.
-use Rattle.std.proofs.Common.{◌≡◌, ◌&&◌, ◌+◌, ◌*◌, ◌^◌, ◌≤◌, ◌<◌}
+use Rattle.std.proofs.Common.{None, Some, ◌≡◌, ◌&&◌, ◌^◌, ◌≤◌, ◌<◌}
 use Rattle.laws.proofs.All.{sym, ap, ap₂, subst, ◌∙◌, Bool, true, false, not, List, ℕ, zero, suc}
 use Rattle.laws.proofs.All.{arith, lt-ltb, le-leb, lt-leb, ltb-false, leb, length, get_or}
 use Rattle.laws.proofs.All.{pow_mono, sum, take, get_or-take}
@@ -17,10 +17,8 @@ use Rattle.compile_limits.proofs.Weighed.{weighed-by}
 use Rattle.constraint.specs.Value.{constraint_of}
 use Rattle.constraint.specs.PowerTable.{power_codes}
 use Rattle.constraint.proofs.Values.{length-constraint_of}
-use Rattle.table.specs.Rows.{at}
 use Rattle.window.specs.Search.{window}
 use Rattle.compile_graph.specs.declared.Graph.{Graph}
-use Rattle.compile_graph.specs.declared.NextGraph.{NextGraph}
 use Rattle.compile_component.specs.declared.component_graph.ComponentAnswer.{ComponentAnswer}
 use Rattle.compile_graph.specs.Weights.{weights}
 use Rattle.compile_component.specs.ComponentParts.{FoundIn}
@@ -29,7 +27,7 @@ use Rattle.compile_graph.specs.Splitting.{crowded, unfinished, splits, split_all
 use Rattle.compile_graph.specs.Invariant.{Inv}
 use Rattle.compile_graph.specs.Value.{weights_in, work_in}
 use Rattle.compile_weights.specs.PowerTable.{tabled, Powers}
-use Rattle.compile_split.specs.SplitParts.{Splits, SplitAllInto}
+use Rattle.compile_split.specs.SplitParts.{Splits, SplitAllInto, SplitAllTo}
 use Rattle.compile_table.specs.Finishing.{Finished}
 use Rattle.compile_table.proofs.Finishing.{split-finished}
 use Rattle.compile_weights.proofs.Powers as tables
@@ -140,6 +138,14 @@ module _ (j : JobValue) (r : JobReady j) where
       ap (λ v. get_or v s 0) (sym (held-brought e)) ∙ get_or-take j.constraint.states j.weight s 0 h in
       omega (arith, r.allowed.cap₂)
 
+-- ---- the component that was found
+pub found-begun : (j : Job) (n : ℕ) (x : ComponentAnswer) (g : Graph) → FoundIn (weights_of j) (graph_of j) x
+    → x.graph ≡ Some g → n ≡ ways j → 0 < sum (component_of j).weights → sum (component_of j).weights ≤ 128
+    → Begun j n g x.start
+found-begun j n x g f e c s l =
+    let p = rw e at f.found in
+    record { count = c; work = p.0; fits = p.1; first = f.start; some = s; light = l }
+
 -- ---- the component, split to the end
 module _ (j : Job) (a : Allowed j) (n : ℕ) (g : Graph) (start : ℕ) (b : Begun j n g start) where
   few : n ≤ 16
@@ -158,22 +164,21 @@ module _ (j : Job) (a : Allowed j) (n : ℕ) (g : Graph) (start : ℕ) (b : Begu
     weighs = subst (λ x. sum x.weights ≤ 128) (sym b.work) b.light;
   }
 
-  module _ (r : NextGraph) (s : SplitAllInto n g r) where
-    pub begun-crowded : r.crowded ≡ true → crowded (finished_of j) ≡ true
-    begun-crowded e = ap crowded (sym same) ∙ sym s.crowds ∙ e
+  pub begun-crowded : SplitAllInto n g None → crowded (finished_of j) ≡ true
+  begun-crowded e = ap crowded (sym same) ∙ e
 
-    module _ (e : r.crowded ≡ false) where
-      pub begun-room : crowded (finished_of j) ≡ false
-      begun-room = ap crowded (sym same) ∙ sym s.crowds ∙ e
+  module _ (r : Graph) (s : SplitAllTo n g r) where
+    pub begun-room : crowded (finished_of j) ≡ false
+    begun-room = ap crowded (sym same) ∙ s.room
 
-      pub begun-short : length (finished_of j).arcs ≤ 2048
-      begun-short = ltb-false 2048 (length (finished_of j).arcs) begun-room
+    pub begun-short : length (finished_of j).arcs ≤ 2048
+    begun-short = ltb-false 2048 (length (finished_of j).arcs) begun-room
 
-      pub begun-work : work_in r.graph ≡ finished_of j
-      begun-work = s.work e ∙ same
+    pub begun-work : work_in r ≡ finished_of j
+    begun-work = s.work ∙ same
 
-      pub begun-finished : Finished n r.graph
-      begun-finished =
-          let p = begun-splits in
-          split-finished n (sum (weights_in g)) (work_in g) p.some few p.inv
-          (subst (λ x. 0 < sum x.weights) (sym b.work) b.some) r.graph (s.fits e) (s.work e)
+    pub begun-finished : Finished n r
+    begun-finished =
+        let p = begun-splits in
+        split-finished n (sum (weights_in g)) (work_in g) p.some few p.inv
+        (subst (λ x. 0 < sum x.weights) (sym b.work) b.some) r s.fits s.work

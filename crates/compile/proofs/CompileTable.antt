@@ -2,7 +2,7 @@
 -- In order: table_by, table-rows, table-ready, table-code.
 -- Assumes nothing.
 use Rattle.std.proofs.Common.{◌≡◌, ◌^◌, ◌≤◌, ◌<◌}
-use Rattle.laws.proofs.All.{sym, ap, ap₂, subst, ◌∙◌, false, ℕ, leb, length}
+use Rattle.laws.proofs.All.{sym, ap, ap₂, subst, ◌∙◌, ℕ, leb, length}
 use Rattle.answer.specs.declared.Refusal.TheVariants.{NoWindow}
 use Rattle.answer.specs.Outcomes.{done, unless}
 use Rattle.table.specs.declared.Table.{Table}
@@ -12,12 +12,10 @@ use Rattle.table.specs.Edges.{lent}
 use Rattle.table.specs.Value.{word_at, next_at, rows_in, code_in, Ready}
 use Rattle.table.proofs.RowsOf.{length-rows, edge-at}
 use Rattle.compile_graph.specs.declared.Graph.{Graph}
-use Rattle.compile_graph.specs.declared.NextGraph.{NextGraph}
 use Rattle.window_least.specs.Windowed.{windowed}
 use Rattle.compile_table.specs.declared.finish_table.TableRows.{TableRows}
-use Rattle.compile_graph.specs.Splitting.{crowded}
 use Rattle.compile_table.specs.TableOf.{table_of}
-use Rattle.compile_split.specs.SplitParts.{SplitAllInto}
+use Rattle.compile_split.specs.SplitParts.{SplitAllTo}
 use Rattle.compile_table.specs.Finishing.{TableIn, rows_of_table}
 use Rattle.compile_labels.specs.Labels.{relabelled}
 use Rattle.compile_job.specs.declared.JobValue.{JobValue}
@@ -43,8 +41,7 @@ table_by j start rows = record {
 }
 
 module _ (j : JobValue) (a : JobReady j) (n : ℕ) (g : Graph) (start : ℕ) (b : Begun (job_in j) n g start)
-    (r : NextGraph) (s : SplitAllInto n g r) (e : r.crowded ≡ false) (old : TableRows)
-    (i : TableIn n r.graph old) (rows : TableRows)
+    (r : Graph) (s : SplitAllTo n g r) (old : TableRows) (i : TableIn n r old) (rows : TableRows)
     (u : (rows_of_table n rows ≡ relabelled n (rows_of_table n old)) × (rows.states ≡ old.states))
   where
     abbrev t : Table
@@ -53,11 +50,11 @@ module _ (j : JobValue) (a : JobReady j) (n : ℕ) (g : Graph) (start : ℕ) (b 
     table-rows : rows_in t ≡ table_for (job_in j)
     table-rows =
         ap (λ m. rows_of_table m rows) (sym b.count) ∙ u.0 ∙ ap (relabelled n) i.rows
-        ∙ ap₂ (λ m x. relabelled m (table_of m x)) b.count (begun-work (job_in j) a.allowed n g start b r s e)
+        ∙ ap₂ (λ m x. relabelled m (table_of m x)) b.count (begun-work (job_in j) a.allowed n g start b r s)
 
     made_so : Made (job_in j)
     made_so =
-        made (job_in j) a.allowed b.some b.light (begun-short (job_in j) a.allowed n g start b r s e)
+        made (job_in j) a.allowed b.some b.light (begun-short (job_in j) a.allowed n g start b r s)
 
     long : length (table_for (job_in j)) ≡ rows.states
     long = ap length (sym table-rows) ∙ length-rows (lent t)
@@ -95,4 +92,4 @@ module _ (j : JobValue) (a : JobReady j) (n : ℕ) (g : Graph) (start : ℕ) (b 
           table = T;
         }))) b.first
         table-rows
-        ∙ sym (compile-table (job_in j) b.some b.light (begun-room (job_in j) a.allowed n g start b r s e))
+        ∙ sym (compile-table (job_in j) b.some b.light (begun-room (job_in j) a.allowed n g start b r s))

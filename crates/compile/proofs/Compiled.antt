@@ -4,7 +4,7 @@
 -- Assumes nothing.
 use Rattle.std.proofs.Common.{◌≡◌, ◌∷◌, ◌≤◌, ◌<◌}
 use Rattle.laws.proofs.All.{refl, sym, ap, ◌∙◌, List, [], ℕ, zero, suc, zero-le, suc-le-suc}
-use Rattle.laws.proofs.All.{le_refl, le_trans, le_of_eq, arith, T, lt→ltb, length, get_or, length-map, from, range}
+use Rattle.laws.proofs.All.{le_refl, le_trans, le_of_eq, arith, T, lt→ltb, length, get_or, length-map, range}
 use Rattle.laws.proofs.All.{sum, elem, index_of, length_from, Each, each_map, each_both, each-filter, each-image}
 use Rattle.laws.proofs.All.{tot-length, tot-some, each-elem, →elem-filter, elem-range, at-index, tot-filter-le}
 use Rattle.compile_graph.specs.Invariant.{Inside, Inv}

@@ -1,7 +1,11 @@
 -- The greatest weight and the state to split, each by one loop.
--- In order: greatest-more; Lowest, the lowest source of an edge that passes; lowest-none, lowest-more; choose-is.
+-- In order: max_is, greatest-more; Lowest, the lowest source of an edge that passes; lowest-none, lowest_hit, lowest_miss;
+-- lower_is, some_below, the lowest as an option; choose-is.
 -- Assumes nothing.
-use Rattle.std.proofs.Common.{◌≡◌, ◌⊎◌, ◌&&◌, ◌∷◌, ◌++◌, ◌+◌, ◌≤◌, ◌<◌, if◌then◌else◌}
+use Rattle.std.proofs.Common.{◌≡◌, ◌⊎◌, ◌&&◌, ◌∷◌, ◌++◌, ◌+◌, ◌≤◌, ◌<◌, Option, Some, None, rules}
+use Rattle.std.specs.Option.{unwrap_or, IsSome}
+use Rattle.std.specs.Ordering.{ord_max, nat_cmp}
+use Rattle.std.proofs.lemmas.Grind.{common_steps}
 use Rattle.laws.proofs.All.{refl, sym, ap, subst, ◌∙◌, inl, inr, Bool, true, false, List, []}
 use Rattle.laws.proofs.All.{map, ℕ, max, min, arith, ℕ_discrete, T, ltb, eqb, eqb→eq, eqb_refl}
 use Rattle.laws.proofs.All.{length, get_or, range, any, and→, →and, any→, →any, any-below→, T→true}
@@ -10,6 +14,10 @@ use Rattle.compile_graph.specs.declared.Graph.{Graph}
 use Rattle.compile_graph.specs.Arcs.{arc, leaves, out}
 use Rattle.compile_graph.specs.Splitting.{greatest, lighter, splittable, chosen}
 use Rattle.compile_graph.specs.Value.{arc_at, arcs_in, weight_at, weights_in, Fits}
+
+-- the greater of two numbers, as `max` has it
+pub max_is : (a b : ℕ) → ord_max nat_cmp a b ≡ max a b
+max_is a b = grind (arith, common_steps)
 
 greatest-snoc : (l : List ℕ) (x : ℕ) → greatest (l ++ (x ∷ [])) ≡ max (greatest l) x
 greatest-snoc [] x = omega arith
@@ -38,23 +46,28 @@ module _ (hit : ℕ → Bool) (source : ℕ → ℕ) (i best : ℕ) (w : Lowest 
     | no e ↦ omega (arith, w.low k (omega arith) t)
   ]
 
-  pub lowest-more : Lowest hit source (i + 1) (if hit i then min best (source i) else best)
-  lowest-more = go (hit i) refl
+  pub lowest_hit : (b : ℕ) → hit i ≡ true → b ≡ min best (source i) → Lowest hit source (i + 1) b
+  lowest_hit b q e = record {
+    low = low-more b (omega arith) (λ t. omega arith);
+    found = pick (native.Mathlib.Decide.dec_lt (source i) best);
+  }
     where
-      less : (b : ℕ) → hit i ≡ true → b ≡ min best (source i) → Lowest hit source (i + 1) b
-      less b q e = record {
-        low = low-more b (omega arith) (λ t. omega arith);
-        found = pick (native.Mathlib.Decide.dec_lt (source i) best);
-      }
-        where
-          pick : Dec (source i < best) → (b ≡ 128) ⊎ ((k : ℕ) × (k < i + 1) × T (hit k) × (source k ≡ b))
-          pick (yes l) = inr (i, omega arith, rw q tt, omega arith)
-          pick (no l) = let u : best ≡ b = omega arith in
-              subst (λ x. (x ≡ 128) ⊎ ((k : ℕ) × (k < i + 1) × T (hit k) × (source k ≡ x))) u (keep w.found)
+      pick : Dec (source i < best) → (b ≡ 128) ⊎ ((k : ℕ) × (k < i + 1) × T (hit k) × (source k ≡ b))
+      pick (yes l) = inr (i, omega arith, rw q tt, omega arith)
+      pick (no l) = let u : best ≡ b = omega arith in
+          subst (λ x. (x ≡ 128) ⊎ ((k : ℕ) × (k < i + 1) × T (hit k) × (source k ≡ x))) u (keep w.found)
 
-      go : (b : Bool) → hit i ≡ b → Lowest hit source (i + 1) (if b then min best (source i) else best)
-      go true q = less (min best (source i)) q refl
-      go false q = record { low = low-more best (omega arith) (λ t. absurd (subst T q t)); found = keep w.found }
+  pub lowest_miss : hit i ≡ false → Lowest hit source (i + 1) best
+  lowest_miss q = record { low = low-more best (omega arith) (λ t. absurd (subst T q t)); found = keep w.found }
+
+-- the lower of a state and of the lowest before, if there is one
+pub lower_is : (o : Option ℕ) (s : ℕ) → s < 128 → min (unwrap_or o s) s ≡ min (unwrap_or o 128) s
+lower_is None s h = omega arith
+lower_is (Some x) s h = refl
+
+pub some_below : (o : Option ℕ) → unwrap_or o 128 < 128 → IsSome o
+some_below None h = absurd (omega arith)
+some_below (Some x) h = search rules
 
 -- ---- edges that make their source splittable
 module _ (g : Graph) (M : ℕ) where

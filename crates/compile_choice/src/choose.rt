@@ -4,70 +4,49 @@ ghost use Rattle.laws.specs.Lists.{any, range};
 ghost use Rattle.compile_graph.specs.Arcs.{out};
 ghost use Rattle.compile_graph.specs.Splitting.{greatest, splittable, chosen, lighter, candidates, sort};
 ghost use Rattle.compile_graph.specs.Value.{weights_in, arcs_in, Fits};
-ghost use Rattle.compile_order.specs.EdgeKeys.{keys_in, arc_of};
-ghost use Rattle.compile_choice.specs.ChoiceParts.{lower_source};
+ghost use Rattle.compile_order.specs.EdgeKeys.{arc_of};
 
 use compile_graph::Graph;
-use compile_order::keys::{Keys, first_edges, in_front};
+use compile_order::keys::{Keys, first_edges};
 
 // The greatest weight.
 pub fn greatest_weight(g: Graph) -> u8
     requires { Fits g }
     ensures answer { result ≡ greatest (weights_in g) }
 {
-    let n = g.states;
-    let mut m = 0;
-    let mut i = 0;
-    while i < n {
-        if m < g.weight[i] {
-            m = g.weight[i];
-        }
-        i += 1;
+    let mut greatest = 0;
+    for i in 0..g.states {
+        greatest = greatest.max(g.weight[i]);
     }
-    m
+    greatest
 }
 
-// The lower of `best` and the source s of an edge, if s weighs `m` and the edge leads to a lighter state.
-fn lower_source(best: usize, s: usize, source: u8, target: u8, m: u8) -> usize
-    ensures answer { result ≡ lower_source best s source target m }
-{
-    if source == m {
-        if target < m {
-            if s < best {
-                return s;
-            }
-        }
-    }
-    best
-}
-
-// The state to split, where there is one.
+// The state to split, where there is one: the lowest source of an edge from a state of weight m to a lighter one.
 pub fn choose(g: Graph, m: u8) -> usize
     requires { Fits g × (m ≡ greatest (weights_in g))
         × T (any (splittable (weights_in g) (arcs_in g)) (range (length (weights_in g)))) }
     ensures answer { (result ≡ chosen (weights_in g) (arcs_in g)) × (result < g.states) }
 {
-    let mut best = 128;
-    let n = g.edges;
-    let mut i = 0;
-    while i < n {
-        let s = g.source[i] as usize;
-        let t = g.target[i] as usize;
-        let r = lower_source(best, s, g.weight[s], g.weight[t], m);
-        best = r;
-        i += 1;
+    let mut lowest = None;
+    for i in 0..g.edges {
+        let source = g.source[i] as usize;
+        let target = g.target[i] as usize;
+        if g.weight[source] == m && g.weight[target] < m {
+            lowest = Some(lowest.unwrap_or(source).min(source));
+        }
     }
-    best
+    lowest.unwrap()
 }
 
 // "its first edge to a lighter state, then its first n − 1 other edges".
 pub fn candidate_keys(g: Graph, s: usize, m: u8, n: usize) -> Keys
     requires { Fits g × (0 < n) × (n ≤ 16) × T (any (lighter (weights_in g) m) (out (arcs_in g) s)) }
-    ensures answer { (map (arc_of s) (keys_in result) ≡ candidates n (weights_in g) m (sort (out (arcs_in g) s)))
-        × (result.count ≤ n) }
+    ensures answer { (map (arc_of s) result.items ≡ candidates n (weights_in g) m (sort (out (arcs_in g) s)))
+        × (length result.items ≤ n) }
 {
     let light = first_edges(g, s, m as usize, 65535, 1);
-    let l = light.key[0];
-    let others = first_edges(g, s, 256, l, n - 1);
-    in_front(others, l)
+    let first = light[0];
+    let mut keys = first_edges(g, s, 256, first, n - 1);
+    keys.insert(0, first);
+    keys
 }

@@ -1,5 +1,5 @@
 // The consecutive run of edges "whose targets' weights sum to a multiple of n".
-ghost use Rattle.std.specs.Prelude.{◌≡◌, ℕ, ◌+◌, ◌*◌, ◌≤◌, ◌<◌, length, get_or, take};
+ghost use Rattle.std.specs.Prelude.{◌≡◌, ℕ, ◌+◌, ◌*◌, ◌≤◌, ◌<◌, length, get_or};
 ghost use Rattle.compile_choice.specs.ChoiceParts.{RunTo, FirstRun};
 
 // A run of `count` edges from place `from` on, with the sum of their weights.
@@ -11,42 +11,35 @@ pub struct Run {
 }
 
 // The shortest run that ends at place j.
-fn run_to(weight: [usize; 16], m: usize, n: usize, j: usize) -> Run
-    requires { (0 < n) × (j < m) × (m ≤ 16) × ((i : ℕ) → i < m → get_or weight i 0 ≤ 128) }
-    ensures answer { RunTo n (take m weight) j result }
+fn run_to(weight: &[usize], n: usize, j: usize) -> Option<Run>
+    requires { (0 < n) × (j < length weight.now) × (length weight.now ≤ 16)
+        × ((i : ℕ) → i < length weight.now → get_or weight.now i 0 ≤ 128) }
+    ensures answer { RunTo n weight.now j result }
 {
     let mut total = 0;
-    let mut i = 0;
-    while i <= j {
+    for i in 0..j + 1 {
         total += weight[j - i];
         if total % n == 0 {
-            return Run {
+            return Some(Run {
                 from: j - i,
                 count: i + 1,
-                total: total,
-            };
+                total,
+            });
         }
-        i += 1;
     }
-    Run {
-        from: 0,
-        count: 0,
-        total: 0,
-    }
+    None
 }
 
-// The run that ends first, and of those the shortest.
-pub fn first_run(weight: [usize; 16], m: usize, n: usize) -> Run
-    requires { (0 < n) × (m ≤ 16) × ((i : ℕ) → i < m → get_or weight i 0 ≤ 128) }
-    ensures answer { FirstRun n (take m weight) result }
+// The run that ends first, and of those the shortest; the run of no edges, if no sum is a multiple of n.
+pub fn first_run(weight: &[usize], n: usize) -> Run
+    requires { (0 < n) × (length weight.now ≤ 16)
+        × ((i : ℕ) → i < length weight.now → get_or weight.now i 0 ≤ 128) }
+    ensures answer { FirstRun n weight.now result }
 {
-    let mut j = 0;
-    while j < m {
-        let r = run_to(weight, m, n, j);
-        if 0 < r.count {
-            return r;
+    for j in 0..weight.len() {
+        if let Some(run) = run_to(weight, n, j) {
+            return run;
         }
-        j += 1;
     }
     Run {
         from: 0,

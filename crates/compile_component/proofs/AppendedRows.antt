@@ -3,12 +3,12 @@
 -- done_none, done_more, done-over, done_end; added_none.
 -- Assumes nothing.
 use Rattle.std.proofs.Common.{◌≡◌, ◌∷◌, ◌++◌, ◌+◌, ◌≤◌, ◌<◌}
-use Rattle.laws.proofs.All.{refl, sym, ap, subst, ◌∙◌, true, false, List, [], map, append_assoc}
+use Rattle.laws.proofs.All.{refl, sym, ap, subst, ◌∙◌, List, [], map, append_assoc}
 use Rattle.laws.proofs.All.{append-nil, ℕ, arith, lt-ltb, le-ltb, ltb-true, ltb-false, length, get_or}
 use Rattle.laws.proofs.All.{length-append, range, filter, concat, range-more, concat-more, map-append}
 use Rattle.laws.proofs.All.{filter-append}
 use Rattle.compile_graph.specs.declared.Graph.{Graph}
-use Rattle.compile_graph.specs.declared.NextGraph.{NextGraph}
+use Rattle.std.proofs.Common.{None, Some}
 use Rattle.compile_graph.specs.Arcs.{Arc}
 use Rattle.compile_graph.specs.Value.{arcs_in}
 use Rattle.compile_weights.specs.PowerTable.{entry_at}
@@ -49,7 +49,7 @@ module _ (P I : List ℕ) (s : ℕ) where
     rowed-no q = subst (Appended g h m) (sym (row-no w q)) c
 
     pub rowed-over : (words : ℕ) → w < words → 2048 ≤ m → place_of I (entry_at P s w) < 16
-        → Added g (row_arcs P I s words) (record { crowded = true; graph = g })
+        → Added g (row_arcs P I s words) None
     rowed-over words l k q = record {
       crowds = sym (lt-ltb 2048 (g.edges + length (row_arcs P I s words))
           (omega (
@@ -59,28 +59,21 @@ module _ (P I : List ℕ) (s : ℕ) where
             ap length (row-yes w q),
             length-append (row_arcs P I s w) (row_arc P I s w ∷ []),
           )));
-      arcs = λ e. let z : ◌≡◌ {A = ℕ} 0 1 = cc in absurd (omega arith);
-      states = λ e. refl;
-      weight = λ e. refl;
+      extends = tt;
     }
 
-    pub rowed-end : m ≤ 2048 → Added g (row_arcs P I s w) (record {
-      crowded = false;
-      graph = record {
-        states = h.states;
-        edges = m;
-        weight = h.weight;
-        source = h.source;
-        word = h.word;
-        target = h.target;
-      };
-    })
+    pub rowed-end : m ≤ 2048 → Added g (row_arcs P I s w) (Some (record {
+      states = h.states;
+      edges = m;
+      weight = h.weight;
+      source = h.source;
+      word = h.word;
+      target = h.target;
+    }))
     rowed-end l = record {
       crowds = sym (le-ltb 2048 (g.edges + length (row_arcs P I s w))
           (omega (arith, appended-count g h m (row_arcs P I s w) c)));
-      arcs = λ e. c.arcs;
-      states = λ e. c.states;
-      weight = λ e. c.weight;
+      extends = record { arcs = c.arcs; states = c.states; weight = c.weight };
     }
 
 -- ---- state by state
@@ -108,44 +101,40 @@ module _ (row : ℕ → List Arc) where
     more-count : length (rows (i + 1)) ≡ length (rows i) + length (row i)
     more-count = ap length (concat-more row i) ∙ length-append (rows i) (row i)
 
-    pub done_more : (r : NextGraph) → Added h (row i) r → r.crowded ≡ false → Done g r.graph (i + 1)
-    done_more r a e = record {
-      arcs = a.arcs e ∙ rw (c.arcs, concat-more row i) (append_assoc (arcs_in g) (rows i) (row i));
-      room =
-          let l = arcs-count h r.graph r.graph.edges (row i) (a.arcs e) in
-          omega (arith, ltb-false 2048 (h.edges + length (row i)) (sym a.crowds ∙ e));
-      states = a.states e ∙ c.states;
-      weight = a.weight e ∙ c.weight;
-    }
+    pub done_more : (q : Graph) → Added h (row i) (Some q) → Done g q (i + 1)
+    done_more q a =
+        let e = a.extends in
+        record {
+          arcs = e.arcs ∙ rw (c.arcs, concat-more row i) (append_assoc (arcs_in g) (rows i) (row i));
+          room =
+              let l = arcs-count h q q.edges (row i) e.arcs in
+              omega (arith, ltb-false 2048 (h.edges + length (row i)) (sym a.crowds));
+          states = e.states ∙ c.states;
+          weight = e.weight ∙ c.weight;
+        }
 
-    pub done-over : (r : NextGraph) (k : ℕ) → i < k → Added h (row i) r → r.crowded ≡ true → Added g (rows k) r
-    done-over r k l a e = record {
+    pub done-over : (k : ℕ) → i < k → Added h (row i) None → Added g (rows k) None
+    done-over k l a = record {
       crowds =
-          e ∙ sym (lt-ltb 2048 (g.edges + length (rows k))
+          sym (lt-ltb 2048 (g.edges + length (rows k))
           (omega (
             arith,
-            ltb-true 2048 (h.edges + length (row i)) (sym a.crowds ∙ e),
+            ltb-true 2048 (h.edges + length (row i)) (sym a.crowds),
             done-count,
             more-count,
             rows_all (i + 1) k (omega arith),
           )));
-      arcs = λ z. let y : ◌≡◌ {A = ℕ} 0 1 = cc in absurd (omega arith);
-      states = λ z. let y : ◌≡◌ {A = ℕ} 0 1 = cc in absurd (omega arith);
-      weight = λ z. let y : ◌≡◌ {A = ℕ} 0 1 = cc in absurd (omega arith);
+      extends = tt;
     }
 
-    pub done_end : Added g (rows i) (record { crowded = false; graph = h })
+    pub done_end : Added g (rows i) (Some h)
     done_end = record {
       crowds = sym (le-ltb 2048 (g.edges + length (rows i)) (omega (arith, done-count, c.room)));
-      arcs = λ e. c.arcs;
-      states = λ e. c.states;
-      weight = λ e. c.weight;
+      extends = record { arcs = c.arcs; states = c.states; weight = c.weight };
     }
 
-pub added_none : (g : Graph) → g.edges ≤ 2048 → Added g [] (record { crowded = false; graph = g })
+pub added_none : (g : Graph) → g.edges ≤ 2048 → Added g [] (Some g)
 added_none g h = record {
   crowds = sym (le-ltb 2048 (g.edges + 0) (omega arith));
-  arcs = λ e. sym (append-nil (arcs_in g));
-  states = λ e. refl;
-  weight = λ e. refl;
+  extends = record { arcs = sym (append-nil (arcs_in g)); states = refl; weight = refl };
 }

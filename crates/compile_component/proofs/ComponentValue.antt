@@ -1,6 +1,6 @@
 -- The component by value.
 -- In order: the module of one component: component-states, state-low, keep-is, place_is, row_is, arcs-are, bounded,
--- graph_is, found_in.
+-- graph_is, arcs-r, weights-r, states-r, fits-r, all-found, found_in.
 -- Assumes nothing.
 use Rattle.std.proofs.Common.{◌≡◌, ◌&&◌, ◌+◌, ◌≤◌, ◌<◌, if◌then◌else◌}
 use Rattle.laws.proofs.All.{refl, sym, ap, subst, ◌∙◌, inl, inr, Bool, true, false, List, map, ℕ}
@@ -12,17 +12,16 @@ use Rattle.laws.proofs.All.{length-map-range, map-range-same, filter_same, filte
 use Rattle.laws.proofs.All.{filter-never, map-concat, map_each, map-map}
 use Rattle.constraint.specs.Walking.{Target}
 use Rattle.compile_graph.specs.declared.Graph.{Graph}
-use Rattle.compile_graph.specs.declared.NextGraph.{NextGraph}
+use Rattle.std.proofs.Common.{Option, None, Some, is_none, IfSome}
 use Rattle.compile_reach.specs.declared.reaching.Members.{Members}
 use Rattle.compile_graph.specs.Arcs.{Arc, leads_on}
-use Rattle.compile_graph.specs.Splitting.{crowded}
 use Rattle.compile_graph.specs.Component.{both, within, renamed, renumbered, reachings, reaches, returning, live}
 use Rattle.compile_graph.specs.Component.{weight_of}
 use Rattle.compile_graph.specs.Component.{component_states, component_graph}
-use Rattle.compile_graph.specs.Value.{arc_at, arcs_in, weights_in, work_in}
+use Rattle.compile_graph.specs.Value.{arc_at, arcs_in, weights_in, work_in, Fits}
 use Rattle.compile_weights.specs.PowerTable.{entry_at, word_at, words_at, tabled, Powers}
 use Rattle.compile_reach.specs.ReachSets.{rows_of, Listed}
-use Rattle.compile_component.specs.ComponentParts.{place_of, row_keeps, row_arc, row_of_state, Added, FoundIn}
+use Rattle.compile_component.specs.ComponentParts.{place_of, row_keeps, row_arc, row_of_state, Extended, Added, FoundIn}
 use Rattle.compile_graph.proofs.Values.{fits-from, Bounded, Low}
 use Rattle.compile_component.proofs.LiveArcs.{live-lt}
 
@@ -179,35 +178,43 @@ module _ (P : List ℕ) (words k : ℕ) (pw : Powers P words k) (v : List ℕ) (
     count-is = rw (component-states, arcs-are)
 
     module _ (h : Graph) (hw : weights_in h ≡ map (weight_of v) (take list.count list.state))
-        (hs : h.states ≡ list.count) (he : h.edges ≡ 0) (r : NextGraph)
+        (hs : h.states ≡ list.count) (he : h.edges ≡ 0) (r : Option Graph)
         (add : Added h (concat (map (row_of_state P words I) (range k))) r) where
       abbrev rows : List Arc
       rows = concat (map (row_of_state P words I) (range k))
 
-      arcs-r : r.crowded ≡ false → arcs_in r.graph ≡ renumbered C g
-      arcs-r e = add.arcs e ∙ rw (he, arcs-are)
+      module _ (q : Graph) (e : Extended h rows q) where
+        arcs-r : arcs_in q ≡ renumbered C g
+        arcs-r = e.arcs ∙ rw (he, arcs-are)
 
-      weights-r : r.crowded ≡ false → weights_in r.graph ≡ map (weight_of v) C
-      weights-r e = rw (add.states e, add.weight e, ← is.states) hw
+        weights-r : weights_in q ≡ map (weight_of v) C
+        weights-r = rw (e.states, e.weight, ← is.states) hw
 
-      states-r : r.crowded ≡ false → r.graph.states ≡ length C
-      states-r e = add.states e ∙ hs ∙ sym C-count
+        states-r : q.states ≡ length C
+        states-r = e.states ∙ hs ∙ sym C-count
+
+        fits-r : ltb 2048 (h.edges + length rows) ≡ false → Fits q
+        fits-r f =
+            let n : q.edges ≡ length rows =
+            sym (length-map-range (arc_at q) q.edges) ∙ ap length (arcs-r ∙ arcs-are) in
+            let m : h.edges + length rows ≤ 2048 = ltb-false 2048 (h.edges + length rows) f in
+            fits-from q (let p = states-r in omega (arith, C-few)) (omega arith)
+            (rw weights-r (each-image Low (weight_of v) C (each_map (λ t. t < k) _ (λ t h. low t h) C C-each)))
+            (rw (states-r, arcs-r) bounded)
+
+      all-found : (r : Option Graph) → is_none r ≡ ltb 2048 (h.edges + length rows) → IfSome r (Extended h rows)
+          → IfSome r (λ q. (work_in q ≡ component_graph weight g) × Fits q)
+      all-found None f e = tt
+      all-found (Some q) f e = (graph_is q (weights-r q e) (arcs-r q e), fits-r q e (sym f))
 
       pub found_in : (total start : ℕ) → total ≡ sum (map (weight_of v) (take list.count list.state))
           → start ≡ get_or (take list.count list.state) 0 0
-          → FoundIn weight g (record { total = total; start = start; crowded = r.crowded; graph = r.graph })
+          → FoundIn weight g (record { total = total; start = start; graph = r })
       found_in total start a b = record {
         total = a ∙ ap (λ l. sum (map (weight_of v) l)) is.states ∙ ap sum (sym weights-are);
         start = b ∙ ap (λ l. get_or l 0 0) (is.states ∙ sym component-states);
         crowds = add.crowds ∙ ap (ltb 2048) (ap (λ n. n + length rows) he ∙ sym (count-is ∙ zero-plus (length rows)));
-        work = λ e. graph_is r.graph (weights-r e) (arcs-r e);
-        fits = λ e.
-            let n : r.graph.edges ≡ length rows =
-            sym (length-map-range (arc_at r.graph) r.graph.edges) ∙ ap length (arcs-r e ∙ arcs-are) in
-            let m : h.edges + length rows ≤ 2048 = ltb-false 2048 (h.edges + length rows) (sym add.crowds ∙ e) in
-            fits-from r.graph (let q = states-r e in omega (arith, C-few)) (omega arith)
-            (rw (weights-r e) (each-image Low (weight_of v) C (each_map (λ t. t < k) _ (λ t h. low t h) C C-each)))
-            (rw (states-r e, arcs-r e) bounded);
+        found = all-found r add.crowds add.extends;
       }
         where
           zero-plus : (x : ℕ) → x ≡ 0 + x

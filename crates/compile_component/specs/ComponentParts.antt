@@ -1,11 +1,10 @@
 -- What the parts of building the component's graph answer.
--- In order: place_of, row_keeps, row_arc, row_arcs, row_of_state; Added, AddedAll; WeightsOf; FoundIn, the component by
--- value.
+-- In order: place_of, row_keeps, row_arc, row_arcs, row_of_state; Extended, Added; FoundIn, the component by value.
 -- Assumes nothing.
-use Rattle.std.specs.Prelude.{if◌then◌else◌, ◌≡◌, Bool, false, List, [], ◌++◌, map, ℕ, ◌+◌, ltb, length, get_or}
+use Rattle.std.specs.Prelude.{if◌then◌else◌, ◌≡◌, Bool, List, [], ◌++◌, map, ℕ, ◌+◌, ltb, length, get_or}
+use Rattle.std.specs.Prelude.{Option, is_none, IfSome}
 use Rattle.laws.specs.Lists.{range, filter, sum}
 use Rattle.compile_graph.specs.declared.Graph.{Graph}
-use Rattle.compile_graph.specs.declared.NextGraph.{NextGraph}
 use Rattle.compile_component.specs.declared.component_graph.ComponentAnswer.{ComponentAnswer}
 use Rattle.compile_graph.specs.Arcs.{Arc, arc}
 use Rattle.compile_graph.specs.Splitting.{crowded}
@@ -33,18 +32,21 @@ row_arcs P I s words = map (row_arc P I s) (filter (row_keeps P I s) (range word
 abbrev pub row_of_state : List ℕ → ℕ → List ℕ → ℕ → List Arc
 row_of_state P words I s = if ltb (get_or I s 0) 16 then row_arcs P I s words else []
 
--- r is h with the edges l after its own, or says that there would be "over 2,048 edges"
-pub record Added (h : Graph) (l : List Arc) (r : NextGraph) : Type 0 where
-  pub crowds : r.crowded ≡ ltb 2048 (h.edges + length l)
-  pub arcs : r.crowded ≡ false → arcs_in r.graph ≡ arcs_in h ++ l
-  pub states : r.crowded ≡ false → r.graph.states ≡ h.states
-  pub weight : r.crowded ≡ false → r.graph.weight ≡ h.weight
+-- g is h with the edges l after its own
+pub record Extended (h : Graph) (l : List Arc) (g : Graph) : Type 0 where
+  pub arcs : arcs_in g ≡ arcs_in h ++ l
+  pub states : g.states ≡ h.states
+  pub weight : g.weight ≡ h.weight
 
--- the component by value: its graph with the weights, or the answer that it has over 2,048 edges; its weights' sum;
--- its start
+-- r is h with the edges l after its own, or none where there would be "over 2,048 edges"
+pub record Added (h : Graph) (l : List Arc) (r : Option Graph) : Type 0 where
+  pub crowds : is_none r ≡ ltb 2048 (h.edges + length l)
+  pub extends : IfSome r (Extended h l)
+
+-- the component by value: its graph with the weights, or none where it has over 2,048 edges; its weights' sum; its
+-- start
 pub record FoundIn (v : List ℕ) (g : List Arc) (r : ComponentAnswer) : Type 0 where
   pub total : r.total ≡ sum (component_graph v g).weights
   pub start : r.start ≡ get_or (component_states v g) 0 0
-  pub crowds : r.crowded ≡ crowded (component_graph v g)
-  pub work : r.crowded ≡ false → work_in r.graph ≡ component_graph v g
-  pub fits : r.crowded ≡ false → Fits r.graph
+  pub crowds : is_none r.graph ≡ crowded (component_graph v g)
+  pub found : IfSome r.graph (λ h. (work_in h ≡ component_graph v g) × Fits h)

@@ -7,7 +7,7 @@ ghost use Rattle.compile_graph.specs.Value.{arcs_in, weights_in};
 ghost use Rattle.compile_weights.specs.PowerTable.{tabled, Powers};
 ghost use Rattle.compile_component.specs.ComponentParts.{place_of, row_arcs, row_of_state, Added, FoundIn};
 
-use compile_graph::{Graph, NextGraph};
+use compile_graph::Graph;
 use compile_reach::reaching::{Members, first_returning, list_members, live_edges, reach_all};
 use compile_weights::state_weights::word_counts;
 
@@ -16,84 +16,80 @@ use compile_weights::state_weights::word_counts;
 pub struct ComponentAnswer {
     pub total: usize,
     pub start: usize,
-    pub crowded: bool,
-    pub graph: Graph,
+    pub graph: Option<Graph>,
 }
 
 // The number of state t in the component, 16 for none.
 fn place_of(index: [usize; 16], t: u8) -> usize
     ensures answer { result ≡ place_of index t }
 {
-    if t < 16 {
-        return index[t as usize];
-    }
-    16
+    if t < 16 { index[t as usize] } else { 16 }
 }
 
-// The graph with the words from s that lead into the component.
-fn add_words(power: &[u8; 4096], words: usize, s: usize, index: [usize; 16], g: Graph) -> NextGraph
+// The graph with the words from s that lead into the component, or none if it would have over 2,048 edges.
+fn add_words(
+    power: &[u8; 4096],
+    words: usize,
+    s: usize,
+    index: [usize; 16],
+    g: Graph,
+) -> Option<Graph>
     requires { (length power.now ≡ 4096) × (words ≤ 256) × (s < 16) × (get_or index s 0 < 16) × (g.edges ≤ 2048) }
     ensures answer { Added g (row_arcs power.now index s words) result }
 {
     let mut h = g;
     let from = index[s] as u8;
     let mut m = g.edges;
-    let mut w = 0;
-    while w < words {
+    for w in 0..words {
         let t = place_of(index, power[s * 256 + w]);
         if t < 16 {
             if 2048 <= m {
-                return NextGraph {
-                    crowded: true,
-                    graph: g,
-                };
+                return None;
             }
             h.source[m] = from;
             h.word[m] = w as u8;
             h.target[m] = t as u8;
             m += 1;
         }
-        w += 1;
     }
     h.edges = m;
-    NextGraph {
-        crowded: false,
-        graph: h,
-    }
+    Some(h)
 }
 
 // The same, where s is in the component.
-fn add_state(power: &[u8; 4096], words: usize, s: usize, index: [usize; 16], g: Graph) -> NextGraph
+fn add_state(
+    power: &[u8; 4096],
+    words: usize,
+    s: usize,
+    index: [usize; 16],
+    g: Graph,
+) -> Option<Graph>
     requires { (length power.now ≡ 4096) × (words ≤ 256) × (s < 16) × (g.edges ≤ 2048) }
     ensures answer { Added g (row_of_state power.now words index s) result }
 {
     if index[s] < 16 {
-        return add_words(power, words, s, index, g);
-    }
-    NextGraph {
-        crowded: false,
-        graph: g,
+        add_words(power, words, s, index, g)
+    } else {
+        Some(g)
     }
 }
 
-// The graph with the words among the states of the component.
-fn add_states(power: &[u8; 4096], words: usize, k: usize, index: [usize; 16], g: Graph) -> NextGraph
+// The graph with the words among the states of the component, or none if it would have over 2,048 edges.
+fn add_states(
+    power: &[u8; 4096],
+    words: usize,
+    k: usize,
+    index: [usize; 16],
+    g: Graph,
+) -> Option<Graph>
     requires { (length power.now ≡ 4096) × (words ≤ 256) × (k ≤ 16) × (g.edges ≤ 2048) }
     ensures answer { Added g (concat (map (row_of_state power.now words index) (range k))) result }
 {
-    let mut r = NextGraph {
-        crowded: false,
-        graph: g,
-    };
-    let mut s = 0;
-    while s < k {
-        r = add_state(power, words, s, index, r.graph);
-        if r.crowded {
-            return r;
-        }
-        s += 1;
+    let mut h = g;
+    for s in 0..k {
+        h = add_state(power, words, s, index, h)?;
     }
-    r
+    Some(h)
 }
 
 // A graph without edges, with the weights of the component's states.
@@ -104,16 +100,13 @@ fn with_weights(list: Members, v: [usize; 16]) -> Graph
         × (result.states ≡ list.count) × (result.edges ≡ 0) }
 {
     let mut weight = [0u8; 128];
-    let n = list.count;
-    let mut i = 0;
-    while i < n {
+    for i in 0..list.count {
         weight[i] = v[list.state[i]] as u8;
-        i += 1;
     }
     Graph {
-        states: n,
+        states: list.count,
         edges: 0,
-        weight: weight,
+        weight,
         source: [0u8; 2048],
         word: [0u8; 2048],
         target: [0u8; 2048],
@@ -126,12 +119,9 @@ fn total_weight(list: Members, v: [usize; 16]) -> usize
         × (get_or v (get_or list.state i 0) 0 ≤ 128)) }
     ensures answer { result ≡ sum (map (weight_of v) (take list.count list.state)) }
 {
-    let n = list.count;
     let mut total = 0;
-    let mut i = 0;
-    while i < n {
+    for i in 0..list.count {
         total += v[list.state[i]];
-        i += 1;
     }
     total
 }
@@ -140,10 +130,7 @@ fn total_weight(list: Members, v: [usize; 16]) -> usize
 fn first_state(list: Members) -> usize
     ensures answer { result ≡ get_or (take list.count list.state) 0 0 }
 {
-    if list.count == 0 {
-        return 0;
-    }
-    list.state[0]
+    if list.count == 0 { 0 } else { list.state[0] }
 }
 
 // The component of the words of a power table, by the weights of its states.
@@ -154,18 +141,13 @@ pub fn find_component(power: &[u8; 4096], words: usize, k: usize, v: [usize; 16]
     let count = word_counts(power, words, k);
     let edge = live_edges(&count, v, k);
     let m = reach_all(&edge, k);
-    let s = first_returning(&m, v, k);
+    // Where there is none, no state has a weight, so that the component of any state is empty.
+    let s = first_returning(&m, v, k).unwrap_or(0);
     let list = list_members(&m, v, k, s);
     let g = with_weights(list, v);
-    let index = list.index;
-    let r = add_states(power, words, k, index, g);
-    let total = total_weight(list, v);
-    let start = first_state(list);
-    let graph = r.graph;
     ComponentAnswer {
-        total: total,
-        start: start,
-        crowded: r.crowded,
-        graph: graph,
+        total: total_weight(list, v),
+        start: first_state(list),
+        graph: add_states(power, words, k, list.index, g),
     }
 }

@@ -3,15 +3,13 @@
 -- allowed_of; fitted-allowed.
 -- Assumes nothing.
 use Rattle.std.proofs.Common.{◌≡◌, ◌&&◌, ◌^◌, ◌≤◌, ◌<◌}
-use Rattle.laws.proofs.All.{refl, ap, subst, ◌∙◌, Bool, true, false, List, ℕ, T, leb}
+use Rattle.laws.proofs.All.{refl, sym, ap, subst, ◌∙◌, Bool, true, false, List, ℕ, T, leb}
 use Rattle.laws.proofs.All.{leb→le, le→leb}
 use Rattle.laws.proofs.All.{lt-leb, length, get_or, and→}
 use Rattle.answer.specs.declared.Refusal.{Refusal}
 use Rattle.answer.specs.declared.Refusal.TheVariants.{Parameters, Length, BadWeights}
-use Rattle.answer.specs.declared.Verdict.{Verdict}
-use Rattle.answer.specs.declared.Verdict.TheVariants.{Good, Bad}
-use Rattle.answer.specs.Outcomes.{Outcome, done, refused, unless, onward, verdict_on}
-use Rattle.answer.proofs.Outcomes.{done_inj, unless-true, unless-false, unless→, onward→, said-good, said-bad}
+use Rattle.answer.specs.Outcomes.{Outcome, done, refused, unless, onward}
+use Rattle.answer.proofs.Outcomes.{done_inj, unless-true, unless-false, unless→, onward→}
 use Rattle.compile_graph.specs.Arcs.{power}
 use Rattle.compile_graph.proofs.Weights.{passing-exact}
 use Rattle.compile_job.specs.Jobs.{Choice, computed, brought, Job, good_parameters, fit, fitted, fronted, Fitting}
@@ -52,16 +50,17 @@ fronted-onward {A} {B} xs b o = go (leb 4 (length xs)) (good_parameters (get_or 
     go true false = refl
     go false t = refl
 
--- ---- what the verdict on it says of the whole
-module _ (xs : List ℕ) (v : Verdict) (e : verdict_on v xs ≡ fronted xs (done xs)) where
-  pub front-bad : {A : Type 0} (o : Outcome A) (r : Refusal) → v ≡ Bad r → fronted xs o ≡ refused r
-  front-bad o r q = fronted-onward xs xs o ∙ ap (λ u. onward u (λ _. o)) (said-bad v xs (fronted xs (done xs)) e r q)
+-- ---- what they say of the whole
+module _ (xs : List ℕ) where
+  pub front-bad : {A : Type 0} (o : Outcome A) (r : Refusal) → refused r ≡ fronted xs (done xs)
+      → fronted xs o ≡ refused r
+  front-bad o r e = fronted-onward xs xs o ∙ ap (λ u. onward u (λ _. o)) (sym e)
 
-  pub front-good : {A : Type 0} (o : Outcome A) → v ≡ Good → fronted xs o ≡ o
-  front-good o q = fronted-onward xs xs o ∙ ap (λ u. onward u (λ _. o)) (said-good v xs (fronted xs (done xs)) e q)
+  pub front-good : {A : Type 0} (o : Outcome A) → done xs ≡ fronted xs (done xs) → fronted xs o ≡ o
+  front-good o e = fronted-onward xs xs o ∙ ap (λ u. onward u (λ _. o)) (sym e)
 
-  pub front_long : v ≡ Good → 4 ≤ length xs
-  front_long q = (fronted→ xs (done xs) xs (said-good v xs (fronted xs (done xs)) e q)).0
+  pub front_long : done xs ≡ fronted xs (done xs) → 4 ≤ length xs
+  front_long e = (fronted→ xs (done xs) xs (sym e)).0
 
 -- ---- parameters in range, a lawful constraint, and weights that pass where there are any
 fitting : (j : Job) (ch : Choice) → Counted j ch → T (fit j ch) → Fitting j ch

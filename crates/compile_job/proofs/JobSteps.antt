@@ -1,18 +1,16 @@
 -- A job read check by check: what reading comes to at each return of the code, and what holds of what is read.
--- In order: in-range, sized-fits; unless-yes; onward-bad, onward-good; missing-count, bad-count, bad-size,
--- bad-states, good-constraint; lawful-kept; run-length-size, run-length-parameters, run-length-range,
--- run-length-count, run-length-good; held_kept, ready-kept.
+-- In order: in-range, sized-fits; unless-yes; missing-count, bad-count, bad-size, bad-states, good-constraint;
+-- lawful-kept; run-length-size, run-length-parameters, run-length-range, run-length-count, run-length-good; job-ready,
+-- ready-kept.
 -- Assumes nothing.
-use Rattle.std.proofs.Common.{◌≡◌, ◌&&◌, ◌∷◌, ◌+◌, ◌*◌, ◌≤◌, ◌||◌, ◌/◌}
+use Rattle.std.proofs.Common.{Result, Ok, Err, IfOk, ◌≡◌, ◌&&◌, ◌∷◌, ◌+◌, ◌*◌, ◌≤◌, ◌||◌, ◌/◌}
 use Rattle.laws.proofs.All.{refl, sym, ap, ap₂, subst, ◌∙◌, Bool, true, false, List, map, ℕ, zero}
 use Rattle.laws.proofs.All.{suc, arith, T, leb, eqb, leb→le, leb-true, eqb-true, length, get_or, drop}
 use Rattle.laws.proofs.All.{get_or-drop, drop-drop, all, from, range, and→, or→, inl, inr, eqb→eq}
 use Rattle.answer.specs.declared.Refusal.{Refusal}
 use Rattle.answer.specs.declared.Refusal.TheVariants.{Parameters, States, Length}
-use Rattle.answer.specs.declared.Verdict.{Verdict}
-use Rattle.answer.specs.declared.Verdict.TheVariants.{Good, Bad}
-use Rattle.answer.specs.Outcomes.{Outcome, done, refused, unless, onward, verdict_on}
-use Rattle.answer.proofs.Outcomes.{unless-false, said-good}
+use Rattle.answer.specs.Outcomes.{Outcome, done, refused, unless}
+use Rattle.answer.proofs.Outcomes.{unless-false}
 use Rattle.constraint.specs.Walking.{NextStates, run_length, Lawful}
 use Rattle.constraint.specs.declared.Constraint.{Constraint}
 use Rattle.constraint.specs.Value.{constraint_of}
@@ -20,12 +18,10 @@ use Rattle.constraint.proofs.Values.{length-constraint_of}
 use Rattle.table.specs.Formed.{good_next}
 use Rattle.table.proofs.ReadyTables.{all_map}
 use Rattle.compile_job.specs.declared.JobValue.{JobValue}
-use Rattle.compile_job.specs.declared.JobAnswer.{JobAnswer}
-use Rattle.compile_job.specs.declared.ConstraintAnswer.{ConstraintAnswer}
 use Rattle.compile_job.specs.Jobs.{Job, good_parameters, bringing, held_with, states_of, constraint_from}
 use Rattle.compile_job.specs.Jobs.{held_run_length}
 use Rattle.compile_job.specs.Jobs.{Allowed}
-use Rattle.compile_job.specs.JobValues.{job_in, JobReady, Held, job_outcome, state_at, good_state_at, sized}
+use Rattle.compile_job.specs.JobValues.{job_in, JobReady, job_outcome, state_at, good_state_at, sized}
 use Rattle.compile_job.specs.JobValues.{constraint_outcome}
 use Rattle.compile_job.proofs.Constraints.{checked, from-checked, constraint_from-lawful}
 
@@ -45,14 +41,6 @@ sized-fits false weights m n e = leb-true m n e
 -- ---- one check
 pub unless-yes : {A : Type 0} (r : Refusal) (b : Bool) (x : Outcome A) → b ≡ true → unless r b x ≡ x
 unless-yes r b x e = ap (λ c. unless r c x) e
-
--- ---- a value that goes on with what was said of it
-module _ {A B : Type 0} (v : Verdict) (a : A) (f : A → Outcome B) where
-  pub onward-bad : (r : Refusal) → v ≡ Bad r → onward (verdict_on v a) f ≡ refused r
-  onward-bad r q = ap (λ v. onward (verdict_on v a) f) q
-
-  pub onward-good : v ≡ Good → onward (verdict_on v a) f ≡ f a
-  onward-good q = ap (λ v. onward (verdict_on v a) f) q
 
 -- ---- the states in a constraint's bytes
 states-from : (K i : ℕ) (ys : List ℕ) → states_of K (drop (1 + i * 2) ys) ≡ map (state_at ys) (from i K)
@@ -109,15 +97,12 @@ module _ (fits : ℕ → ℕ → Bool) (ys : List ℕ) where
             fitted ∙ unless-yes States _ _ (states-test (get_or ys 0 0) ys ∙ e)
             ∙ ap done (states_of-is (get_or ys 0 0) ys ∙ sym s)
 
--- a constraint beside the verdict `Good` is lawful
-pub lawful-kept : (fits : ℕ → ℕ → Bool) (ys : List ℕ) (r : ConstraintAnswer)
+-- a constraint that is read is lawful
+pub lawful-kept : (fits : ℕ → ℕ → Bool) (ys : List ℕ) (r : Result Constraint Refusal)
     → constraint_outcome r ≡ constraint_from fits ys
-    → (constraint_outcome r ≡ constraint_from fits ys) × (r.verdict ≡ Good → Lawful (constraint_of r.constraint))
-lawful-kept fits ys r e = (
-  e,
-  λ g. constraint_from-lawful fits ys (constraint_of r.constraint)
-      (said-good r.verdict (constraint_of r.constraint) (constraint_from fits ys) e g),
-)
+    → (constraint_outcome r ≡ constraint_from fits ys) × IfOk r (λ c. Lawful (constraint_of c))
+lawful-kept fits ys (Ok c) e = (e, constraint_from-lawful fits ys (constraint_of c) (sym e))
+lawful-kept fits ys (Err r) e = (e, tt)
 
 -- ---- a run-length job
 module _ (xs : List ℕ) where
@@ -160,19 +145,13 @@ module _ (xs : List ℕ) where
             ∙ ap done (sym q)
 
 -- ---- a job that is read
--- a job beside the verdict `Good` is held, where those that the bytes hold are
-pub held_kept : (r : JobAnswer) (o : Outcome Job) → job_outcome r ≡ o → ((j : Job) → o ≡ done j → Held j)
-    → (job_outcome r ≡ o) × (r.verdict ≡ Good → Held (job_in r.job))
-held_kept r o e f = (e, λ g. f (job_in r.job) (said-good r.verdict (job_in r.job) o e g))
+-- it is ready to be compiled, where those that are read are allowed
+pub job-ready : (j : JobValue) → Allowed (job_in j) → JobReady j
+job-ready j a =
+    let l : length (job_in j).constraint ≡ j.constraint.states = length-constraint_of j.constraint in
+    record { allowed = a; limits = rw l at a.k₂ }
 
--- a job beside the verdict `Good` is ready to be compiled, where those that are read are allowed
-pub ready-kept : (r : JobAnswer) (o : Outcome Job) → job_outcome r ≡ o → ((j : Job) → o ≡ done j → Allowed j)
-    → (job_outcome r ≡ o) × (r.verdict ≡ Good → JobReady r.job)
-ready-kept r o e f = (e, ready)
-  where
-    ready : r.verdict ≡ Good → JobReady r.job
-    ready g =
-        let j = r.job in
-        let a = f (job_in j) (said-good r.verdict (job_in j) o e g) in
-        let l : length (job_in j).constraint ≡ j.constraint.states = length-constraint_of j.constraint in
-        record { allowed = a; limits = rw l at a.k₂ }
+pub ready-kept : (r : Result JobValue Refusal) (o : Outcome Job) → job_outcome r ≡ o
+    → ((j : Job) → o ≡ done j → Allowed j) → (job_outcome r ≡ o) × IfOk r (λ j. JobReady j)
+ready-kept (Ok j) o e f = (e, job-ready j (f (job_in j) (sym e)))
+ready-kept (Err r) o e f = (e, tt)

@@ -8,10 +8,9 @@ use Rattle.laws.proofs.All.{refl, sym, ap, ap₂, subst, ◌∙◌, inl, inr, Bo
 use Rattle.laws.proofs.All.{arith, ℕ_discrete, T, leb, eqb, leb→le, le→leb, leb-true, eqb→eq}
 use Rattle.laws.proofs.All.{eq-eqb, ne_eqb, eqb_is, Whether, so, nay, length, get_or, drop, length-drop, get_or-drop}
 use Rattle.laws.proofs.All.{drop-drop, all, and→, or→}
-use Rattle.answer.specs.declared.Refusal.TheVariants.{Parameters, States, Length, BadWeights}
+use Rattle.answer.specs.declared.Refusal.TheVariants.{Parameters, States, Length}
 use Rattle.answer.specs.Outcomes.{Outcome, done, unless, onward}
-use Rattle.answer.specs.declared.Verdict.TheVariants.{Good}
-use Rattle.answer.proofs.Outcomes.{done_inj, unless-true, unless→, onward→, said-good}
+use Rattle.answer.proofs.Outcomes.{done_inj, unless-true, unless→, onward→}
 use Rattle.constraint.specs.Value.{constraint_of}
 use Rattle.constraint.proofs.Values.{length-constraint_of}
 use Rattle.constraint.specs.Walking.{Constraint, run_length, Lawful}
@@ -19,12 +18,12 @@ use Rattle.constraint.proofs.Walking.{length-run_length, run_length-well}
 use Rattle.table.specs.Formed.{good_next}
 use Rattle.joining.specs.Joined.{joined}
 use Rattle.joining.proofs.Joined.{joined-lawful}
-use Rattle.compile_job.specs.Jobs.{Job, good_parameters, bringing, fit, fitted, states_of, constraint_from, fronted}
+use Rattle.compile_job.specs.Jobs.{Job, good_parameters, bringing, fit, states_of, constraint_from, fronted}
 use Rattle.compile_job.specs.Jobs.{held_with, job_bringing, job_with, held_job, read_job, held_run_length}
 use Rattle.compile_job.specs.Jobs.{read_run_length}
 use Rattle.compile_job.specs.Jobs.{read_listed, read_joined, Allowed}
-use Rattle.compile_job.specs.declared.ConstraintAnswer.{ConstraintAnswer}
-use Rattle.compile_job.specs.JobValues.{Counted, Held, Sized, spare, constraint_outcome}
+use Rattle.constraint.specs.declared.Constraint.{Constraint as Stored}
+use Rattle.compile_job.specs.JobValues.{Counted, Held, Sized, spare}
 use Rattle.compile_job.proofs.Constraints.{checked, from-checked, length-states_of, constraint_from-lawful}
 use Rattle.compile_job.proofs.Constraints.{constraint_from-fits}
 use Rattle.compile_job.proofs.Fronts.{fronted→, allowed_of, fitted-allowed}
@@ -122,18 +121,17 @@ sized→ size n m K e h p t = elim (or→ (eqb (1 + 2 * K) n) (eqb (1 + 2 * K + 
 ]
 
 -- the bytes of a job fit the constraint that is read in them
-pub held-sized : (xs : List ℕ) → 4 ≤ length xs → (r : ConstraintAnswer)
-    → constraint_outcome r ≡ constraint_from spare (drop 3 xs) → r.verdict ≡ Good → let k = r.constraint.states in
-    (k ≤ 16) × Sized (4 + 2 * k) k (length xs)
-held-sized xs h r e g =
-    let c = constraint_of r.constraint in
-    let l : length c ≡ r.constraint.states = length-constraint_of r.constraint in
-    let q = said-good r.verdict c (constraint_from spare (drop 3 xs)) e g in
-    let f = (constraint_from-lawful spare (drop 3 xs) c q).few in (
+pub held-sized : (xs : List ℕ) → 4 ≤ length xs → (k : Stored)
+    → done (constraint_of k) ≡ constraint_from spare (drop 3 xs)
+    → (k.states ≤ 16) × Sized (4 + 2 * k.states) k.states (length xs)
+held-sized xs h k e =
+    let c = constraint_of k in
+    let l : length c ≡ k.states = length-constraint_of k in
+    let f = (constraint_from-lawful spare (drop 3 xs) c (sym e)).few in (
       omega arith,
       subst (λ k. Sized (4 + 2 * k) k (length xs)) l
           (sized→ (4 + 2 * length c) (length (drop 3 xs)) (length xs) (length c) (length-drop 3 xs) h refl
-          (constraint_from-fits spare (drop 3 xs) c q)),
+          (constraint_from-fits spare (drop 3 xs) c (sym e))),
     )
 
 pub held_job-held : (xs : List ℕ) (j : Job) → held_job xs ≡ done j → Held j

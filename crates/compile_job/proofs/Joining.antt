@@ -1,22 +1,25 @@
 -- A job with two constraints: which ones its bytes hold, and when there are too many pairs.
--- In order: joins-lawful; joins-exact, joined-job; too-many-read; joined-from, where the second constraint starts.
+-- In order: joins-lawful; joins-exact, joined-job; too-many-read; first-within, where the second constraint starts;
+-- first-on, second-on, a joined job read piece by piece.
 -- Assumes nothing.
-use Rattle.std.proofs.Common.{◌≡◌, ◌↔◌, ◌+◌, ◌*◌, ◌≤◌, ◌<◌}
+use Rattle.std.proofs.Common.{◌≡◌, ◌↔◌, ◌+◌, ◌*◌, ◌-◌, ◌≤◌, ◌<◌}
 use Rattle.laws.proofs.All.{refl, sym, ap, ◌∙◌, inl, inr, Bool, true, false, List, ℕ}
-use Rattle.laws.proofs.All.{arith, min, T, leb, eqb, leb→le, leb-false, lt-leb, length, get_or, drop, drop_min}
-use Rattle.laws.proofs.All.{get_or-drop}
+use Rattle.laws.proofs.All.{arith, T, leb, eqb, leb→le, leb-false, lt-leb, length, get_or, drop, length-drop}
 use Rattle.answer.specs.declared.Refusal.{Refusal}
 use Rattle.answer.specs.declared.Refusal.TheVariants.{Parameters, Length, TooManyPairs}
 use Rattle.answer.specs.Refusals.{number_of}
 use Rattle.answer.specs.Outcomes.{Outcome, done, refused, unless, onward}
 use Rattle.answer.proofs.Outcomes.{done_inj, refused-not, unless-false, unless→, onward→}
 use Rattle.answer.proofs.RefusedOutcomes.{refused-inj}
+use Rattle.constraint.specs.declared.Constraint.{Constraint as Stored}
 use Rattle.constraint.specs.Walking.{Constraint, Lawful}
+use Rattle.constraint.specs.Value.{constraint_of}
+use Rattle.constraint.proofs.Values.{length-constraint_of}
 use Rattle.joining.specs.Joined.{pairs, joined}
 use Rattle.compile_job.specs.Jobs.{Job, good_parameters, constraint_from, fronted, job_with, joined_job}
 use Rattle.compile_job.specs.Jobs.{read_joined, Joins}
-use Rattle.compile_job.proofs.Constraints.{constraint-refused, constraint_from-lawful, constraint_from-length}
-use Rattle.compile_job.proofs.Fronts.{front-passed, fronted→}
+use Rattle.compile_job.proofs.Constraints.{constraint-refused, constraint_from-lawful, constraint_from-fits}
+use Rattle.compile_job.proofs.Fronts.{front-passed, fronted→, front-good}
 
 -- ---- the constraints of a job that is read
 module _ (xs : List ℕ) where
@@ -103,22 +106,29 @@ too-many-read xs = (there, back)
         ∙ ap (λ o. onward o second) s.first ∙ ap (λ o. onward o (joined_job xs c)) s.second
         ∙ unless-false TooManyPairs (leb (length (pairs c d)) 16) _ (lt-leb (length (pairs c d)) 16 h)
 
--- ---- where the second constraint starts
-onward-same : {A B : Type 0} (o : Outcome A) (f g : A → Outcome B) → ((x : A) → o ≡ done x → f x ≡ g x)
-    → onward o f ≡ onward o g
-onward-same (done x) f g h = h x refl
-onward-same (refused r) f g h = refl
+-- ---- where the second constraint starts: after as many states as the first has, within the bytes
+pub first-within : (xs : List ℕ) → 4 ≤ length xs → (k : Stored)
+    → done (constraint_of k) ≡ constraint_from leb (drop 3 xs) → (k.states ≤ 16) × (4 + 2 * k.states ≤ length xs)
+first-within xs h k e =
+    let c = constraint_of k in
+    let l : length c ≡ k.states = length-constraint_of k in
+    let f = (constraint_from-lawful leb (drop 3 xs) c (sym e)).few in
+    let t = leb→le (1 + 2 * length c) (length (drop 3 xs)) (constraint_from-fits leb (drop 3 xs) c (sym e)) in
+    let n : length (drop 3 xs) ≡ length xs - 3 = length-drop 3 xs in
+    (omega arith, omega arith)
 
--- after as many states as the first says
-pub joined-from : (xs : List ℕ) (start : ℕ) → start ≡ min (4 + 2 * get_or xs 3 0) (length xs)
-    → onward (constraint_from leb (drop 3 xs)) (λ c. onward (constraint_from eqb (drop start xs)) (joined_job xs c))
-    ≡ onward (constraint_from leb (drop 3 xs))
-    (λ c. onward (constraint_from eqb (drop (4 + 2 * length c) xs)) (joined_job xs c))
-joined-from xs start e =
-    onward-same (constraint_from leb (drop 3 xs)) _ _
-    (λ c q. ap (λ ys. onward (constraint_from eqb ys) (joined_job xs c)) (same c q))
-  where
-    same : (c : Constraint) → constraint_from leb (drop 3 xs) ≡ done c → drop start xs ≡ drop (4 + 2 * length c) xs
-    same c q =
-        let k : length c ≡ get_or xs 3 0 = constraint_from-length leb (drop 3 xs) c q ∙ get_or-drop 3 xs 0 0 in
-        ap (λ n. drop n xs) e ∙ drop_min (4 + 2 * get_or xs 3 0) xs ∙ ap (λ K. drop (4 + 2 * K) xs) (sym k)
+-- ---- a joined job, read piece by piece: what the front comes to, then each constraint
+module _ (xs : List ℕ) (e : done xs ≡ fronted xs (done xs)) where
+  pub first-on : (o : Outcome Constraint) → o ≡ constraint_from leb (drop 3 xs)
+      → onward o (λ c. onward (constraint_from eqb (drop (4 + 2 * length c) xs)) (joined_job xs c)) ≡ read_joined xs
+  unfolding read_joined
+  first-on o p =
+      ap (λ o. onward o (λ c. onward (constraint_from eqb (drop (4 + 2 * length c) xs)) (joined_job xs c))) p
+      ∙ sym (front-good xs _ e)
+
+  pub second-on : (k : Stored) → done (constraint_of k) ≡ constraint_from leb (drop 3 xs) → (o : Outcome Constraint)
+      → o ≡ constraint_from eqb (drop (4 + 2 * k.states) xs) → onward o (joined_job xs (constraint_of k)) ≡ read_joined xs
+  second-on k q o p =
+      ap (λ o. onward o (joined_job xs (constraint_of k)))
+      (p ∙ ap (λ n. constraint_from eqb (drop (4 + 2 * n) xs)) (sym (length-constraint_of k)))
+      ∙ first-on (done (constraint_of k)) q

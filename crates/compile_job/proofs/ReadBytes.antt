@@ -5,7 +5,7 @@
 -- Assumes nothing.
 use Rattle.std.proofs.Common.{◌≡◌, ◌⊎◌, ◌&&◌, ◌||◌, ◌+◌, ◌*◌, ◌≤◌, ◌<◌}
 use Rattle.laws.proofs.All.{refl, sym, ap, subst, ◌∙◌, inl, inr, Bool, List, ℕ, zero, suc}
-use Rattle.laws.proofs.All.{arith, T, leb, eqb, leb→le, eqb→eq, lt-ltb, le-ltb, lt-leb, le-leb, length}
+use Rattle.laws.proofs.All.{arith, leb, eqb, leb→le, eqb→eq, lt-ltb, le-ltb, lt-leb, le-leb, length}
 use Rattle.laws.proofs.All.{get_or, drop, get_or-drop, drop-drop, add-zero, all, and→, or→, map-range-at}
 use Rattle.answer.specs.declared.Refusal.TheVariants.{Parameters, States, Length, BadWeights}
 use Rattle.answer.specs.Outcomes.{Outcome, done, onward}

@@ -2,14 +2,14 @@
 -- In order: bringing-none, bringing-some, sized-more; held-bounds, held-few; fitted-bad, fitted-good.
 -- Assumes nothing.
 use Rattle.std.proofs.Common.{◌≡◌, ◌&&◌, ◌+◌, ◌≤◌, if◌then◌else◌}
-use Rattle.laws.proofs.All.{ap, ◌∙◌, inl, inr, true, false, List, ℕ, arith, T, leb, eqb, leb→le}
+use Rattle.laws.proofs.All.{ap, inl, inr, true, false, List, ℕ, arith, leb, leb→le}
 use Rattle.laws.proofs.All.{eq-eqb, ne_eqb, length, drop, and→}
 use Rattle.answer.specs.declared.Refusal.TheVariants.{BadWeights}
 use Rattle.answer.specs.Outcomes.{done, refused}
 use Rattle.answer.proofs.Outcomes.{unless-false, unless-true}
 use Rattle.constraint.proofs.Values.{length-constraint_of}
 use Rattle.compile_job.specs.declared.JobValue.{JobValue}
-use Rattle.compile_job.specs.Jobs.{computed, brought, Job, good_parameters, bringing, fit, fitted}
+use Rattle.compile_job.specs.Jobs.{computed, brought, Job, bringing, fit, fitted}
 use Rattle.compile_job.specs.JobValues.{job_in, Held, Sized}
 
 module _ (size : ℕ) (xs : List ℕ) where

@@ -1,18 +1,18 @@
 -- The job that a value of the code's struct stands for, and what its reading comes to.
 -- In order: job_in; JobReady, what compiling needs of a value; Counted, Held, Sized; job_outcome; state_at,
--- good_state_at,
--- the next states in a constraint's bytes; spare, sized; constraint_outcome.
+-- good_state_at, the
+-- next states in a constraint's bytes; spare, sized; constraint_outcome.
 -- Assumes nothing.
 use Rattle.std.specs.Prelude.{if◌then◌else◌, ◌≡◌, ◌⊎◌, ℕ, ◌+◌, ◌*◌, ◌/◌, ◌≤◌, Bool, true, false, ◌||◌, List, T, leb}
 use Rattle.std.specs.Prelude.{eqb, length}
-use Rattle.std.specs.Prelude.{get_or, take}
-use Rattle.answer.specs.Outcomes.{Outcome, verdict_on}
+use Rattle.std.specs.Prelude.{get_or, take, Result}
+use Rattle.answer.specs.declared.Refusal.{Refusal}
+use Rattle.answer.specs.Outcomes.{Outcome, outcome_of}
+use Rattle.constraint.specs.declared.Constraint.{Constraint as Stored}
 use Rattle.constraint.specs.Walking.{NextStates, Constraint, Lawful}
 use Rattle.constraint.specs.Value.{constraint_of}
 use Rattle.table.specs.Formed.{good_next}
 use Rattle.compile_job.specs.declared.JobValue.{JobValue}
-use Rattle.compile_job.specs.declared.JobAnswer.{JobAnswer}
-use Rattle.compile_job.specs.declared.ConstraintAnswer.{ConstraintAnswer}
 use Rattle.compile_job.specs.Jobs.{Choice, computed, brought, Job, good_parameters, Allowed}
 
 -- the job of a value
@@ -47,8 +47,8 @@ abbrev pub Sized : ℕ → ℕ → ℕ → Type 0
 Sized size states count = (count ≡ size) ⊎ (count ≡ size + states)
 
 -- what the reading of a job comes to
-abbrev pub job_outcome : JobAnswer → Outcome Job
-job_outcome r = verdict_on r.verdict (job_in r.job)
+abbrev pub job_outcome : Result JobValue Refusal → Outcome Job
+job_outcome = outcome_of job_in
 
 -- the next states of state s in the bytes of a constraint, after K
 abbrev pub state_at : List ℕ → ℕ → NextStates
@@ -70,5 +70,5 @@ sized true false = eqb
 sized false weights = leb
 
 -- what the reading of a constraint comes to
-abbrev pub constraint_outcome : ConstraintAnswer → Outcome Constraint
-constraint_outcome r = verdict_on r.verdict (constraint_of r.constraint)
+abbrev pub constraint_outcome : Result Stored Refusal → Outcome Constraint
+constraint_outcome = outcome_of constraint_of

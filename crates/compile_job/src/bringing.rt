@@ -13,10 +13,8 @@ fn weights_at(bytes: &[u8], start: usize, count: usize) -> [usize; 16]
     ensures answer { take count result ≡ drop start bytes.now }
 {
     let mut weight = [0usize; 16];
-    let mut s = 0;
-    while s < count {
+    for s in 0..count {
         weight[s] = bytes[start + s] as usize;
-        s += 1;
     }
     weight
 }
@@ -29,9 +27,9 @@ pub fn bring(bytes: &[u8], size: usize, p: usize, q: usize, cap: usize, c: Const
     let count = c.states;
     if bytes.len() == size {
         return JobValue {
-            p: p,
-            q: q,
-            cap: cap,
+            p,
+            q,
+            cap,
             constraint: c,
             brings: false,
             weight: [0usize; 16],
@@ -39,11 +37,11 @@ pub fn bring(bytes: &[u8], size: usize, p: usize, q: usize, cap: usize, c: Const
     }
     let weight = weights_at(bytes, size, count);
     JobValue {
-        p: p,
-        q: q,
-        cap: cap,
+        p,
+        q,
+        cap,
         constraint: c,
         brings: true,
-        weight: weight,
+        weight,
     }
 }

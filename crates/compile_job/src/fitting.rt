@@ -5,7 +5,6 @@ ghost use Rattle.compile_job.specs.JobValues.{job_in, Held};
 
 use crate::JobValue;
 use compile_weights::brought::weights_pass;
-use constraint::power::power_codes;
 use table::chains::ways;
 
 // Whether the weights that come with a job pass, where there are any.
@@ -16,7 +15,7 @@ pub fn passes(j: JobValue) -> bool
     if !j.brings {
         return true;
     }
-    let power = power_codes(j.constraint, j.q);
+    let power = j.constraint.power_codes(j.q);
     let words = bits::power(j.q);
     let weight = j.weight;
     weights_pass(&power, words, j.constraint.states, ways(j.p), j.cap, weight)

@@ -1,36 +1,27 @@
 // A constraint read from a row of bytes with its refusals: K, then two bytes a state.
-ghost use Rattle.std.specs.Prelude.{◌≡◌, ◌&&◌, map, ◌+◌, ◌*◌, ◌≤◌, leb, length};
+ghost use Rattle.std.specs.Prelude.{◌≡◌, ◌&&◌, map, ◌+◌, ◌*◌, ◌≤◌, leb, IfOk, length};
 ghost use Rattle.laws.specs.Lists.{all, range};
-ghost use Rattle.answer.specs.Outcomes.{refused};
-ghost use Rattle.answer.specs.declared.Verdict.TheVariants.{Good};
 ghost use Rattle.constraint.specs.Walking.{Lawful};
 ghost use Rattle.constraint.specs.Value.{constraint_of};
 ghost use Rattle.table.specs.Formed.{good_state};
 ghost use Rattle.compile_job.specs.Jobs.{constraint_from};
 ghost use Rattle.compile_job.specs.JobValues.{state_at, good_state_at, sized, constraint_outcome};
 
-use crate::ConstraintAnswer;
-use answer::{Refusal, Verdict};
+use answer::Refusal;
 use constraint::Constraint;
 
 // Whether x is from low to high.
 pub fn between(x: usize, low: usize, high: usize) -> bool
     ensures answer { result ≡ (leb low x && leb x high) }
 {
-    if x < low {
-        return false;
-    }
-    x <= high
+    (low..=high).contains(&x)
 }
 
 // Whether s is one of `count` states, or none.
 fn good_state(s: u8, count: usize) -> bool
     ensures answer { result ≡ good_state count s }
 {
-    if s == 255 {
-        return true;
-    }
-    (s as usize) < count
+    s == 255 || (s as usize) < count
 }
 
 // Whether both next states of state s are states or none.
@@ -38,10 +29,7 @@ fn good_next(bytes: &[u8], s: usize, count: usize) -> bool
     requires { (s ≤ 16) × (3 + s * 2 ≤ length bytes.now) }
     ensures answer { result ≡ good_state_at bytes.now count s }
 {
-    if !good_state(bytes[1 + s * 2], count) {
-        return false;
-    }
-    good_state(bytes[2 + s * 2], count)
+    good_state(bytes[1 + s * 2], count) && good_state(bytes[2 + s * 2], count)
 }
 
 // Whether all next states are states or none: otherwise refusal 2.
@@ -49,12 +37,10 @@ fn good_states(bytes: &[u8], count: usize) -> bool
     requires { (count ≤ 16) × (1 + count * 2 ≤ length bytes.now) }
     ensures answer { result ≡ all (good_state_at bytes.now count) (range count) }
 {
-    let mut s = 0;
-    while s < count {
+    for s in 0..count {
         if !good_next(bytes, s, count) {
             return false;
         }
-        s += 1;
     }
     true
 }
@@ -67,31 +53,14 @@ fn states_of(bytes: &[u8], count: usize) -> Constraint
 {
     let mut zero = [255u8; 16];
     let mut one = [255u8; 16];
-    let mut s = 0;
-    while s < count {
+    for s in 0..count {
         zero[s] = bytes[1 + s * 2];
         one[s] = bytes[2 + s * 2];
-        s += 1;
     }
     Constraint {
         states: count,
-        zero: zero,
-        one: one,
-    }
-}
-
-// A refusal, beside a constraint with no states.
-fn no_constraint(r: Refusal) -> ConstraintAnswer
-    ensures answer { constraint_outcome result ≡ refused r }
-{
-    let constraint = Constraint {
-        states: 0,
-        zero: [0u8; 16],
-        one: [0u8; 16],
-    };
-    ConstraintAnswer {
-        verdict: Verdict::Bad(r),
-        constraint: constraint,
+        zero,
+        one,
     }
 }
 
@@ -107,33 +76,27 @@ fn is_sized(whole: bool, weights: bool, size: usize, bytes: usize) -> bool
     if !weights {
         return size == bytes;
     }
-    if size == bytes {
-        return true;
-    }
-    size + size / 2 == bytes
+    size == bytes || size + size / 2 == bytes
 }
 
 // The constraint at the start of the bytes, or the refusal: "8 for a missing K, K by 2, 8, next states by 2". It is to
 // take all of the bytes, or all but its weights, or bytes may be left over.
-pub fn read_constraint(bytes: &[u8], whole: bool, weights: bool) -> ConstraintAnswer
+pub fn read_constraint(bytes: &[u8], whole: bool, weights: bool) -> Result<Constraint, Refusal>
     ensures answer { constraint_outcome result ≡ constraint_from (sized whole weights) bytes.now }
-    ensures kept { result.verdict ≡ Good → Lawful (constraint_of result.constraint) }
+    ensures kept { IfOk result (λ c. Lawful (constraint_of c)) }
 {
     if bytes.len() < 1 {
-        return no_constraint(Refusal::Length);
+        return Err(Refusal::Length);
     }
     let count = bytes[0] as usize;
     if !between(count, 1, 16) {
-        return no_constraint(Refusal::States);
+        return Err(Refusal::States);
     }
     if !is_sized(whole, weights, 1 + 2 * count, bytes.len()) {
-        return no_constraint(Refusal::Length);
+        return Err(Refusal::Length);
     }
     if !good_states(bytes, count) {
-        return no_constraint(Refusal::States);
+        return Err(Refusal::States);
     }
-    ConstraintAnswer {
-        verdict: Verdict::Good,
-        constraint: states_of(bytes, count),
-    }
+    Ok(states_of(bytes, count))
 }

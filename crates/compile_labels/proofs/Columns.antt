@@ -9,7 +9,7 @@ use Rattle.laws.proofs.All.{length-set, get_or-take, get_or-drop, get_or-set_sam
 use Rattle.laws.proofs.All.{below_more}
 use Rattle.laws.proofs.All.{ℕ_discrete, range, elem, index_of, index-lt, Filled, map-range-at, map-range-same, map-map}
 use Rattle.laws.proofs.All.{is-map, min}
-use Rattle.table.specs.Rows.{edge, edges, at, words_of}
+use Rattle.table.specs.Rows.{edge, edges, words_of}
 use Rattle.table.specs.Edges.{Arrays, arrays, edge_of, row_of, rows_of}
 use Rattle.table.proofs.RowsOf.{length-rows, row-at, row-long, edge-at}
 use Rattle.compile_labels.specs.Labels.{bearer}

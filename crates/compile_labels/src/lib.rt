@@ -18,13 +18,9 @@ fn row_of(column: &[u8; 2048], s: usize) -> [u8; 16]
     requires { (length column.now ≡ 2048) × (s < 128) }
     ensures answer { result ≡ row_at column.now s }
 {
-    let mut r = [0u8; 16];
-    let mut d = 0;
-    while d < 16 {
-        r[d] = column[s * 16 + d];
-        d += 1;
-    }
-    r
+    let mut row = [0u8; 16];
+    row.copy_from_slice(&column[s * 16..s * 16 + 16]);
+    row
 }
 
 // The place of d among the first k of the list, or k.
@@ -32,12 +28,10 @@ fn place_of(list: [u8; 16], k: usize, d: usize) -> usize
     requires { k ≤ 16 }
     ensures answer { (result ≡ index_of d (take k list)) × (result ≤ k) }
 {
-    let mut i = 0;
-    while i < k {
+    for i in 0..k {
         if list[i] as usize == d {
             return i;
         }
-        i += 1;
     }
     k
 }
@@ -55,28 +49,25 @@ fn is_given(words: [u8; 16], w: u8, ds: [u8; 16], k: usize, d: usize) -> bool
     requires { (k ≤ 16) × (d < 16) }
     ensures answer { result ≡ (carries words w d && free (take k ds) d) }
 {
-    if words[d] == w {
-        return is_free(ds, k, d);
-    }
-    false
+    words[d] == w && is_free(ds, k, d)
 }
 
-// The lowest datum that the state with these words gave to w and that none of the first k edges has, or n.
+// The lowest datum that the state with these words gave to w and that none of the first k edges has, or n: here and
+// below n is no datum, as in the definition `asked`.
 fn lowest_given(words: [u8; 16], n: usize, w: u8, ds: [u8; 16], k: usize) -> usize
     requires { (n ≤ 16) × (k ≤ 16) }
     ensures answer { (result ≡ first (free (take k ds)) n (gave n words w)) × (result ≤ n) }
 {
-    let mut d = 0;
-    while d < n {
+    for d in 0..n {
         if is_given(words, w, ds, k, d) {
             return d;
         }
-        d += 1;
     }
     n
 }
 
-// The same for the words of state h; n if h is no state.
+// The same for the words of state h; n if h is no state. As an option, h would still need the test that it is below
+// 128.
 fn asked_datum(column: &[u8; 2048], h: u8, n: usize, w: u8, ds: [u8; 16], k: usize) -> usize
     requires { (length column.now ≡ 2048) × (n ≤ 16) × (k ≤ 16) }
     ensures answer { (result ≡ first (free (take k ds)) n (gave_at n column.now h w)) × (result ≤ n) }
@@ -95,11 +86,9 @@ fn ask(column: &[u8; 2048], home: [u8; 256], words: [u8; 16], n: usize) -> [u8; 
         → take n result ≡ extend (asked n t) [] (take n words) }
 {
     let mut ds = [0u8; 16];
-    let mut k = 0;
-    while k < n {
+    for k in 0..n {
         let w = words[k];
         ds[k] = asked_datum(column, home[w as usize], n, w, ds, k) as u8;
-        k += 1;
     }
     ds
 }
@@ -109,12 +98,10 @@ fn lowest_free(ds: [u8; 16], n: usize) -> usize
     requires { n ≤ 16 }
     ensures answer { (result ≡ first (free (take n ds)) n (range n)) × (result ≤ n) }
 {
-    let mut d = 0;
-    while d < n {
+    for d in 0..n {
         if is_free(ds, n, d) {
             return d;
         }
-        d += 1;
     }
     n
 }
@@ -125,12 +112,10 @@ fn serve(asked: [u8; 16], n: usize) -> [u8; 16]
     ensures answer { take n result ≡ served n [] (take n asked) }
 {
     let mut ds = asked;
-    let mut k = 0;
-    while k < n {
+    for k in 0..n {
         if wide(ds[k]) >= n {
             ds[k] = lowest_free(ds, n) as u8;
         }
-        k += 1;
     }
     ds
 }
@@ -152,11 +137,9 @@ fn reorder(column: [u8; 2048], n: usize, i: usize, ds: [u8; 16]) -> [u8; 2048]
     ensures answer { Reordered n i (take n ds) column result }
 {
     let mut r = column;
-    let mut d = 0;
-    while d < n {
+    for d in 0..n {
         let k = place_of(ds, n, d);
         r[i * 16 + d] = column[i * 16 + k];
-        d += 1;
     }
     r
 }
@@ -167,13 +150,11 @@ fn note(words: [u8; 16], n: usize, i: usize, home: [u8; 256]) -> [u8; 256]
     ensures answer { (w : ℕ) → w < 256 → get_or result w 0 ≡ noted (take n words) i home w }
 {
     let mut r = home;
-    let mut d = 0;
-    while d < n {
+    for d in 0..n {
         let w = words[d] as usize;
         if r[w] == 128 {
             r[w] = i as u8;
         }
-        d += 1;
     }
     r
 }
@@ -188,8 +169,7 @@ pub fn relabel(rows: TableRows, n: usize) -> TableRows
     let mut next = rows.next;
     let first = row_of(&word, 0);
     let mut home = note(first, n, 0, [128u8; 256]);
-    let mut i = 1;
-    while i < count {
+    for i in 1..count {
         let ds = data_of(&word, home, n, i);
         let words = reorder(word, n, i, ds);
         word = words;
@@ -198,11 +178,10 @@ pub fn relabel(rows: TableRows, n: usize) -> TableRows
         let row = row_of(&word, i);
         let more = note(row, n, i, home);
         home = more;
-        i += 1;
     }
     TableRows {
         states: count,
-        word: word,
-        next: next,
+        word,
+        next,
     }
 }

@@ -5,20 +5,20 @@ ghost use Rattle.std.specs.Prelude.{◌≡◌};
 ghost use Rattle.answer.specs.Outcomes.{verdict_on};
 ghost use Rattle.compile_limits.specs.Weighed.{weighed};
 
-use answer::{Refusal, Verdict};
+use answer::Refusal;
 
 // What is said of a component by the sum of its weights and whether it has over 2,048 edges.
-pub fn weigh(total: usize, crowded: bool) -> Verdict
+pub fn weigh(total: usize, crowded: bool) -> Result<(), Refusal>
     ensures answer { verdict_on result total ≡ weighed total crowded }
 {
     if total == 0 {
-        return Verdict::Bad(Refusal::NoCode);
+        return Err(Refusal::NoCode);
     }
     if 128 < total {
-        return Verdict::Bad(Refusal::TooHeavy);
+        return Err(Refusal::TooHeavy);
     }
     if crowded {
-        return Verdict::Bad(Refusal::TooManyEdges);
+        return Err(Refusal::TooManyEdges);
     }
-    Verdict::Good
+    Ok(())
 }

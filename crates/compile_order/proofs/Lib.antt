@@ -1,7 +1,5 @@
-pub mod SortedKeys
-pub mod LastKey
-pub mod CarriedKey
-pub mod FirstEdges
-pub mod KeyLists
+mod PutKeys
+mod FirstEdges
 pub mod EdgeOrder
 pub mod KeptKeys
+pub mod SortedKeys

@@ -1,9 +1,11 @@
 -- Moving the edges of a state that the run does not keep.
--- In order: Resourced, sources as f says below i; with_source; resource-none, resource-put; new_source,
--- resource-end; source-other, source-kept, source-moved, new-source; resource-next.
+-- In order: Resourced, sources as f says below i; with_source; resource-none, resource-put,
+-- resource-keep; new_source, resource-end; contains_is, source-other, source-kept, source-moved, new-source; resource-next,
+-- resource_stay.
 -- Assumes nothing.
-use Rattle.std.proofs.Common.{◌≡◌, ◌&&◌, ◌+◌, ◌≤◌, ◌<◌, if◌then◌else◌}
-use Rattle.laws.proofs.All.{refl, sym, ap, ap₂, ◌∙◌, Bool, true, false, not, List, map, ℕ}
+use Rattle.std.proofs.Common.{◌≡◌, ◌∷◌, ◌||◌, ◌&&◌, ◌+◌, ◌≤◌, ◌<◌, if◌then◌else◌}
+use Rattle.std.specs.List.{list_any}
+use Rattle.laws.proofs.All.{refl, sym, ap, ap₂, ◌∙◌, Bool, true, false, not, List, [], map, ℕ}
 use Rattle.laws.proofs.All.{arith, below_more, ne_eqb, length, get_or, set, length-set, get_or-set_same}
 use Rattle.laws.proofs.All.{get_or-set_other}
 use Rattle.laws.proofs.All.{range, map-map, map-range-same, ℕ_discrete, elem, eqb, eq-eqb}
@@ -65,6 +67,19 @@ module _ (g : Graph) (f : ℕ → ℕ) (i : ℕ) (h : Graph) (c : Resourced g f 
     left = λ k b. get_or-set_other h.source i k x 0 (λ q. omega arith) ∙ c.left k (omega arith);
   }
 
+  -- an edge that keeps its source
+  pub resource-keep : get_or g.source i 0 ≡ f i → Resourced g f (i + 1) h
+  resource-keep e = record {
+    states = c.states;
+    edges = c.edges;
+    weight = c.weight;
+    word = c.word;
+    target = c.target;
+    long = c.long;
+    done = below_more (λ k. get_or h.source k 0 ≡ f k) i c.done (c.left i (omega arith) ∙ e);
+    left = λ k b. c.left k (omega arith);
+  }
+
 module _ (g : Graph) (s : ℕ) (keep : List Arc) where
   -- the source of edge k after the move
   abbrev pub new_source : ℕ → ℕ
@@ -91,6 +106,15 @@ module _ (g : Graph) (s : ℕ) (keep : List Arc) where
           ≡ (if b then arc g.states (arc_at g k).word (arc_at g k).target else arc_at g k)
       same k true = refl
       same k false = refl
+
+-- the test of a slice is that of the definition
+pub contains_is : (k : ℕ) (K : List ℕ) → list_any (λ y. eqb y k) K ≡ elem k K
+contains_is k [] = refl
+contains_is k (x ∷ K) = ap₂ (λ a b. a || b) (turned (ℕ_discrete x k)) (contains_is k K)
+  where
+    turned : Dec (x ≡ k) → eqb x k ≡ eqb k x
+    turned (yes e) = eq-eqb x k e ∙ sym (eq-eqb k x (sym e))
+    turned (no n) = ne_eqb x k n ∙ sym (ne_eqb k x (λ q. n (sym q)))
 
 -- the answers of the code's tests
 module _ (s new : ℕ) (K : List ℕ) (x k : ℕ) where
@@ -132,3 +156,10 @@ pub resource-next : (g : Graph) (s : ℕ) (K : List ℕ) (i : ℕ) (h : Graph) �
     → Resourced g (new_source g s (map (arc_of s) K)) (i + 1) (with_source h i x)
 resource-next g s K i h f l c x e =
     resource-put g (new_source g s (map (arc_of s) K)) i h c x (omega (arith, f.room)) (e ∙ new-source g s K i f l)
+
+pub resource_stay : (g : Graph) (s : ℕ) (K : List ℕ) (i : ℕ) (h : Graph) → Fits g → i < g.edges
+    → Resourced g (new_source g s (map (arc_of s) K)) i h
+    → get_or g.source i 0 ≡ source_after s g.states K (get_or g.source i 0) (key_of (arc_at g i))
+    → Resourced g (new_source g s (map (arc_of s) K)) (i + 1) h
+resource_stay g s K i h f l c e =
+    resource-keep g (new_source g s (map (arc_of s) K)) i h c (e ∙ new-source g s K i f l)

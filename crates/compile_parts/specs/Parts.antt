@@ -1,18 +1,12 @@
 -- What the steps of a split do to the edges of a graph.
--- In order: kept_from, source_after, Moved; entering, Doubled.
+-- In order: source_after, Moved; entering, Doubled.
 -- Assumes nothing.
-use Rattle.std.specs.Prelude.{if◌then◌else◌, ◌≡◌, not, ◌&&◌, List, map, ℕ, ◌≤◌, eqb, length, take, drop}
+use Rattle.std.specs.Prelude.{if◌then◌else◌, ◌≡◌, not, ◌&&◌, List, map, ℕ, ◌≤◌, eqb, length}
 use Rattle.laws.specs.Lists.{filter, elem}
 use Rattle.compile_graph.specs.declared.Graph.{Graph}
-use Rattle.compile_order.specs.declared.keys.Keys.{Keys}
 use Rattle.compile_graph.specs.Arcs.{Arc, enters}
 use Rattle.compile_graph.specs.Splitting.{moved, doubled}
 use Rattle.compile_graph.specs.Value.{arcs_in}
-use Rattle.compile_order.specs.EdgeKeys.{keys_in, arc_of}
-
--- the edges of s that k keys of the list keep, the first after i others
-abbrev pub kept_from : ℕ → Keys → ℕ → ℕ → List Arc
-kept_from s l i k = map (arc_of s) (take k (drop i (keys_in l)))
 
 -- the source x of an edge with the key k, or the new state, if x is s and k is not among K
 abbrev pub source_after : ℕ → ℕ → List ℕ → ℕ → ℕ → ℕ

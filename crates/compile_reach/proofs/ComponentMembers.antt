@@ -1,14 +1,19 @@
 -- The component's states by loops over all states.
--- In order: reaches-at, weighs-at; fails, returning-yes, returning-no; lowest, lowest-at, lowest-none; kept,
+-- In order: found-lt; reaches-at, weighs-at; fails, returning-yes, returning-no; lowest, lowest-at, lowest-none; kept,
 -- component-is.
 -- Assumes nothing.
-use Rattle.std.proofs.Common.{◌≡◌, ◌&&◌, ◌||◌, ◌≤◌, ◌<◌}
+use Rattle.std.proofs.Common.{Option, None, Some, IfSome, unwrap_or, ◌≡◌, ◌&&◌, ◌||◌, ◌≤◌, ◌<◌}
 use Rattle.laws.proofs.All.{refl, sym, ap, ap₂, ◌∙◌, Bool, true, false, not, List, [], ℕ}
 use Rattle.laws.proofs.All.{arith, ltb, length, get_or, take, length-take-le, get_or-take, range, filter, all, first}
 use Rattle.laws.proofs.All.{member, map-range-at, each_map, each-range, first-least, filter_same, all_filter}
 use Rattle.laws.proofs.All.{filter-fuse, first-filter, all-range-false, all-range-true, first-range-none}
 use Rattle.compile_graph.specs.Component.{reaches, returns, returning, weighs, live}
 use Rattle.compile_reach.specs.ReachSets.{reach_at, row_of, rows_of}
+
+-- what stands for no state is below k as well
+pub found-lt : (r : Option ℕ) (k : ℕ) → IfSome r (λ s. s < k) → 0 < k → unwrap_or r 0 < k
+found-lt None k h l = l
+found-lt (Some s) k h l = h
 
 module _ (M : List Bool) (v : List ℕ) (k : ℕ) (few : k ≤ 16) (long : length v ≡ 16) where
   abbrev R : List (List Bool)

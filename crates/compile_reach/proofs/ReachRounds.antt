@@ -1,9 +1,10 @@
 -- Which states can reach which: rounds over all states at once.
 -- In order: Rounds, what holds after i rounds; rounds-start; step_row, one round of one state; rounds-more,
--- rounds-still, rounds-end; same_bool, two tests that do not differ.
+-- rounds-still, rounds-end; beq-Decides, the test of two Bools.
 -- Assumes nothing.
 use Rattle.std.proofs.Common.{◌≡◌, ◌&&◌, ◌||◌, ◌+◌, ◌-◌, ◌*◌, ◌/◌, ◌%◌, ◌≤◌, ◌<◌}
-use Rattle.laws.proofs.All.{refl, sym, ap, ap₂, ◌∙◌, Bool, true, false, not, Bool·beq, List, map}
+use Rattle.laws.proofs.All.{refl, sym, ap, ap₂, ◌∙◌, Bool, true, false, Bool·beq, List, map, take, get_or-take}
+use Rattle.std.specs.Bool.{Decides}
 use Rattle.laws.proofs.All.{ℕ, suc, arith, eqb, length, get_or, range, any}
 use Rattle.laws.proofs.All.{iterate, map-range-at, iterate_fixed, length-map-range, map-range-same, any-range-same}
 use Rattle.laws.proofs.All.{quotient-of, remainder_of}
@@ -59,15 +60,20 @@ module _ (E : List Bool) (k : ℕ) (few : k ≤ 16) where
             ∙ ap (λ m. iterate (with_sources g) m (row_of M k t)) q ∙ c.leads g e t b;
       }
 
-      pub rounds-still : ((x : ℕ) → x < k * 16 → get_or R x false ≡ get_or M x false)
-          → (g : List Arc) → Linked E k g → rows_of M k ≡ reachings k g
+      pub rounds-still : take (k * 16) R ≡ take (k * 16) M → (g : List Arc) → Linked E k g
+          → rows_of M k ≡ reachings k g
       unfolding rows_of
-      rounds-still f g e =
+      rounds-still same g e =
           map-range-same (row_of M k) (reaching k g) k
           (λ t b. sym (iterate_fixed (with_sources g) (k - i) (row_of M k t)
           (sym (step_row g e t b) ∙ map-range-same (reach_at R t) (reach_at M t) k
           (λ s l. f (t * 16 + s) (place-lt t s b l))))
           ∙ c.leads g e t b)
+        where
+          f : (x : ℕ) → x < k * 16 → get_or R x false ≡ get_or M x false
+          f x h =
+              sym (get_or-take (k * 16) R x false h) ∙ ap (λ l. get_or l x false) same
+              ∙ get_or-take (k * 16) M x false h
 
   pub rounds-end : (M : List Bool) (i : ℕ) → k ≤ i → Rounds i M → (g : List Arc) → Linked E k g → rows_of M k
       ≡ reachings k g
@@ -77,9 +83,9 @@ module _ (E : List Bool) (k : ℕ) (few : k ≤ 16) where
       (λ t b. let z : k - i ≡ 0 = omega arith in
       ap (λ m. iterate (with_sources g) m (row_of M k t)) (sym z) ∙ c.leads g e t b)
 
--- two tests that do not differ
-pub same_bool : (a b : Bool) → not (Bool·beq a b) ≡ false → a ≡ b
-same_bool true true e = refl
-same_bool false false e = refl
-same_bool true false e = absurd (let z : ◌≡◌ {A = ℕ} 0 1 = cc in omega arith)
-same_bool false true e = absurd (let z : ◌≡◌ {A = ℕ} 0 1 = cc in omega arith)
+-- the test of two Bools
+pub beq-Decides : (a b : Bool) → Decides (Bool·beq a b) (a ≡ b)
+beq-Decides true true = ((λ _. refl), (λ _. refl))
+beq-Decides false false = ((λ _. refl), (λ _. refl))
+beq-Decides true false = ((λ e. sym e), (λ e. sym e))
+beq-Decides false true = ((λ e. e), (λ e. e))

@@ -1,6 +1,7 @@
 // "Component." Sets of states stand one beside the other: place t * 16 + s says whether s can reach t.
 ghost use Rattle.std.specs.Prelude.{◌≡◌, Bool, true, false, not, ◌&&◌, ◌||◌, List, ℕ, ◌+◌, ◌*◌, ◌/◌, ◌%◌, ◌≤◌, ◌<◌};
-ghost use Rattle.std.specs.Prelude.{eqb, ltb, length, get_or, take};
+ghost use Rattle.std.specs.Prelude.{eqb, ltb, IfSome, length, get_or, take};
+ghost use Rattle.std.specs.Option.{unwrap_or};
 ghost use Rattle.laws.specs.Lists.{range, any, first, filter};
 ghost use Rattle.compile_graph.specs.Arcs.{Arc};
 ghost use Rattle.compile_graph.specs.Component.{reachings, reaches, returns, returning, weighs, live};
@@ -20,11 +21,8 @@ pub fn live_edges(count: &[usize; 256], v: [usize; 16], k: usize) -> [bool; 256]
     ensures answer { (x : ℕ) → x < k * 16 → get_or result x false ≡ live_edge count.now v x }
 {
     let mut r = [false; 256];
-    let n = k * 16;
-    let mut x = 0;
-    while x < n {
+    for x in 0..k * 16 {
         r[x] = all_above(v[x / 16], v[x % 16], count[x]);
-        x += 1;
     }
     r
 }
@@ -33,12 +31,7 @@ pub fn live_edges(count: &[usize; 256], v: [usize; 16], k: usize) -> [bool; 256]
 fn all_above(a: usize, b: usize, c: usize) -> bool
     ensures answer { result ≡ (ltb 0 a && (ltb 0 b && ltb 0 c)) }
 {
-    if 0 < a {
-        if 0 < b {
-            return 0 < c;
-        }
-    }
-    false
+    0 < a && 0 < b && 0 < c
 }
 
 // Some edge of s leads to a state that can reach t.
@@ -46,14 +39,10 @@ fn leads_any(edge: &[bool; 256], m: &[bool; 256], k: usize, t: usize, s: usize) 
     requires { (length edge.now ≡ 256) × (length m.now ≡ 256) × (k ≤ 16) × (t < 16) × (s < 16) }
     ensures answer { result ≡ any (passes_on edge.now m.now t s) (range k) }
 {
-    let mut u = 0;
-    while u < k {
-        if edge[s * 16 + u] {
-            if m[t * 16 + u] {
-                return true;
-            }
+    for u in 0..k {
+        if edge[s * 16 + u] && m[t * 16 + u] {
+            return true;
         }
-        u += 1;
     }
     false
 }
@@ -64,10 +53,7 @@ fn reaches_on(edge: &[bool; 256], m: &[bool; 256], k: usize, x: usize) -> bool
     ensures answer { result ≡ (get_or m.now x false || any
         (passes_on edge.now m.now (x / 16) (x % 16)) (range k)) }
 {
-    if m[x] {
-        return true;
-    }
-    leads_any(edge, m, k, x / 16, x % 16)
+    m[x] || leads_any(edge, m, k, x / 16, x % 16)
 }
 
 // One round for every state: those that can reach it, and those with an edge to one of them.
@@ -78,11 +64,8 @@ fn reach_step(edge: &[bool; 256], m: &[bool; 256], k: usize) -> [bool; 256]
         (range k)) }
 {
     let mut r = [false; 256];
-    let n = k * 16;
-    let mut x = 0;
-    while x < n {
+    for x in 0..k * 16 {
         r[x] = reaches_on(edge, m, k, x);
-        x += 1;
     }
     r
 }
@@ -93,29 +76,10 @@ fn themselves(k: usize) -> [bool; 256]
     ensures answer { (x : ℕ) → x < k * 16 → get_or result x false ≡ eqb (x / 16) (x % 16) }
 {
     let mut r = [false; 256];
-    let n = k * 16;
-    let mut x = 0;
-    while x < n {
+    for x in 0..k * 16 {
         r[x] = x / 16 == x % 16;
-        x += 1;
     }
     r
-}
-
-// The first n places are the same.
-fn same_places(a: &[bool; 256], b: &[bool; 256], n: usize) -> bool
-    requires { (length a.now ≡ 256) × (length b.now ≡ 256) × (n ≤ 256) }
-    ensures answer { result ≡ true → (x : ℕ) → x < n → get_or a.now x false
-        ≡ get_or b.now x false }
-{
-    let mut x = 0;
-    while x < n {
-        if a[x] != b[x] {
-            return false;
-        }
-        x += 1;
-    }
-    true
 }
 
 // For each state those that can reach it, until nothing changes.
@@ -124,15 +88,12 @@ pub fn reach_all(edge: &[bool; 256], k: usize) -> [bool; 256]
     ensures answer { (g : List Arc) → Linked edge.now k g → rows_of result k ≡ reachings k g }
 {
     let mut m = themselves(k);
-    let n = k * 16;
-    let mut i = 0;
-    while i < k {
+    for _round in 0..k {
         let r = reach_step(edge, &m, k);
-        if same_places(&r, &m, n) {
+        if r[..k * 16] == m[..k * 16] {
             return m;
         }
         m = r;
-        i += 1;
     }
     m
 }
@@ -141,12 +102,7 @@ pub fn reach_all(edge: &[bool; 256], k: usize) -> [bool; 256]
 fn no_return(v: usize, there: bool, back: bool) -> bool
     ensures answer { result ≡ (ltb 0 v && (there && not back)) }
 {
-    if 0 < v {
-        if there {
-            return !back;
-        }
-    }
-    false
+    0 < v && there && !back
 }
 
 // "every state reachable from it can reach back".
@@ -154,12 +110,10 @@ fn returns_all(m: &[bool; 256], v: [usize; 16], k: usize, s: usize) -> bool
     requires { (length m.now ≡ 256) × (k ≤ 16) × (s < k) }
     ensures answer { result ≡ returning (rows_of m.now k) (live (take k v)) s }
 {
-    let mut t = 0;
-    while t < k {
+    for t in 0..k {
         if no_return(v[t], m[t * 16 + s], m[s * 16 + t]) {
             return false;
         }
-        t += 1;
     }
     true
 }
@@ -169,36 +123,28 @@ fn is_returning(m: &[bool; 256], v: [usize; 16], k: usize, s: usize) -> bool
     requires { (length m.now ≡ 256) × (k ≤ 16) × (s < k) }
     ensures answer { result ≡ (weighs (take k v) s && returning (rows_of m.now k) (live (take k v)) s) }
 {
-    if v[s] == 0 {
-        return false;
-    }
-    returns_all(m, v, k, s)
+    0 < v[s] && returns_all(m, v, k, s)
 }
 
-// "the lowest state that every state reachable from it can reach back".
-pub fn first_returning(m: &[bool; 256], v: [usize; 16], k: usize) -> usize
+// "the lowest state that every state reachable from it can reach back", where there is one.
+pub fn first_returning(m: &[bool; 256], v: [usize; 16], k: usize) -> Option<usize>
     requires { (length m.now ≡ 256) × (k ≤ 16) }
-    ensures answer { (result ≡ first (returning (rows_of m.now k) (live (take k v))) 0 (live (take k v)))
-        × (0 < k → result < k) }
+    ensures answer { unwrap_or result 0 ≡ first (returning (rows_of m.now k) (live (take k v))) 0 (live (take k v)) }
+    ensures there { IfSome result (λ s. s < k) }
 {
-    let mut s = 0;
-    while s < k {
+    for s in 0..k {
         if is_returning(m, v, k, s) {
-            return s;
+            return Some(s);
         }
-        s += 1;
     }
-    0
+    None
 }
 
 // A state of this weight is reached.
 fn is_member(v: usize, there: bool) -> bool
     ensures answer { result ≡ (ltb 0 v && there) }
 {
-    if 0 < v {
-        return there;
-    }
-    false
+    0 < v && there
 }
 
 // "all states reachable from it", which is s, numbered in rising order.
@@ -209,18 +155,16 @@ pub fn list_members(m: &[bool; 256], v: [usize; 16], k: usize, s: usize) -> Memb
     let mut state = [0usize; 16];
     let mut index = [16usize; 16];
     let mut count = 0;
-    let mut t = 0;
-    while t < k {
+    for t in 0..k {
         if is_member(v[t], m[t * 16 + s]) {
             state[count] = t;
             index[t] = count;
             count += 1;
         }
-        t += 1;
     }
     Members {
-        count: count,
-        state: state,
-        index: index,
+        count,
+        state,
+        index,
     }
 }

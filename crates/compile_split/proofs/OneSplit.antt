@@ -2,14 +2,14 @@
 -- In order: split-count, count_at, how many edges a split makes; crowded-into, too many; parted-into, the split;
 -- chosen-passes, chosen-heavy, chosen-light, the state that is chosen.
 -- Assumes nothing.
-use Rattle.std.proofs.Common.{◌≡◌, ◌+◌, ◌/◌, ◌≤◌, ◌<◌}
-use Rattle.laws.proofs.All.{sym, ap, subst, ◌∙◌, true, false, List, ℕ, arith, lt-ltb}
+use Rattle.std.proofs.Common.{Some, None, ◌≡◌, ◌+◌, ◌/◌, ◌≤◌, ◌<◌}
+use Rattle.laws.proofs.All.{sym, ap, subst, ◌∙◌, List, ℕ, lt-ltb}
 use Rattle.laws.proofs.All.{le-ltb, T, eqb, eqb→eq, length, get_or, range, any, and→, first_passes, each-range}
 use Rattle.laws.proofs.All.{length-map-range}
 use Rattle.compile_graph.specs.declared.Graph.{Graph}
 use Rattle.compile_graph.specs.Arcs.{out}
 use Rattle.compile_graph.specs.Weights.{total}
-use Rattle.compile_graph.specs.Splitting.{greatest, lighter, splittable, chosen, kept, parted, split, crowded}
+use Rattle.compile_graph.specs.Splitting.{greatest, lighter, splittable, chosen, kept, parted, split}
 use Rattle.compile_graph.specs.Value.{arc_at, arcs_in, weights_in, work_in}
 use Rattle.compile_parts.specs.Parts.{entering}
 use Rattle.compile_split.specs.SplitParts.{PartedInto, SplitInto}
@@ -31,22 +31,17 @@ module _ (n : ℕ) (g : Graph) where
     count_at = split-count ∙ ap (λ k. g.edges + entering (arcs_in g) k) (sym is)
 
     -- too many edges: said before anything is written
-    pub crowded-into : (h : Graph) → 2048 < g.edges + entering (arcs_in g) s
-        → SplitInto n g (record { crowded = true; graph = h })
-    crowded-into h l = record {
-      crowds = sym (lt-ltb 2048 (length (split n (work_in g)).arcs) (rw count_at l));
-      work = λ e. let z : ◌≡◌ {A = ℕ} 0 1 = cc in absurd (omega arith);
-      fits = λ e. let z : ◌≡◌ {A = ℕ} 0 1 = cc in absurd (omega arith);
-    }
+    pub crowded-into : 2048 < g.edges + entering (arcs_in g) s → SplitInto n g None
+    crowded-into l = lt-ltb 2048 (length (split n (work_in g)).arcs) (rw count_at l)
 
     pub parted-into : (h : Graph) → g.edges + entering (arcs_in g) s ≤ 2048 → PartedInto n g s h
-        → SplitInto n g (record { crowded = false; graph = h })
+        → SplitInto n g (Some h)
     unfolding split
     parted-into h l p = record {
-      crowds = sym (le-ltb 2048 (length (split n (work_in g)).arcs) (rw count_at l));
-      work = λ e. p.work
+      room = le-ltb 2048 (length (split n (work_in g)).arcs) (rw count_at l);
+      work = p.work
           ∙ ap (λ k. parted k (kept n v (arcs_in g) k) (total v (kept n v (arcs_in g) k) / n) (work_in g)) is;
-      fits = λ e. p.fits;
+      fits = p.fits;
     }
 
     module _ (t : T (any (splittable v (arcs_in g)) (range (length v)))) where

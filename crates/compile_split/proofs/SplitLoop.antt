@@ -1,16 +1,15 @@
 -- All splits: the loop.
 -- In order: Going, going_start, goes_on-is, more-states, going-splits, going_on, going-crowded, going_end.
 -- Assumes nothing.
-use Rattle.std.proofs.Common.{◌≡◌, ◌&&◌, ◌+◌, ◌≤◌, ◌<◌}
+use Rattle.std.proofs.Common.{Some, None, ◌≡◌, ◌&&◌, ◌+◌, ◌≤◌, ◌<◌}
 use Rattle.laws.proofs.All.{refl, sym, ap, ap₂, subst, ◌∙◌, Bool, true, false, not, ℕ, zero, suc}
 use Rattle.laws.proofs.All.{arith, le-ltb, T, length, range, sum, any, length-map-range}
 use Rattle.compile_graph.specs.declared.Graph.{Graph}
-use Rattle.compile_graph.specs.declared.NextGraph.{NextGraph}
 use Rattle.compile_graph.specs.Arcs.{Work}
 use Rattle.compile_graph.specs.Splitting.{splittable, unfinished, crowded, goes_on, split, splits, split_all}
 use Rattle.compile_graph.specs.Invariant.{Inv}
 use Rattle.compile_graph.specs.Value.{arc_at, arcs_in, weight_at, weights_in, work_in, Fits}
-use Rattle.compile_split.specs.SplitParts.{SplitInto, Splits, SplitAllInto}
+use Rattle.compile_split.specs.SplitParts.{SplitInto, SplitTo, Splits, SplitAllInto}
 use Rattle.compile_graph.proofs.Choice.{ripe-some}
 use Rattle.compile_graph.proofs.Split.{split-inv, split-length}
 use Rattle.compile_graph.proofs.Loop.{splits-on, splits-off, states-le}
@@ -71,47 +70,41 @@ module _ (n : ℕ) (g h : Graph) (p : Splits n g) (c : Going n g h) where
         let l = sym (splits-on k n (work_in h) (goes_on-is true u)) in
         (k, refl, l ∙ ap (λ j. splits j n (work_in h)) (sym e) ∙ c.leads)
 
-    pub going_on : (r : NextGraph) → SplitInto n h r → r.crowded ≡ false → Going n g r.graph
-    going_on r s q =
+    pub going_on : (r : Graph) → SplitTo n h r → Going n g r
+    going_on r s =
         let (j, e, l) = next c.fuel refl in
-        let w : work_in r.graph ≡ split n (work_in h) = s.work q in
         let t : T (unfinished n (work_in h)) = rw u tt in
-        let k : length (weights_in r.graph) ≡ suc (length (weights_in h)) =
-        ap (λ x. length x.weights) w ∙ split-length n (sum (weights_in g)) (work_in h) p.some c.inv t in
-        let k' = length-map-range (weight_at r.graph) r.graph.states in
+        let k : length (weights_in r) ≡ suc (length (weights_in h)) =
+        ap (λ x. length x.weights) s.work ∙ split-length n (sum (weights_in g)) (work_in h) p.some c.inv t in
+        let k' = length-map-range (weight_at r) r.states in
         let k'' = states-h in
         record {
-          fits = s.fits q;
-          inv = subst (Inv n (sum (weights_in g))) (sym w)
+          fits = s.fits;
+          inv = subst (Inv n (sum (weights_in g))) (sym s.work)
               (split-inv n (sum (weights_in g)) (work_in h) p.some c.inv t);
           fuel = j;
-          leads = ap (splits j n) w ∙ l;
+          leads = ap (splits j n) s.work ∙ l;
           enough = omega (arith, c.enough);
         }
 
-    pub going-grows : (r : NextGraph) → SplitInto n h r → r.crowded ≡ false → r.graph.states ≡ suc h.states
-    going-grows r s q =
+    pub going-grows : (r : Graph) → SplitTo n h r → r.states ≡ suc h.states
+    going-grows r s =
         let t : T (unfinished n (work_in h)) = rw u tt in
-        sym (length-map-range (weight_at r.graph) r.graph.states) ∙ ap (λ x. length x.weights) (s.work q)
+        sym (length-map-range (weight_at r) r.states) ∙ ap (λ x. length x.weights) s.work
         ∙ split-length n (sum (weights_in g)) (work_in h) p.some c.inv t ∙ ap suc states-h
 
-    pub going-crowded : (r : NextGraph) → SplitInto n h r → r.crowded ≡ true → SplitAllInto n g r
-    going-crowded r s q =
+    pub going-crowded : SplitInto n h None → SplitAllInto n g None
+    going-crowded full =
         let (j, e, l) = next c.fuel refl in
-        let full : crowded (split n (work_in h)) ≡ true = sym s.crowds ∙ q in
         let ends : splits j n (split n (work_in h)) ≡ split n (work_in h) =
         splits-stop j n (split n (work_in h)) (ap (λ b. not b && unfinished n (split n (work_in h))) full) in
-        record {
-          crowds = q ∙ sym (ap crowded (sym l ∙ ends) ∙ full);
-          work = λ z. let y : ◌≡◌ {A = ℕ} 0 1 = cc in absurd (omega arith);
-          fits = λ z. let y : ◌≡◌ {A = ℕ} 0 1 = cc in absurd (omega arith);
-        }
+        ap crowded (sym l ∙ ends) ∙ full
 
-  pub going_end : unfinished n (work_in h) ≡ false → SplitAllInto n g (record { crowded = false; graph = h })
+  pub going_end : unfinished n (work_in h) ≡ false → SplitAllInto n g (Some h)
   going_end u = record {
-    crowds = sym (ap crowded (sym c.leads ∙ at c.fuel) ∙ not-crowded);
-    work = λ z. sym (at c.fuel) ∙ c.leads;
-    fits = λ z. c.fits;
+    room = ap crowded (sym c.leads ∙ at c.fuel) ∙ not-crowded;
+    work = sym (at c.fuel) ∙ c.leads;
+    fits = c.fits;
   }
     where
       at : (j : ℕ) → splits j n (work_in h) ≡ work_in h

@@ -5,18 +5,17 @@
 use Rattle.std.proofs.Common.{◌≡◌, ◌∷◌, ◌++◌, ◌+◌, ◌-◌, ◌*◌, ◌/◌, ◌%◌, ◌≤◌, ◌<◌}
 use Rattle.laws.proofs.All.{refl, sym, ap, ap₂, subst, ◌∙◌, List, [], map, ℕ}
 use Rattle.laws.proofs.All.{le_trans, div-le_of_le-mul, mul-le-mul_right, arith, T, length, get_or}
-use Rattle.laws.proofs.All.{take, drop, set, length-take, length-map, length-take-le, get_or-take, range, filter, any}
+use Rattle.laws.proofs.All.{take, drop, set, length-take, length-map, range, filter, any}
 use Rattle.laws.proofs.All.{first, Each, each_map, each_append, each-filter, each_take, each-image, image-each}
 use Rattle.laws.proofs.All.{first_passes, each_at, map-range-at, each_set, length-map-range, map-take, map-drop}
 use Rattle.laws.proofs.All.{map_each}
 use Rattle.compile_graph.specs.declared.Graph.{Graph}
-use Rattle.compile_order.specs.declared.keys.Keys.{Keys}
 use Rattle.compile_choice.specs.declared.find_run.Run.{Run}
 use Rattle.compile_graph.specs.Arcs.{Arc, arc, leaves, out}
 use Rattle.compile_graph.specs.Weights.{weight, total}
 use Rattle.compile_graph.specs.Splitting.{sort, greatest, lighter, other, candidates, first_run, kept, moved, doubled}
 use Rattle.compile_graph.specs.Value.{arcs_in, weight_at, weights_in, Fits}
-use Rattle.compile_order.specs.EdgeKeys.{arc_of, keys_in, key_weight}
+use Rattle.compile_order.specs.EdgeKeys.{arc_of, key_weight}
 use Rattle.compile_choice.specs.ChoiceParts.{FirstRun}
 use Rattle.compile_parts.specs.Parts.{Moved, entering, Doubled}
 use Rattle.compile_split.specs.SplitParts.{kept_arcs, Weighed, PartedInto}
@@ -26,7 +25,7 @@ use Rattle.compile_graph.proofs.Values.{Bounded, Low, fits-arcs, fits-from, fits
 use Rattle.compile_split.proofs.SplitLists.{each-parted, entering-moved}
 
 -- ---- one state split: the state s of weight M, and its candidates as keys
-pub record Keyed (n : ℕ) (g : Graph) (s M : ℕ) (list : Keys) : Type 0 where
+pub record Keyed (n : ℕ) (g : Graph) (s M : ℕ) (list : List ℕ) : Type 0 where
   pub fits : Fits g
   pub inside : s < g.states
   pub few : g.states < 128
@@ -34,24 +33,20 @@ pub record Keyed (n : ℕ) (g : Graph) (s M : ℕ) (list : Keys) : Type 0 where
   pub most : M ≡ greatest (weights_in g)
   pub some : T (any (lighter (weights_in g) M) (out (arcs_in g) s))
   pub ways : 0 < n
-  pub long : length list.key ≡ 16
-  pub few-keys : list.count ≤ n
+  pub few-keys : length list ≤ n
   pub narrow : n ≤ 16
-  pub keys : map (arc_of s) (keys_in list) ≡ candidates n (weights_in g) M (sort (out (arcs_in g) s))
+  pub keys : map (arc_of s) list ≡ candidates n (weights_in g) M (sort (out (arcs_in g) s))
 
-module _ {n : ℕ} {g : Graph} {s M : ℕ} {list : Keys} (C : Keyed n g s M list) where
+module _ {n : ℕ} {g : Graph} {s M : ℕ} {list : List ℕ} (C : Keyed n g s M list) where
   abbrev v : List ℕ
   v = weights_in g
 
   abbrev es : List Arc
   es = sort (out (arcs_in g) s)
 
-  many : length (keys_in list) ≡ list.count
-  many = length-take-le list.count list.key (omega (arith, C.long, C.few-keys, C.narrow))
-
-  keys-inside : Each (λ k. k % 128 < g.states) (keys_in list)
+  keys-inside : Each (λ k. k % 128 < g.states) list
   keys-inside =
-      image-each (λ e. e.target < g.states) (arc_of s) (keys_in list)
+      image-each (λ e. e.target < g.states) (arc_of s) list
       (subst (Each (λ e. e.target < g.states)) (sym C.keys) (
         (first_passes (lighter v M) (arc 0 0 0) (λ e. e.target < g.states) es
             (any-sort (lighter v M) (out (arcs_in g) s) C.some) inside).1,
@@ -66,22 +61,22 @@ module _ {n : ℕ} {g : Graph} {s M : ℕ} {list : Keys} (C : Keyed n g s M list
           (each-filter (λ e. e.target < g.states) (leaves s) (arcs_in g)
           (each_map (Bounded g.states) _ (λ e b t. b.1) (arcs_in g) (fits-arcs g C.fits)))
 
-  module _ (w : List ℕ) (w-is : take list.count w ≡ map (key_weight g) (keys_in list)) where
-    pub weights-low : (i : ℕ) → i < list.count → get_or w i 0 ≤ 128
+  module _ (w : List ℕ) (w-is : w ≡ map (key_weight g) list) where
+    pub weights-low : (i : ℕ) → i < length w → get_or w i 0 ≤ 128
     weights-low i h =
-        let e : get_or (map (key_weight g) (keys_in list)) i 0 ≡ get_or w i 0 =
-        ap (λ l. get_or l i 0) (sym w-is) ∙ get_or-take list.count w i 0 h in
-        subst Low e (each_at Low 0 (map (key_weight g) (keys_in list))
-        (each-image Low (key_weight g) (keys_in list)
-        (each_map (λ k. k % 128 < g.states) _ (λ k l. C.fits.light (k % 128) l) (keys_in list) keys-inside)) i
-        (rw (length-map (keys_in list) (key_weight g), many) h))
+        let e : get_or (map (key_weight g) list) i 0 ≡ get_or w i 0 =
+        ap (λ l. get_or l i 0) (sym w-is) in
+        subst Low e (each_at Low 0 (map (key_weight g) list)
+        (each-image Low (key_weight g) list
+        (each_map (λ k. k % 128 < g.states) _ (λ k l. C.fits.light (k % 128) l) list keys-inside)) i
+        (rw (← w-is) h))
 
-    map-weight : map (weight v) (candidates n v M es) ≡ take list.count w
+    map-weight : map (weight v) (candidates n v M es) ≡ w
     map-weight =
-        ap (map (weight v)) (sym C.keys) ∙ both (keys_in list)
-        ∙ map_each (λ k. weight v (arc_of s k)) (key_weight g) (keys_in list)
+        ap (map (weight v)) (sym C.keys) ∙ both list
+        ∙ map_each (λ k. weight v (arc_of s k)) (key_weight g) list
         (each_map (λ k. k % 128 < g.states) _ (λ k l. map-range-at (weight_at g) g.states (k % 128) 0 l)
-        (keys_in list)
+        list
         keys-inside)
         ∙ sym w-is
       where
@@ -89,20 +84,19 @@ module _ {n : ℕ} {g : Graph} {s M : ℕ} {list : Keys} (C : Keyed n g s M list
         both [] = refl
         both (x ∷ l) = ap (λ y. weight v (arc_of s x) ∷ y) (both l)
 
-    module _ (run : Run) (run_is : FirstRun n (take list.count w) run) where
+    module _ (run : Run) (run_is : FirstRun n w run) where
       abbrev keep : List Arc
       keep = kept n v (arcs_in g) s
 
-      pub inside-run : run.from + run.count ≤ list.count
+      pub inside-run : run.from + run.count ≤ length list
       inside-run =
-          let l : length (take list.count w) ≡ list.count =
-          ap length w-is ∙ length-map (keys_in list) (key_weight g) ∙ many in
-          omega (arith, run_is.inside, C.few-keys)
+          let l : length w ≡ length list = ap length w-is ∙ length-map list (key_weight g) in
+          omega (arith, run_is.inside)
 
       pub kept-is : kept_arcs s list run ≡ keep
       kept-is =
-          map-take (arc_of s) run.count (drop run.from (keys_in list))
-          ∙ ap (take run.count) (map-drop (arc_of s) run.from (keys_in list) ∙ ap (drop run.from) C.keys)
+          map-take (arc_of s) run.count (drop run.from list)
+          ∙ ap (take run.count) (map-drop (arc_of s) run.from list ∙ ap (drop run.from) C.keys)
           ∙ sym (run_is.run v (candidates n v M es) map-weight).0
           ∙ ap (λ m. first_run n v (candidates n v m es)) C.weighs
 
@@ -114,9 +108,9 @@ module _ {n : ℕ} {g : Graph} {s M : ℕ} {list : Keys} (C : Keyed n g s M list
 
       kept-few : length keep ≤ n
       kept-few =
-          let a : length (kept_arcs s list run) ≡ length (take run.count (drop run.from (keys_in list))) =
-          length-map (take run.count (drop run.from (keys_in list))) (arc_of s) in
-          let b = length-take run.count (drop run.from (keys_in list)) in
+          let a : length (kept_arcs s list run) ≡ length (take run.count (drop run.from list)) =
+          length-map (take run.count (drop run.from list)) (arc_of s) in
+          let b = length-take run.count (drop run.from list) in
           omega (arith, ap length kept-is, inside-run, C.few-keys)
 
       pub share-le : run.total / n ≤ M

@@ -7,11 +7,11 @@ ghost use Rattle.compile_split.specs.SplitParts.{SplitInto, Splits, SplitAllInto
 
 use crate::part_state::part_state;
 use compile_choice::choose::{choose, greatest_weight};
-use compile_graph::{Graph, NextGraph};
+use compile_graph::Graph;
 use compile_parts::{enter_count, is_unfinished};
 
-// One split.
-pub fn split(g: Graph, n: usize) -> NextGraph
+// One split, or none: the graph would have over 2,048 edges.
+pub fn split(g: Graph, n: usize) -> Option<Graph>
     requires { Fits g × (g.states < 128) × (0 < n) × (n ≤ 16)
         × T (any (splittable (weights_in g) (arcs_in g)) (range (length (weights_in g)))) }
     ensures answer { SplitInto n g result }
@@ -19,34 +19,19 @@ pub fn split(g: Graph, n: usize) -> NextGraph
     let m = greatest_weight(g);
     let s = choose(g, m);
     if 2048 < g.edges + enter_count(g, s) {
-        return NextGraph {
-            crowded: true,
-            graph: g,
-        };
+        return None;
     }
-    let h = part_state(g, s, m, n);
-    NextGraph {
-        crowded: false,
-        graph: h,
-    }
+    Some(part_state(g, s, m, n))
 }
 
-// All splits.
-pub fn split_all(g: Graph, n: usize) -> NextGraph
+// All splits, or none: the graph would have over 2,048 edges after one of them.
+pub fn split_all(g: Graph, n: usize) -> Option<Graph>
     requires { Splits n g }
     ensures answer { SplitAllInto n g result }
 {
-    let mut r = NextGraph {
-        crowded: false,
-        graph: g,
-    };
-    let mut more = is_unfinished(g, n);
-    while more {
-        r = split(r.graph, n);
-        if r.crowded {
-            return r;
-        }
-        more = is_unfinished(r.graph, n);
+    let mut h = g;
+    while is_unfinished(h, n) {
+        h = split(h, n)?;
     }
-    r
+    Some(h)
 }

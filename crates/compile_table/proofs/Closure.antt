@@ -2,7 +2,7 @@
 -- other.
 -- In order: row-keys, row_inside; Forward, forward-start, forward-step, forward-end; row_stays.
 -- Assumes nothing.
-use Rattle.std.proofs.Common.{◌≡◌, ◌⊎◌, ◌&&◌, ◌||◌, ◌∷◌, ◌-◌, ◌%◌, ◌<◌}
+use Rattle.std.proofs.Common.{◌≡◌, ◌⊎◌, ◌&&◌, ◌||◌, ◌∷◌, ◌%◌, ◌<◌}
 use Rattle.laws.proofs.All.{refl, sym, ap, subst, ◌∙◌, inl, inr, Bool, true, false, not, List}
 use Rattle.laws.proofs.All.{[], map, ℕ, arith, ℕ_discrete, lt-ltb, ne_eqb, T, eqb, eqb→eq}
 use Rattle.laws.proofs.All.{eqb_refl, length, get_or, take, set, length-set, get_or-set_other, range, filter, any}

@@ -1,7 +1,7 @@
 -- How many states of a set are below a state.
 -- In order: rank-none, rank-yes, rank-no, rank-le, by the states passed; rank-small, at most t.
 -- Assumes nothing.
-use Rattle.std.proofs.Common.{◌≡◌, ◌∷◌, ◌+◌, ◌-◌, ◌≤◌}
+use Rattle.std.proofs.Common.{◌≡◌, ◌∷◌, ◌+◌, ◌≤◌}
 use Rattle.laws.proofs.All.{refl, ap, ◌∙◌, Bool, true, false, List, [], ℕ, zero, suc}
 use Rattle.laws.proofs.All.{arith, length, length-append, member}
 use Rattle.compile_table.specs.Finishing.{rank}

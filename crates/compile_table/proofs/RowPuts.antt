@@ -1,8 +1,8 @@
 -- One row of the table, edge by edge.
--- In order: with_edge, put-start, put-more, put-keys.
+-- In order: with_edge, put-start, put-more.
 -- Assumes nothing.
 use Rattle.std.proofs.Common.{◌≡◌, ◌+◌, ◌*◌, ◌/◌, ◌%◌, ◌<◌}
-use Rattle.laws.proofs.All.{refl, ap, ◌∙◌, List, ℕ, arith, below_more, length, get_or}
+use Rattle.laws.proofs.All.{refl, ◌∙◌, List, ℕ, arith, below_more, length, get_or}
 use Rattle.laws.proofs.All.{set, length-set, get_or-set_same, get_or-set_other}
 use Rattle.compile_table.specs.declared.finish_table.TableRows.{TableRows}
 use Rattle.compile_table.specs.Finishing.{RowPut}
@@ -11,9 +11,9 @@ use Rattle.compile_table.specs.Finishing.{RowPut}
 abbrev pub with_edge : TableRows → ℕ → ℕ → ℕ → TableRows
 with_edge r x w t = record { states = r.states; word = set r.word x w; next = set r.next x t }
 
-pub put-start : (t : TableRows) (keys index : List ℕ) (n i : ℕ) → length t.word ≡ 2048 → length t.next ≡ 2048
-    → RowPut t keys index n i 0 t
-put-start t keys index n i a b = record {
+pub put-start : (t : TableRows) (keys index : List ℕ) (i : ℕ) → length t.word ≡ 2048 → length t.next ≡ 2048
+    → RowPut t keys index i 0 t
+put-start t keys index i a b = record {
   states = refl;
   long_w = a;
   long_n = b;
@@ -23,11 +23,11 @@ put-start t keys index n i a b = record {
   kept_n = λ x h. refl;
 }
 
-pub put-more : (t : TableRows) (keys index : List ℕ) (n i d : ℕ) (r : TableRows) → d < 16 → i < 128
-    → RowPut t keys index n i d r
-    → RowPut t keys index n i (d + 1)
+pub put-more : (t : TableRows) (keys index : List ℕ) (i d : ℕ) (r : TableRows) → d < 16 → i < 128
+    → RowPut t keys index i d r
+    → RowPut t keys index i (d + 1)
     (with_edge r (i * 16 + d) (get_or keys d 0 / 128) (get_or index (get_or keys d 0 % 128) 0))
-put-more t keys index n i d r hd hi c = record {
+put-more t keys index i d r hd hi c = record {
   states = c.states;
   long_w = length-set r.word x w ∙ c.long_w;
   long_n = length-set r.next x m ∙ c.long_n;
@@ -49,17 +49,3 @@ put-more t keys index n i d r hd hi c = record {
 
     m : ℕ
     m = get_or index (get_or keys d 0 % 128) 0
-
--- the same row by keys that agree
-pub put-keys : (t : TableRows) (keys keys' index : List ℕ) (n i : ℕ) (r : TableRows)
-    → ((d : ℕ) → d < n → get_or keys d 0 ≡ get_or keys' d 0) → RowPut t keys index n i n r → RowPut t keys' index n i n
-    r
-put-keys t keys keys' index n i r e c = record {
-  states = c.states;
-  long_w = c.long_w;
-  long_n = c.long_n;
-  word = λ d h. c.word d h ∙ ap (λ k. k / 128) (e d h);
-  next = λ d h. c.next d h ∙ ap (λ k. get_or index (k % 128) 0) (e d h);
-  kept_w = c.kept_w;
-  kept_n = c.kept_n;
-}

@@ -3,7 +3,7 @@
 -- In order: Tabled, table-length, reached, tabled, row-edges, reached-first, states-rise.
 -- Assumes nothing.
 use Rattle.std.proofs.Common.{◌≡◌, ◌↔◌, ◌∷◌, ◌≤◌, ◌<◌}
-use Rattle.laws.proofs.All.{ap, ◌∙◌, Bool, true, List, [], map, ℕ, zero, suc, zero-le}
+use Rattle.laws.proofs.All.{ap, ◌∙◌, Bool, List, [], map, ℕ, zero, suc, zero-le}
 use Rattle.laws.proofs.All.{suc-le-suc, not-suc-le-zero, T, ltb, ltb→lt, length, get_or, length-map, T→true}
 use Rattle.laws.proofs.All.{length-take-le, get_or-take, range, filter, elem, index_of, get_or-map-lt, Each, each_map}
 use Rattle.laws.proofs.All.{each-always, each_both, each-for, each-union, each-range, each-elem, elem-each}

@@ -1,24 +1,23 @@
 -- The rows of the table, and that all together are the table of the graph.
--- In order: keys-long, keys-low, list-long, list_at, key-lt, key-inside; key-stays; Laid, laid_none, laid-no,
+-- In order: keys-long, keys-low, key-lt, key-inside; key-stays; Laid, laid_none, laid-no,
 -- laid-yes; states-are, index_is, row_laid, laid_end.
 -- Assumes nothing.
-use Rattle.std.proofs.Common.{◌≡◌, ◌+◌, ◌-◌, ◌*◌, ◌/◌, ◌%◌, ◌≤◌, ◌<◌}
+use Rattle.std.proofs.Common.{◌≡◌, ◌+◌, ◌*◌, ◌/◌, ◌%◌, ◌≤◌, ◌<◌}
 use Rattle.laws.proofs.All.{sym, ap, ap₂, subst, ◌∙◌, Bool, true, false, List, [], map, ℕ}
-use Rattle.laws.proofs.All.{le_trans, arith, below_more, T, length, get_or, length-map, length-take}
-use Rattle.laws.proofs.All.{length-take-le, get_or-take, range, filter, elem, index_of, member, Each, times, one}
+use Rattle.laws.proofs.All.{le_trans, arith, below_more, T, length, get_or, length-map}
+use Rattle.laws.proofs.All.{length-take-le, range, filter, elem, index_of, member, Each, times, one}
 use Rattle.laws.proofs.All.{T→true, each_map, each-filter, image-each, each_take, each-range, each-elem}
 use Rattle.laws.proofs.All.{elem-filter, elem-each, each_at, index_at, range-once, tot-filter-le, length-map-range}
 use Rattle.laws.proofs.All.{map-range-same, map-places, filter_same, map-map}
 use Rattle.table.specs.Rows.{edge}
 use Rattle.compile_graph.specs.declared.Graph.{Graph}
-use Rattle.compile_order.specs.declared.keys.Keys.{Keys}
 use Rattle.compile_table.specs.declared.finish_table.TableRows.{TableRows}
 use Rattle.compile_graph.specs.Arcs.{out}
 use Rattle.compile_graph.specs.Splitting.{sort}
 use Rattle.compile_graph.specs.Component.{reachings, reaches}
 use Rattle.compile_table.specs.TableOf.{row, first_edges, table_states, named, table_row, table_of}
 use Rattle.compile_graph.specs.Value.{arcs_in, weight_at, weights_in, work_in}
-use Rattle.compile_order.specs.EdgeKeys.{arc_of, keys_from, admitted, first_keys, keys_in}
+use Rattle.compile_order.specs.EdgeKeys.{arc_of, keys_from, admitted, first_keys}
 use Rattle.compile_table.specs.Finishing.{Finished, rank, row_edge, TableIn, RowPut}
 use Rattle.compile_graph.proofs.Arcs.{length-sort}
 use Rattle.compile_order.proofs.EdgeOrder.{keys-small}
@@ -44,14 +43,6 @@ module _ (n : ℕ) (g : Graph) (F : Finished n g) where
       each_take (λ k. k < 32768) n (filter (admitted (weights_in g) 256 65535) (keys_from (arcs_in g) s))
       (each-filter (λ k. k < 32768) (admitted (weights_in g) 256 65535) (keys_from (arcs_in g) s)
       (each_map (λ k. k < 32768) _ (λ k b t. b) (keys_from (arcs_in g) s) (keys-small g s F.fits)))
-
-  pub list-long : (s : ℕ) → s < K → (l : Keys) → keys_in l ≡ keys_at s → l.count ≤ n → l.count ≡ n
-  list-long s h l e b = omega (arith, ap length e, keys-long s h, length-take l.count l.key)
-
-  pub list_at : (s : ℕ) → s < K → (l : Keys) → keys_in l ≡ keys_at s → l.count ≤ n → (d : ℕ) → d < n
-      → get_or l.key d 0 ≡ get_or (keys_at s) d 0
-  list_at s h l e b d k =
-      sym (get_or-take l.count l.key d 0 (let q = list-long s h l e b in omega arith)) ∙ ap (λ x. get_or x d 0) e
 
   pub key-lt : (s : ℕ) → s < K → (d : ℕ) → d < n → get_or (keys_at s) d 0 < 32768
   key-lt s h d k = each_at (λ x. x < 32768) 0 (keys_at s) (keys-low s) d (rw (keys-long s h) k)
@@ -113,7 +104,7 @@ module _ (n : ℕ) (g : Graph) (F : Finished n g) where
         lower : (u : ℕ) → u < t → T (member S u) → rank S u + 1 ≤ rank S t
         lower u h m = omega (arith, rank-yes S u (T→true (member S u) m), rank-le S (u + 1) t (omega arith))
 
-        pub laid-yes : member S t ≡ true → (r' : TableRows) → RowPut r (keys_at t) index n count n r'
+        pub laid-yes : member S t ≡ true → (r' : TableRows) → RowPut r (keys_at t) index count n r'
             → Laid (t + 1) (count + 1) r'
         laid-yes e r' p = record {
           counted = ap (λ x. x + 1) c.counted ∙ sym (rank-yes S t e);

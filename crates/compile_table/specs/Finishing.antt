@@ -3,7 +3,7 @@
 -- RowPut.
 -- Assumes nothing.
 use Rattle.std.specs.Prelude.{◌≡◌, Bool, true, false, not, ◌&&◌, List, map, ℕ, ◌+◌, ◌*◌, ◌/◌, ◌%◌, ◌≤◌, ◌<◌, eqb}
-use Rattle.std.specs.Prelude.{length, get_or}
+use Rattle.std.specs.Prelude.{length, get_or, Option, Some, None}
 use Rattle.laws.specs.Lists.{range, filter}
 use Rattle.laws.specs.Sets.{member}
 use Rattle.table.specs.Rows.{Edge, edge, Rows}
@@ -20,11 +20,11 @@ pub record Finished (n : ℕ) (g : Graph) : Type 0 where
   pub few : n ≤ 16
   pub full : (s : ℕ) → s < g.states → n ≤ length (out (arcs_in g) s)
 
--- r is the lowest of k states in the set that is not done, or k
-pub record Open (S D : List Bool) (k r : ℕ) : Type 0 where
-  pub bound : r ≤ k
-  pub here : r < k → (member S r && not (member D r)) ≡ true
-  pub none : r ≡ k → (s : ℕ) → s < k → (member S s && not (member D s)) ≡ false
+-- r is the lowest of k states in the set that is not done, or none
+abbrev pub Open : List Bool → List Bool → ℕ → Option ℕ → Type 0
+Open S D k None = (s : ℕ) → s < k → (member S s && not (member D s)) ≡ false
+Open S D k (Some r) = (r < k) × ((member S r && not (member D r)) ≡ true)
+    × ((s : ℕ) → s < r → (member S s && not (member D s)) ≡ false)
 
 -- the edge with this key leads to x
 abbrev pub entered_by : ℕ → ℕ → Bool
@@ -49,7 +49,7 @@ pub record TableIn (n : ℕ) (g : Graph) (r : TableRows) : Type 0 where
 
 -- r is t with the first d edges of state i by keys, and their next states numbered; places of lower states are as
 -- they were
-pub record RowPut (t : TableRows) (keys index : List ℕ) (n i d : ℕ) (r : TableRows) : Type 0 where
+pub record RowPut (t : TableRows) (keys index : List ℕ) (i d : ℕ) (r : TableRows) : Type 0 where
   pub states : r.states ≡ t.states
   pub long_w : length r.word ≡ 2048
   pub long_n : length r.next ≡ 2048

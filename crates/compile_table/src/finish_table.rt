@@ -2,19 +2,20 @@
 // reachable from the start are removed, the others renumbered in order." The data are then given anew in
 // `compile_labels`.
 ghost use Rattle.std.specs.Prelude.{◌≡◌, Bool, true, false, not, ◌&&◌, ◌||◌, ℕ, ◌+◌, ◌*◌, ◌/◌, ◌%◌, ◌≤◌, ◌<◌, length};
-ghost use Rattle.std.specs.Prelude.{get_or, take};
+ghost use Rattle.std.specs.Prelude.{get_or};
 ghost use Rattle.laws.specs.Lists.{any};
 ghost use Rattle.laws.specs.Sets.{member};
 ghost use Rattle.compile_graph.specs.Component.{reachings, reaches};
 ghost use Rattle.compile_table.specs.TableOf.{first_edges};
 ghost use Rattle.compile_graph.specs.Value.{work_in};
-ghost use Rattle.compile_order.specs.EdgeKeys.{keys_in, first_keys};
+ghost use Rattle.compile_order.specs.EdgeKeys.{first_keys};
 ghost use Rattle.compile_table.specs.Finishing.{Finished, Open, entered_by, rank, TableIn, RowPut};
 
 use compile_graph::Graph;
-use compile_order::keys::{Keys, first_edges};
+use compile_order::keys::first_edges;
 
-// The rows of a table: the edge of state s that carries d has its word and its next state at s * 16 + d.
+// The rows of a table: the edge of state s that carries d has its word and its next state at s * 16 + d, in two arrays
+// as the struct `Table` takes them.
 #[derive(Clone, Copy)]
 pub struct TableRows {
     pub states: usize,
@@ -22,44 +23,28 @@ pub struct TableRows {
     pub next: [u8; 2048],
 }
 
-// The first and not the second.
-fn but_not(a: bool, b: bool) -> bool
-    ensures answer { result ≡ (a && not b) }
-{
-    if a {
-        return !b;
-    }
-    false
-}
-
-// The lowest state that is reached and whose edges have not been followed, or k.
-fn next_open(set: [bool; 128], done: [bool; 128], k: usize) -> usize
+// The lowest of k states that is reached and whose edges have not been followed.
+fn next_open(set: [bool; 128], done: [bool; 128], k: usize) -> Option<usize>
     requires { k ≤ 128 }
     ensures answer { Open set done k result }
 {
-    let mut s = 0;
-    while s < k {
-        if but_not(set[s], done[s]) {
-            return s;
+    for s in 0..k {
+        if set[s] && !done[s] {
+            return Some(s);
         }
-        s += 1;
     }
-    k
+    None
 }
 
 // The set with the states to which the edges lead.
-fn mark_targets(list: Keys, set: [bool; 128]) -> [bool; 128]
-    requires { list.count ≤ 16 }
-    ensures answer { (x : ℕ) → member result x ≡ (member set x || any (entered_by x) (keys_in list)) }
+fn mark_targets(list: &[usize], set: [bool; 128]) -> [bool; 128]
+    ensures answer { (x : ℕ) → member result x ≡ (member set x || any (entered_by x) list.now) }
 {
-    let mut r = set;
-    let n = list.count;
-    let mut i = 0;
-    while i < n {
-        r[list.key[i] % 128] = true;
-        i += 1;
+    let mut marked = set;
+    for key in list {
+        marked[*key % 128] = true;
     }
-    r
+    marked
 }
 
 // The states reachable from the start by the first n edges of each state.
@@ -68,17 +53,13 @@ fn reach_rows(g: Graph, n: usize) -> [bool; 128]
     ensures answer { (t : ℕ) → t < g.states → member result t
         ≡ reaches (reachings g.states (first_edges n (work_in g))) 0 t }
 {
-    let k = g.states;
     let mut set = [false; 128];
     set[0] = true;
     let mut done = [false; 128];
-    let mut s = next_open(set, done, k);
-    while s < k {
+    while let Some(s) = next_open(set, done, g.states) {
         let list = first_edges(g, s, 256, 65535, n);
-        let r = mark_targets(list, set);
-        set = r;
+        set = mark_targets(&list, set);
         done[s] = true;
-        s = next_open(set, done, k);
     }
     set
 }
@@ -88,32 +69,27 @@ fn ranks(set: [bool; 128], k: usize) -> [usize; 128]
     requires { k ≤ 128 }
     ensures answer { (t : ℕ) → t < k → get_or result t 0 ≡ rank set t }
 {
-    let mut r = [0usize; 128];
+    let mut ranks = [0usize; 128];
     let mut count = 0;
-    let mut t = 0;
-    while t < k {
-        r[t] = count;
+    for t in 0..k {
+        ranks[t] = count;
         if set[t] {
             count += 1;
         }
-        t += 1;
     }
-    r
+    ranks
 }
 
 // The rows with that of state i, its edges in order.
-fn put_row(rows: TableRows, list: Keys, index: [usize; 128], n: usize, i: usize) -> TableRows
-    requires { (n ≤ 16) × (list.count ≡ n) × (i < 128) × ((d : ℕ) → d < n → (get_or list.key d 0 < 32768)
-        × (get_or index (get_or list.key d 0 % 128) 0 < 128)) }
-    ensures answer { RowPut rows list.key index n i n result }
+fn put_row(rows: TableRows, list: &[usize], index: [usize; 128], i: usize) -> TableRows
+    requires { (length list.now ≤ 16) × (i < 128) × ((d : ℕ) → d < length list.now
+        → (get_or list.now d 0 < 32768) × (get_or index (get_or list.now d 0 % 128) 0 < 128)) }
+    ensures answer { RowPut rows list.now index i (length list.now) result }
 {
     let mut r = rows;
-    let mut d = 0;
-    while d < n {
-        let key = list.key[d];
-        r.word[i * 16 + d] = (key / 128) as u8;
-        r.next[i * 16 + d] = index[key % 128] as u8;
-        d += 1;
+    for (d, key) in list.iter().enumerate() {
+        r.word[i * 16 + d] = (*key / 128) as u8;
+        r.next[i * 16 + d] = index[*key % 128] as u8;
     }
     r
 }
@@ -128,10 +104,10 @@ fn add_row(
     i: usize,
 ) -> TableRows
     requires { Finished n g × (t < g.states) × (i < 128) × ((s : ℕ) → s < g.states → get_or index s 0 < 128) }
-    ensures answer { RowPut rows (first_keys g t 256 65535 n) index n i n result }
+    ensures answer { RowPut rows (first_keys g t 256 65535 n) index i n result }
 {
     let list = first_edges(g, t, 256, 65535, n);
-    put_row(rows, list, index, n, i)
+    put_row(rows, &list, index, i)
 }
 
 // The table of a graph that is split to the end.
@@ -140,22 +116,18 @@ pub fn finish_table(g: Graph, n: usize) -> TableRows
     ensures answer { TableIn n g result }
 {
     let set = reach_rows(g, n);
-    let k = g.states;
-    let index = ranks(set, k);
+    let index = ranks(set, g.states);
     let mut rows = TableRows {
         states: 0,
         word: [0u8; 2048],
         next: [0u8; 2048],
     };
     let mut count = 0;
-    let mut t = 0;
-    while t < k {
+    for t in 0..g.states {
         if set[t] {
-            let r = add_row(g, n, t, index, rows, count);
-            rows = r;
+            rows = add_row(g, n, t, index, rows, count);
             count += 1;
         }
-        t += 1;
     }
     rows.states = count;
     rows

@@ -1,9 +1,10 @@
 -- Weights that are brought, by the counts of words: the inequality fails exactly where a round lowers a weight.
--- In order: low-front, weighty-front; passing-parts; low-found, low_small; unmet-is, met-found.
+-- In order: low-front, weighty-front; passing-parts; found-none; low-found, low-by, low_small; unmet-is, met-found,
+-- met-by.
 -- Assumes nothing.
-use Rattle.std.proofs.Common.{◌≡◌, ◌&&◌, ◌*◌, ◌/◌, ◌%◌, ◌≤◌, ◌<◌}
+use Rattle.std.proofs.Common.{Option, None, Some, is_none, unwrap_or, IfSome, ◌≡◌, ◌&&◌, ◌*◌, ◌/◌, ◌%◌, ◌≤◌, ◌<◌}
 use Rattle.laws.proofs.All.{refl, sym, ap, ap₂, subst, ◌∙◌, Bool, true, false, not, List, ℕ}
-use Rattle.laws.proofs.All.{le_of_eq, arith, ℕ_discrete, T, eqb, leb, ltb, leb→le, le-ltb, lt-ltb, length}
+use Rattle.laws.proofs.All.{le_of_eq, arith, ℕ_discrete, T, eqb, leb, ltb, leb→le, le-ltb, lt-ltb, eq-eqb, ne_eqb, length}
 use Rattle.laws.proofs.All.{get_or, take, length-take-le, get_or-take, range, all, any, first, any-range-same}
 use Rattle.laws.proofs.All.{all-below→}
 use Rattle.compile_graph.specs.Arcs.{Arc}
@@ -34,10 +35,19 @@ passing-parts n cap K g v few long =
     (length-take-le K v (omega arith))
     ∙ ap₂ (λ a b. a && (b && all (meets n g (take K v)) (range K))) (low-front K v cap) (weighty-front K v)
 
+-- a search that finds none says so
+found-none : (r : Option ℕ) (K : ℕ) → IfSome r (λ s. s < K) → eqb (unwrap_or r K) K ≡ is_none r
+found-none None K h = eq-eqb K K refl
+found-none (Some s) K h = ne_eqb s K (λ e. omega arith)
+
 -- ---- weights at most cap
 module _ (cap K : ℕ) (v : List ℕ) where
   pub low-found : (s : ℕ) → s ≡ first (over cap v) K (range K) → all (low cap v) (range K) ≡ eqb s K
   low-found s e = all_first (over cap v) K (low cap v) (λ i h. refl) ∙ ap (λ r. eqb r K) (sym e)
+
+  pub low-by : (r : Option ℕ) → unwrap_or r K ≡ first (over cap v) K (range K) → IfSome r (λ s. s < K)
+      → all (low cap v) (range K) ≡ is_none r
+  low-by r e h = low-found (unwrap_or r K) e ∙ found-none r K h
 
   pub low_small : all (low cap v) (range K) ≡ true → cap ≤ 16 → (s : ℕ) → s < K → get_or v s 0 ≤ 16
   low_small e h s l =
@@ -78,3 +88,7 @@ module _ (P A : List ℕ) (words K n : ℕ) (few : K ≤ 16) (hn : 0 < n)
       → all (meets n (tabled P words K) (take K v)) (range K) ≡ eqb s K
   met-found s e =
       all_first (unmet_by A v K n) K (meets n (tabled P words K) (take K v)) unmet-is ∙ ap (λ r. eqb r K) (sym e)
+
+  pub met-by : (r : Option ℕ) → unwrap_or r K ≡ first (unmet_by A v K n) K (range K) → IfSome r (λ s. s < K)
+      → all (meets n (tabled P words K) (take K v)) (range K) ≡ is_none r
+  met-by r e h = met-found (unwrap_or r K) e ∙ found-none r K h

@@ -114,12 +114,8 @@ module _ (n cap K : ℕ) (g : List Arc) (i : ℕ) (v : List ℕ) (few : K ≤ 16
   }
 
   -- nothing changes
-  pub round-still : ((s : ℕ) → s < K → get_or w s 0 ≡ get_or v s 0) → take K v ≡ weights n cap K g
-  round-still f =
-      let same : take K w ≡ take K v =
-      take_same w (take K v) K (length-take-le K v (let m = c.long in omega arith)) (omega arith)
-      (λ s h. f s h ∙ sym (get_or-take K v s 0 h)) in
-      sym (iterate_fixed (lowered n g) (K * cap - i) (take K v) (sym e ∙ same)) ∙ c.leads
+  pub round-still : take K w ≡ take K v → take K v ≡ weights n cap K g
+  round-still same = sym (iterate_fixed (lowered n g) (K * cap - i) (take K v) (sym e ∙ same)) ∙ c.leads
 
 pub round-end : (n cap K : ℕ) (g : List Arc) (i : ℕ) (v : List ℕ) → K * cap ≤ i → Round n cap K g i v
     → take K v ≡ weights n cap K g

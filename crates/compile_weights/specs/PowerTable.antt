@@ -1,7 +1,6 @@
 -- The power table that the crate `constraint` gives: "one place for each state and word", 255 for none.
 -- In order: entry_at, word_at, words_at, tabled; Powers, what it keeps to; word_leads, word_count; term_by, sum_by,
--- lower_by,
--- one weight of a round by the counts of words; same_at.
+-- lower_by, one weight of a round by the counts of words.
 -- Assumes nothing.
 use Rattle.std.specs.Prelude.{◌≡◌, Bool, List, map, ℕ, ◌+◌, ◌*◌, ◌/◌, ◌≤◌, ◌<◌, min, eqb, length, get_or}
 use Rattle.laws.specs.Lists.{range, filter, concat}
@@ -52,7 +51,3 @@ sum_by A v k s = tot (term_by A v s) (range k)
 -- the smaller of the old weight and that sum, divided by n and rounded down
 unfoldable pub lower_by : List ℕ → List ℕ → ℕ → ℕ → ℕ → ℕ
 lower_by A v k s n = min (get_or v s 0) (sum_by A v k s / n)
-
--- two lists have the same number at place s
-abbrev pub same_at : List ℕ → List ℕ → ℕ → Bool
-same_at a b s = eqb (get_or a s 0) (get_or b s 0)

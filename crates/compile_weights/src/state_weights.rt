@@ -1,8 +1,7 @@
 // "Weights." The words from each state to each are counted once; each round replaces all weights together.
 ghost use Rattle.std.specs.Prelude.{◌≡◌, ℕ, ◌+◌, ◌*◌, ◌/◌, ◌%◌, ◌≤◌, ◌<◌, length, get_or, take};
 ghost use Rattle.compile_graph.specs.Weights.{weights};
-ghost use Rattle.laws.specs.Lists.{all, range};
-ghost use Rattle.compile_weights.specs.PowerTable.{tabled, Powers, word_count, sum_by, lower_by, same_at};
+ghost use Rattle.compile_weights.specs.PowerTable.{tabled, Powers, word_count, sum_by, lower_by};
 
 // How many words lead from s to t.
 fn words_between(power: &[u8; 4096], words: usize, s: usize, t: u8) -> usize
@@ -10,12 +9,10 @@ fn words_between(power: &[u8; 4096], words: usize, s: usize, t: u8) -> usize
     ensures answer { (result ≡ word_count power.now words s t) × (result ≤ words) }
 {
     let mut count = 0;
-    let mut w = 0;
-    while w < words {
+    for w in 0..words {
         if power[s * 256 + w] == t {
             count += 1;
         }
-        w += 1;
     }
     count
 }
@@ -27,11 +24,8 @@ pub fn word_counts(power: &[u8; 4096], words: usize, k: usize) -> [usize; 256]
         → (get_or result x 0 ≡ word_count power.now words (x / 16) (x % 16)) × (get_or result x 0 ≤ 256) }
 {
     let mut r = [0usize; 256];
-    let n = k * 16;
-    let mut x = 0;
-    while x < n {
+    for x in 0..k * 16 {
         r[x] = words_between(power, words, x / 16, (x % 16) as u8);
-        x += 1;
     }
     r
 }
@@ -43,10 +37,8 @@ pub fn led_weight(count: &[usize; 256], v: [usize; 16], k: usize, s: usize) -> u
     ensures answer { result ≡ sum_by count.now v k s }
 {
     let mut sum = 0;
-    let mut t = 0;
-    while t < k {
+    for t in 0..k {
         sum += count[s * 16 + t] * v[t];
-        t += 1;
     }
     sum
 }
@@ -57,11 +49,7 @@ pub fn lower_weight(count: &[usize; 256], v: [usize; 16], k: usize, s: usize, n:
         × ((x : ℕ) → x < k * 16 → get_or count.now x 0 ≤ 256) × ((t : ℕ) → t < k → get_or v t 0 ≤ 16) }
     ensures answer { result ≡ lower_by count.now v k s n }
 {
-    let least = led_weight(count, v, k, s) / n;
-    if least < v[s] {
-        return least;
-    }
-    v[s]
+    v[s].min(led_weight(count, v, k, s) / n)
 }
 
 // One round: "replace all weights together".
@@ -71,27 +59,10 @@ fn lower_weights(count: &[usize; 256], v: [usize; 16], k: usize, n: usize) -> [u
     ensures answer { (s : ℕ) → s < k → get_or result s 0 ≡ lower_by count.now v k s n }
 {
     let mut r = [0usize; 16];
-    let mut s = 0;
-    while s < k {
+    for s in 0..k {
         r[s] = lower_weight(count, v, k, s, n);
-        s += 1;
     }
     r
-}
-
-// The first k weights are the same.
-fn same_weights(a: [usize; 16], b: [usize; 16], k: usize) -> bool
-    requires { k ≤ 16 }
-    ensures answer { result ≡ all (same_at a b) (range k) }
-{
-    let mut s = 0;
-    while s < k {
-        if a[s] != b[s] {
-            return false;
-        }
-        s += 1;
-    }
-    true
 }
 
 // "Start with cap at every state [..] until nothing changes."
@@ -108,15 +79,12 @@ pub fn state_weights(
 {
     let count = word_counts(power, words, k);
     let mut v = [cap; 16];
-    let rounds = k * cap;
-    let mut i = 0;
-    while i < rounds {
+    for _round in 0..k * cap {
         let w = lower_weights(&count, v, k, n);
-        if same_weights(w, v, k) {
+        if w[..k] == v[..k] {
             return v;
         }
         v = w;
-        i += 1;
     }
     v
 }

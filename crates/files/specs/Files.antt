@@ -1,17 +1,10 @@
--- What reading a file says of the lent bytes.
--- In order: Fits; loaded_of.
+-- What reading a file comes to.
+-- In order: loaded_of.
 -- Assumes nothing.
-use Rattle.std.specs.Prelude.{List, cond, ℕ, eqb}
-use Rattle.io.specs.Counts.{IsPrefixLen}
-use Rattle.files.specs.declared.Loaded.{Loaded}
-use Rattle.files.specs.declared.Loaded.TheVariants.{Whole, Unreadable, TooLong}
-
--- a whole file is within the lent bytes
-abbrev pub Fits : Loaded → List ℕ → Type 0
-Fits (Whole n) out = IsPrefixLen n out
-Fits (Unreadable e) out = Unit {0}
-Fits TooLong out = Unit {0}
+use Rattle.std.specs.Prelude.{cond, ℕ, eqb, Result, Ok, Err}
+use Rattle.files.specs.declared.LoadError.{LoadError}
+use Rattle.files.specs.declared.LoadError.TheVariants.{TooLong}
 
 -- a file of which n bytes were read is whole where no more are behind them
-abbrev pub loaded_of : ℕ → ℕ → Loaded
-loaded_of n more = cond (eqb more 0) (Whole n) TooLong
+abbrev pub loaded_of : ℕ → ℕ → Result ℕ LoadError
+loaded_of n more = cond (eqb more 0) (Ok n) (Err TooLong)

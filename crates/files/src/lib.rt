@@ -1,9 +1,10 @@
 // Whole files read into lent bytes.
 #![tactic(auto)]
 
-ghost use Rattle.std.specs.Prelude.{◌≡◌, length};
+ghost use Rattle.std.specs.Prelude.{◌≡◌, length, IfOk};
 ghost use Rattle.io.specs.Counts.{IsPrefixLen};
-ghost use Rattle.files.specs.Files.{Fits, loaded_of};
+ghost use Rattle.files.specs.Files.{loaded_of};
+ghost use Rattle.files.specs.declared.LoadError.TheVariants.{Unreadable};
 
 use std::fs::File;
 use std::io::{Error, ErrorKind, Read};
@@ -23,25 +24,32 @@ pub fn buffer() -> [u8; 1000000]
     zeros::<1000000>()
 }
 
-// What reading a file comes to: how many bytes it has, or why there is no result.
+// Why there is no result of reading a file.
 #[derive(Clone, Copy)]
-pub enum Loaded {
-    // All bytes are at the start of the lent ones.
-    Whole(usize),
+pub enum LoadError {
     // It cannot be opened, or reading it failed, for the reason that the system gave.
     Unreadable(Error),
     // It is longer than the lent bytes.
     TooLong,
 }
 
+impl From<Error> for LoadError {
+    ghost from_gives = { λ e r. r ≡ Unreadable e };
+
+    fn from(e: Error) -> LoadError {
+        LoadError::Unreadable(e)
+    }
+}
+
 // What a file is of which n bytes were read, and `more` behind them: it is whole where there are no more.
-fn outcome(n: usize, more: usize) -> Loaded
+fn outcome(n: usize, more: usize) -> Result<usize, LoadError>
     ensures answer { result ≡ loaded_of n more }
 {
     if more == 0 {
-        return Loaded::Whole(n);
+        Ok(n)
+    } else {
+        Err(LoadError::TooLong)
     }
-    Loaded::TooLong
 }
 
 // Reads until the lent bytes are full, the file ends or a read fails; the answer is how many bytes were read.
@@ -51,39 +59,30 @@ pub fn read_full<F: Read>(file: &mut F, out: &mut [u8]) -> usize
     let mut done = 0;
     while done < out.len() {
         match file.read(&mut out[done..]) {
-            Ok(n) => {
-                if n == 0 {
-                    return done;
-                }
-                done += n;
-            }
-            Err(_) => return done,
+            Ok(0) | Err(_) => break,
+            Ok(n) => done += n,
         }
     }
     done
 }
 
-// Reads to the end of an open file.
-pub fn load_open<F: Read>(file: &mut F, out: &mut [u8]) -> Loaded
-    ensures written { Fits result out.new }
+// Reads to the end of an open file, into the start of the lent bytes; the answer is how many bytes it has.
+pub fn load_open<F: Read>(file: &mut F, out: &mut [u8]) -> Result<usize, LoadError>
+    ensures written { IfOk result (λ n. IsPrefixLen n out.new) }
 {
     let n = read_full(file, out);
     let mut one = [0u8; 1];
-    match file.read(&mut one) {
-        Ok(more) => outcome(n, more),
-        Err(e) => Loaded::Unreadable(e),
-    }
+    let more = file.read(&mut one)?;
+    outcome(n, more)
 }
 
-// Reads the file of this name.
-pub fn load<R: Files>(rt: &R, path: &[u8], out: &mut [u8]) -> Loaded
-    ensures written { Fits result out.new }
+// Reads the file of this name, as load_open.
+pub fn load<R: Files>(rt: &R, path: &[u8], out: &mut [u8]) -> Result<usize, LoadError>
+    ensures written { IfOk result (λ n. IsPrefixLen n out.new) }
 {
-    match str::from_utf8(path) {
-        Ok(name) => match File::open(rt, name) {
-            Ok(mut file) => load_open(&mut file, out),
-            Err(e) => Loaded::Unreadable(e),
-        },
-        Err(_) => Loaded::Unreadable(Error::from(ErrorKind::InvalidFilename)),
-    }
+    let Ok(name) = str::from_utf8(path) else {
+        return Err(LoadError::Unreadable(Error::from(ErrorKind::InvalidFilename)));
+    };
+    let mut file = File::open(rt, name)?;
+    load_open(&mut file, out)
 }

@@ -1,2 +1,2 @@
 pub mod Joined
-pub mod PairLists
+pub mod Small

@@ -4,7 +4,7 @@
 ghost use Rattle.std.specs.Prelude.{◌≡◌, true, ◌≤◌, get_or};
 ghost use Rattle.judging.specs.Comparing.{Stands, Same, differs};
 
-use text::put_line;
+use text::Writer;
 
 // Every byte of an output as it is lent.
 const LENT: u8 = 165;
@@ -20,10 +20,7 @@ pub struct Told {
 fn expected(output: &[u8], i: usize) -> u8
     ensures answer { result ≡ get_or output.now i 165 }
 {
-    if i < output.len() {
-        return output[i];
-    }
-    LENT
+    if i < output.len() { output[i] } else { LENT }
 }
 
 // Whether the expected output stands at the start, and every byte past it is as lent.
@@ -33,12 +30,10 @@ fn stands(out: &[u8], output: &[u8]) -> bool
     if out.len() < output.len() {
         return false;
     }
-    let mut i = 0;
-    while i < out.len() {
+    for i in 0..out.len() {
         if out[i] != expected(output, i) {
             return false;
         }
-        i += 1;
     }
     true
 }
@@ -47,19 +42,15 @@ fn stands(out: &[u8], output: &[u8]) -> bool
 pub fn is_same(a: Told, out: &[u8], refusal: usize, value: usize, output: &[u8]) -> bool
     ensures answer { result ≡ true → Same a out.now refusal value output.now }
 {
-    if a.number as usize != refusal {
-        return false;
-    }
-    if a.value != value {
-        return false;
-    }
-    stands(out, output)
+    a.number as usize == refusal && a.value == value && stands(out, output)
 }
 
 // A name and a number on a line.
-fn say_number<R: Print>(rt: &R, name: &[u8], n: u64) {
+pub fn say_number<R: Print>(rt: &R, name: &[u8], n: u64) {
     let mut out = [0u8; 128];
-    let size = put_line(&mut out, 0, name, n);
+    let mut writer = Writer::new(&mut out, 0);
+    writer.line(name, n);
+    let size = writer.at;
     let _ = rt.write_all(&out[..size]);
 }
 

@@ -1,13 +1,12 @@
 -- A listing fits 43,028 bytes, so the program prints what the definition says.
 -- In order: front; list_done, list-refused, list-told.
 -- Assumes nothing.
+use Rattle.std.proofs.Common.{Result, Ok, Err}
 use Rattle.std.proofs.Common.{◌≡◌, ◌++◌, ◌≤◌}
 use Rattle.laws.proofs.All.{refl, sym, ap, ◌∙◌, List, ℕ, arith, length, take, drop, length-append}
 use Rattle.laws.proofs.All.{take-append_seam, length-take-le}
 use Rattle.io.specs.Counts.{IsPrefixLen}
 use Rattle.answer.specs.declared.Refusal.{Refusal}
-use Rattle.answer.specs.declared.Answer.{Answer}
-use Rattle.answer.specs.declared.Answer.TheVariants.{Done, Refused}
 use Rattle.answer.specs.Answers.{answer_value}
 use Rattle.answer.specs.Outcomes.{Outcome, done, refused, onward, fitting, answer_of, output_of}
 use Rattle.answer.proofs.Outcomes.{fitting-true}
@@ -37,37 +36,37 @@ module _ (xs B : List ℕ) (room : 43028 ≤ length B) where
   Short o = (c : Code) → o ≡ done c → length (listing c) ≤ 43028
 
   -- THEOREM: the listing of a job that compiles
-  pub list_done : (C : List ℕ) (n : ℕ) → Done n ≡ answer_of (list_into xs (length B))
+  pub list_done : (C : List ℕ) (n : ℕ) → Ok n ≡ answer_of (list_into xs (length B))
       → C ≡ output_of (list_into xs (length B)) B → (take n C ≡ listing_of xs) × IsPrefixLen n C
   unfolding list_into listing_of Short
   list_done C n a w = go (onward (read_listed xs) compile) (compiled-short xs) a w
     where
-      go : (o : Outcome Code) → Short o → Done n ≡ answer_of (Into o) → C ≡ output_of (Into o) B
+      go : (o : Outcome Code) → Short o → Ok n ≡ answer_of (Into o) → C ≡ output_of (Into o) B
           → (take n C ≡ printed o) × IsPrefixLen n C
       go (refused r) short a w = let z : ◌≡◌ {A = ℕ} 0 1 = cc in absurd (omega arith)
       go (done c) short a w =
           let fit : length (listing c) ≤ length B = omega (arith, short c refl) in
           let e = fitting-true (length B) (listing c) fit in
-          let d : Done n ≡ Done (length (listing c)) = a ∙ ap answer_of e in
+          let d : Ok n ≡ Ok (length (listing c)) = a ∙ ap answer_of e in
           let k : n ≡ length (listing c) = cc in
           front (fitting (length B) (listing c)) (listing c) B C n e fit k w
 
   -- the refusal of a job that does not
-  pub list-refused : (r : Refusal) → Refused r ≡ answer_of (list_into xs (length B)) → refusal r ≡ listing_of xs
+  pub list-refused : (r : Refusal) → Err r ≡ answer_of (list_into xs (length B)) → refusal r ≡ listing_of xs
   unfolding list_into listing_of Short
   list-refused r a = go (onward (read_listed xs) compile) (compiled-short xs) a
     where
-      go : (o : Outcome Code) → Short o → Refused r ≡ answer_of (Into o) → refusal r ≡ printed o
+      go : (o : Outcome Code) → Short o → Err r ≡ answer_of (Into o) → refusal r ≡ printed o
       go (refused s) short a = let e : r ≡ s = cc in ap refusal e
       go (done c) short a =
           let e = fitting-true (length B) (listing c) (omega (arith, short c refl)) in
-          let d : Refused r ≡ Done (length (listing c)) = a ∙ ap answer_of e in
+          let d : Err r ≡ Ok (length (listing c)) = a ∙ ap answer_of e in
           let z : ◌≡◌ {A = ℕ} 0 1 = cc in
           absurd (omega arith)
 
   -- THEOREM: `refused` and its number
-  pub list-told : (r : Refusal) (C D : List ℕ) (a : Answer) (n : ℕ) → length C ≡ length B
-      → Refused r ≡ answer_of (list_into xs (length B)) → a ≡ answer_of (fitting (length C) (refusal r))
+  pub list-told : (r : Refusal) (C D : List ℕ) (a : Result ℕ Refusal) (n : ℕ) → length C ≡ length B
+      → Err r ≡ answer_of (list_into xs (length B)) → a ≡ answer_of (fitting (length C) (refusal r))
       → D ≡ output_of (fitting (length C) (refusal r)) C → n ≡ answer_value a → (take n D ≡ listing_of xs)
       × IsPrefixLen n D
   list-told r C D a n same told answered w v =

@@ -6,7 +6,6 @@ ghost use Rattle.std.specs.Prelude.{◌≡◌, ◌≤◌, length, take};
 ghost use Rattle.io.specs.Counts.{IsPrefixLen};
 ghost use Rattle.view_job.specs.Listings.{listing_of};
 
-use answer::Answer;
 use files::read_full;
 use view_job::{list_run_length, tell_refusal};
 
@@ -18,8 +17,8 @@ fn list(job: &[u8], out: &mut [u8]) -> usize
     ensures past { IsPrefixLen result out.new }
 {
     match list_run_length(job, out) {
-        Answer::Done(size) => size,
-        Answer::Refused(r) => answer::answer_value(tell_refusal(r, out)),
+        Ok(size) => size,
+        Err(r) => answer::answer_value(tell_refusal(r, out)),
     }
 }
 

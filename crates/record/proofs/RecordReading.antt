@@ -1,14 +1,12 @@
 -- A record read check by check: the header's numbers are in range, and what each check comes to.
--- In order: below-bytes, head-range, ranges_in; good-not; checked-short, checked-front, checked-length, checked-rest,
+-- In order: below-bytes, head-range, ranges_in; checked-short, checked-front, checked-length, checked-rest,
 -- checked-good.
 -- Assumes nothing.
 use Rattle.std.proofs.Common.{◌≡◌, ◌&&◌, ◌^◌, ◌≤◌, ◌<◌}
 use Rattle.laws.proofs.All.{sym, ap, subst, ◌∙◌, true, false, List, ℕ, arith, T, leb, ltb}
 use Rattle.laws.proofs.All.{eqb, le→leb, lt→ltb, lit<, length, get_or, take, drop, replicate, sum, Below, below-drop}
-use Rattle.laws.proofs.All.{and→, →and, never}
-use Rattle.answer.specs.declared.Refusal.{Refusal}
+use Rattle.laws.proofs.All.{and→, →and}
 use Rattle.answer.specs.declared.Refusal.TheVariants.{Field, Length}
-use Rattle.answer.specs.declared.Verdict.TheVariants.{Good, Bad}
 use Rattle.answer.specs.Outcomes.{done, refused, unless}
 use Rattle.bits.specs.Fields.{read, bits_of}
 use Rattle.bits.proofs.Fields.{read_at, below-write, value-take}
@@ -54,10 +52,6 @@ ranges-of bs b g =
 pub ranges_in : (xs : List ℕ) (h : Head) → h ≡ head_of (read header (bits_of xs)) → good_head h ≡ true → Ranges h
 ranges_in xs h e g =
     rw e (ranges-of (bits_of xs) (below-bytes xs) (subst T (sym (ap good_head (sym e) ∙ g)) tt))
-
--- a good verdict is no refusal
-pub good-not : {A : Type 0} (x : Refusal) → Good ≡ Bad x → A
-good-not x e = never (cc)
 
 -- ---- the outcome at each return of the code
 module _ (xs : List ℕ) where

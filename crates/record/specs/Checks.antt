@@ -1,16 +1,16 @@
 -- A record's fields read and checked, before the two checks of the table: "8 below five", "header by 7, 8, the rest by
 -- 7"; and what values of the code's structs stand for.
--- In order: code_at, rest_good, fields_good, fields_checked; outcome_in, no_table; pack_with.
+-- In order: code_at, rest_good, fields_good, fields_checked; outcome_in; pack_with.
 -- Assumes nothing.
-use Rattle.std.specs.Prelude.{Bool, List, ℕ, leb, eqb, length, replicate}
+use Rattle.std.specs.Prelude.{Bool, List, ℕ, Result, leb, eqb, length}
+use Rattle.answer.specs.declared.Refusal.{Refusal}
 use Rattle.answer.specs.declared.Refusal.TheVariants.{Field, Length}
-use Rattle.answer.specs.Outcomes.{Outcome, done, unless, verdict_on}
+use Rattle.answer.specs.Outcomes.{Outcome, done, unless, outcome_of}
 use Rattle.bits.specs.Fields.{read, bits_of}
 use Rattle.table.specs.Rows.{Code}
 use Rattle.table.specs.declared.Head.{Head}
 use Rattle.table.specs.declared.Table.{Table}
 use Rattle.table.specs.Value.{code_in, ready}
-use Rattle.record.specs.declared.TableAnswer.{TableAnswer}
 use Rattle.record.specs.Layout.{header, header_bytes, head_of, size, widths, code_of}
 use Rattle.record.specs.Parse.{good_head, good_rest, pack_into}
 
@@ -35,23 +35,8 @@ fields_checked xs =
     (let bs = bits_of xs in fields_good (length xs) (head_of (read header bs)) bs)
 
 -- what an answer with a table comes to
-abbrev pub outcome_in : TableAnswer → Outcome Code
-outcome_in r = verdict_on r.verdict (code_in r.table)
-
--- the table that stands beside a refusal: every number in it is 0
-unfoldable pub no_table : Table
-no_table = record {
-  p = 0;
-  q = 0;
-  states = 0;
-  memory = 0;
-  lookahead = 0;
-  constraint = record { states = 0; zero = replicate 16 0; one = replicate 16 0 };
-  start = 0;
-  tail = 0;
-  word = replicate 2048 0;
-  next = replicate 2048 0;
-}
+abbrev pub outcome_in : Result Table Refusal → Outcome Code
+outcome_in r = outcome_of code_in r
 
 -- the record of a table by value in lent bytes, with 7 for a value of the struct whose fields are not in range
 unfoldable pub pack_with : Table → ℕ → Outcome (List ℕ)

@@ -31,16 +31,14 @@ pub fn states_of(bytes: &[u8], count: usize) -> Constraint
 {
     let mut zero = [0u8; 16];
     let mut one = [0u8; 16];
-    let mut s = 0;
-    while s < count {
+    for s in 0..count {
         zero[s] = next_of(bytes, FRONT + s * STATE);
         one[s] = next_of(bytes, FRONT + 5 + s * STATE);
-        s += 1;
     }
     Constraint {
         states: count,
-        zero: zero,
-        one: one,
+        zero,
+        one,
     }
 }
 
@@ -58,10 +56,8 @@ pub fn column(
     ensures answer { Column (bits_of bytes.now) n edges first step width result }
 {
     let mut a = [0u8; 2048];
-    let mut e = 0;
-    while e < edges {
+    for e in 0..edges {
         a[e / n * 16 + e % n] = bits::get(bytes, first + e * step, width);
-        e += 1;
     }
     a
 }
@@ -84,10 +80,10 @@ pub fn table_of(bytes: &[u8], f: Head) -> Table
         states: f.states,
         memory: f.memory,
         lookahead: f.lookahead,
-        constraint: constraint,
+        constraint,
         start: f.start,
         tail: f.tail,
-        word: word,
-        next: next,
+        word,
+        next,
     }
 }

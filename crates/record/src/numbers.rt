@@ -8,7 +8,6 @@ ghost use Rattle.record.specs.Places.{Small};
 
 use table::Head;
 use table::chains::ways;
-use table::ready::between;
 
 // How many bits the numbers in front have, and how many a constraint state.
 pub const FRONT: usize = 34;
@@ -29,14 +28,14 @@ pub fn front_of(bytes: &[u8]) -> Head
     let start = bits::get(bytes, 26, 4) as usize;
     let tail = bits::get(bytes, 30, 4) as usize;
     Head {
-        p: p,
-        q: q,
-        states: states,
-        memory: memory,
-        lookahead: lookahead,
-        count: count,
-        start: start,
-        tail: tail,
+        p,
+        q,
+        states,
+        memory,
+        lookahead,
+        count,
+        start,
+        tail,
     }
 }
 
@@ -44,16 +43,7 @@ pub fn front_of(bytes: &[u8]) -> Head
 pub fn good_front(f: Head) -> bool
     ensures answer { result ≡ good_head f }
 {
-    if !between(f.p, 1, 4) {
-        return false;
-    }
-    if !between(f.q, 1, 8) {
-        return false;
-    }
-    if f.count <= f.start {
-        return false;
-    }
-    f.tail < ways(f.p)
+    (1..=4).contains(&f.p) && (1..=8).contains(&f.q) && f.start < f.count && f.tail < ways(f.p)
 }
 
 // How many bits the fields have.

@@ -2,14 +2,12 @@
 -- In order: followable, near; judged-disobeys, judged-fails, judged-good; parse-read, parse-bad;
 -- check-bad, check-read.
 -- Assumes nothing.
-use Rattle.std.proofs.Common.{◌≡◌, ◌≤◌}
+use Rattle.std.proofs.Common.{◌≡◌, ◌≤◌, Ok, Err}
 use Rattle.laws.proofs.All.{sym, ◌∙◌, ap, true, false, List, [], ℕ, arith, T}
 use Rattle.answer.specs.declared.Refusal.{Refusal}
 use Rattle.answer.specs.declared.Refusal.TheVariants.{Disobeys, WindowFails}
-use Rattle.answer.specs.declared.Answer.TheVariants.{Done, Refused}
-use Rattle.answer.specs.declared.Verdict.TheVariants.{Good, Bad}
-use Rattle.answer.specs.Outcomes.{done, unless, refused, onward, verdict_on, answer_of}
-use Rattle.answer.proofs.Outcomes.{unless-false, said-good, said-bad}
+use Rattle.answer.specs.Outcomes.{done, unless, refused, onward, answer_of}
+use Rattle.answer.proofs.Outcomes.{unless-false}
 use Rattle.table.specs.declared.Table.{Table}
 use Rattle.table.specs.Rows.{Code}
 use Rattle.table.specs.Value.{code_in, ready}
@@ -17,8 +15,7 @@ use Rattle.table.proofs.ReadyTables.{ready→, ready-formed, ready-start}
 use Rattle.window.specs.Works.{works}
 use Rattle.record_obeys.specs.Obeys.{obeys}
 use Rattle.record_obeys.specs.Obeying.{Followable}
-use Rattle.record.specs.declared.TableAnswer.{TableAnswer}
-use Rattle.record.specs.Checks.{fields_checked, outcome_in}
+use Rattle.record.specs.Checks.{fields_checked}
 use Rattle.record_check.specs.Parse.{judged, parse, checked_only}
 
 -- a table whose fields are in range can be followed through its constraint
@@ -44,27 +41,19 @@ judged-good c e f =
     ∙ ap (λ b. unless WindowFails b (done c)) f
 
 -- ---- a reading goes on to the two checks
-pub parse-read : (xs : List ℕ) (r : TableAnswer) → outcome_in r ≡ fields_checked xs → r.verdict ≡ Good
-    → parse xs ≡ judged (code_in r.table)
+pub parse-read : (xs : List ℕ) (c : Code) → done c ≡ fields_checked xs → parse xs ≡ judged c
 unfolding parse
-parse-read xs r e q =
-    ap (λ o. onward o judged) (said-good r.verdict (code_in r.table) (fields_checked xs) e q)
+parse-read xs c e = ap (λ o. onward o judged) (sym e)
 
-pub parse-bad : (xs : List ℕ) (r : TableAnswer) (x : Refusal) → outcome_in r ≡ fields_checked xs → r.verdict ≡ Bad x
-    → parse xs ≡ refused x
+pub parse-bad : (xs : List ℕ) (x : Refusal) → refused x ≡ fields_checked xs → parse xs ≡ refused x
 unfolding parse
-parse-bad xs r x e q =
-    ap (λ o. onward o judged) (said-bad r.verdict (code_in r.table) (fields_checked xs) e x q)
+parse-bad xs x e = ap (λ o. onward o judged) (sym e)
 
 -- ---- the checker's answer
-pub check-bad : (xs : List ℕ) (r : TableAnswer) (x : Refusal) → outcome_in r ≡ parse xs → r.verdict ≡ Bad x
-    → Refused x ≡ answer_of (checked_only xs)
+pub check-bad : (xs : List ℕ) (x : Refusal) → refused x ≡ parse xs → Err x ≡ answer_of (checked_only xs)
 unfolding checked_only
-check-bad xs r x e q =
-    ap (λ o. answer_of (onward o (λ c. done []))) (ap (λ v. verdict_on v (code_in r.table)) (sym q) ∙ e)
+check-bad xs x e = ap (λ o. answer_of (onward o (λ c. done []))) e
 
-pub check-read : (xs : List ℕ) (r : TableAnswer) → outcome_in r ≡ parse xs → r.verdict ≡ Good
-    → Done 0 ≡ answer_of (checked_only xs)
+pub check-read : (xs : List ℕ) (c : Code) → done c ≡ parse xs → Ok 0 ≡ answer_of (checked_only xs)
 unfolding checked_only
-check-read xs r e q =
-    ap (λ o. answer_of (onward o (λ c. done []))) (ap (λ v. verdict_on v (code_in r.table)) (sym q) ∙ e)
+check-read xs c e = ap (λ o. answer_of (onward o (λ c. done []))) e

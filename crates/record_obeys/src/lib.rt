@@ -8,7 +8,6 @@ ghost use Rattle.record_queue.specs.Places.{pair_after, finds_at, Queue};
 ghost use Rattle.record_obeys.specs.Obeys.{obeys};
 ghost use Rattle.record_obeys.specs.Obeying.{Followed, Followable};
 
-use constraint::power;
 use record_queue::{finds_all, put, put_targets};
 use table::{Table, chains};
 
@@ -29,6 +28,7 @@ fn follow_from(
 {
     let mut count = put(start, 0, set, list);
     let mut i = 0;
+    // The list grows while it is followed, so there is no range to go over.
     while i < count {
         let x = list[i] as usize;
         if !finds_all(word, power, n, x) {
@@ -59,6 +59,6 @@ pub fn obeys(t: Table) -> bool
     let n = chains::ways(t.p);
     let word = t.word;
     let next = t.next;
-    let power = power::power_codes(t.constraint, t.q);
+    let power = t.constraint.power_codes(t.q);
     follow(&word, &next, &power, n, t.start)
 }

@@ -1,5 +1,6 @@
 // Pairs of a table state and a constraint state, one edge on, and the list of those that are still to be followed. The
-// pair of table state s and constraint state k has the place s * 16 + k.
+// pair of table state s and constraint state k has the place s * 16 + k. Set, list and its length stay apart, and no
+// struct with an invariant holds them: `Queue` gives each member its place, and an invariant may have one proof only.
 #![tactic(auto)]
 
 ghost use Rattle.std.specs.Prelude.{◌≡◌, ◌≤◌, ◌<◌};
@@ -8,7 +9,8 @@ ghost use Rattle.record_queue.specs.Places.{state_after, pair_after, finds_at, Q
 
 use table::chains::wide;
 
-// The constraint state to which datum d leads from the pair at x, 255 for none.
+// The constraint state to which datum d leads from the pair at x, 255 for none: a number, as a constraint's bytes and
+// the definition `none` have it.
 fn state_after(word: &[u8; 2048], power: &[u8; 4096], x: usize, d: usize) -> usize
     requires { (x < 2048) × (d < 16) }
     ensures answer { (result ≡ state_after word.now power.now x d) × (result < 256) }
@@ -16,16 +18,17 @@ fn state_after(word: &[u8; 2048], power: &[u8; 4096], x: usize, d: usize) -> usi
     wide(power[x % 16 * 256 + wide(word[x / 16 * 16 + d])])
 }
 
-// The place to which datum d carries the pair at x, 2048 for none.
+// The place to which datum d carries the pair at x, 2048 for none: a number, as the definition `pair_after` has it.
 fn pair_after(word: &[u8; 2048], next: &[u8; 2048], power: &[u8; 4096], x: usize, d: usize) -> usize
     requires { (x < 2048) × (d < 16) }
     ensures answer { result ≡ pair_after word.now next.now power.now x d }
 {
     let k = state_after(word, power, x, d);
     if k == 255 {
-        return 2048;
+        2048
+    } else {
+        wide(next[x / 16 * 16 + d]) * 16 + k
     }
-    wide(next[x / 16 * 16 + d]) * 16 + k
 }
 
 // The place y put into the set and at the end of the list, unless it is there; the length of the list.
@@ -34,10 +37,7 @@ pub fn put(y: usize, m: usize, set: &mut [bool; 2048], list: &mut [u16; 2048]) -
     ensures written { Grown (λ d. y) 1 set.old list.old m set.new
         list.new result }
 {
-    if 2048 <= y {
-        return m;
-    }
-    if set[y] {
+    if y >= 2048 || set[y] {
         return m;
     }
     set[y] = true;
@@ -61,11 +61,9 @@ pub fn put_targets(
         set.old list.old m set.new list.new result }
 {
     let mut count = m;
-    let mut d = 0;
-    while d < n {
+    for d in 0..n {
         let y = pair_after(word, next, power, x, d);
         count = put(y, count, set, list);
-        d += 1;
     }
     count
 }
@@ -75,12 +73,5 @@ pub fn finds_all(word: &[u8; 2048], power: &[u8; 4096], n: usize, x: usize) -> b
     requires { (x < 2048) × (n ≤ 16) }
     ensures answer { result ≡ all (finds_at word.now power.now x) (range n) }
 {
-    let mut d = 0;
-    while d < n {
-        if state_after(word, power, x, d) == 255 {
-            return false;
-        }
-        d += 1;
-    }
-    true
+    (0..n).all(|d| state_after(word, power, x, d) != 255)
 }

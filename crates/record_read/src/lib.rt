@@ -1,39 +1,34 @@
 // A record's bytes read, with the refusals of its fields.
 #![tactic(auto)]
 
-ghost use Rattle.std.specs.Prelude.{◌≡◌, T};
+ghost use Rattle.std.specs.Prelude.{◌≡◌, T, IfOk};
 ghost use Rattle.table.specs.Value.{ready};
-ghost use Rattle.answer.specs.declared.Refusal.{Refusal};
-ghost use Rattle.answer.specs.declared.Verdict.TheVariants.{Good, Bad};
-ghost use Rattle.record.specs.Checks.{fields_checked, outcome_in, no_table};
+ghost use Rattle.record.specs.Checks.{fields_checked, outcome_in};
 
-use answer::{Refusal, Verdict};
-use record::{TableAnswer, columns, declined, numbers};
+use answer::Refusal;
+use record::{columns, numbers};
+use table::Table;
 
 mod ranges;
 
 // The table that a record's bytes hold, with every check of a record but 9 and 10: "8 below five", "header by 7, 8, the
 // rest by 7".
-pub fn read(bytes: &[u8]) -> TableAnswer
+pub fn read(bytes: &[u8]) -> Result<Table, Refusal>
     ensures answer { outcome_in result ≡ fields_checked bytes.now }
-    ensures kept { result.verdict ≡ Good → T (ready result.table) }
-    ensures empty { (x : Refusal) → result.verdict ≡ Bad x → result.table ≡ no_table }
+    ensures kept { IfOk result (λ t. T (ready t)) }
 {
     if bytes.len() < 5 {
-        return declined(Refusal::Length);
+        return Err(Refusal::Length);
     }
     let f = numbers::front_of(bytes);
     if !numbers::good_front(f) {
-        return declined(Refusal::Field); // with the header, before 8
+        return Err(Refusal::Field); // with the header, before 8
     }
     if bytes.len() != numbers::size_of(f) {
-        return declined(Refusal::Length);
+        return Err(Refusal::Length);
     }
     if !ranges::good_rest(bytes, f) {
-        return declined(Refusal::Field);
+        return Err(Refusal::Field);
     }
-    TableAnswer {
-        verdict: Verdict::Good,
-        table: columns::table_of(bytes, f),
-    }
+    Ok(columns::table_of(bytes, f))
 }

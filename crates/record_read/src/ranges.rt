@@ -20,9 +20,10 @@ fn good_next(bytes: &[u8], at: usize, count: usize) -> bool
 {
     let next = bits::get(bytes, at + 1, 4) as usize;
     if bits::get(bytes, at, 1) == 0 {
-        return next == 0;
+        next == 0
+    } else {
+        next < count
     }
-    next < count
 }
 
 // Whether the next states of `count` constraint states are in range.
@@ -30,14 +31,7 @@ fn good_states(bytes: &[u8], count: usize) -> bool
     requires { (count ≤ 16) × (header_bits + count * state_size ≤ 8 * length bytes.now) }
     ensures answer { result ≡ all (good_at (bits_of bytes.now) count) (range (2 * count)) }
 {
-    let mut i = 0;
-    while i < 2 * count {
-        if !good_next(bytes, FRONT + i * 5, count) {
-            return false;
-        }
-        i += 1;
-    }
-    true
+    (0..2 * count).all(|i| good_next(bytes, FRONT + i * 5, count))
 }
 
 // Whether every edge leads to one of the states: the next state of the first stands at the bit place `first`, and those
@@ -47,14 +41,7 @@ fn good_targets(bytes: &[u8], edges: usize, first: usize, step: usize, states: u
         × (first + edges * step + 7 ≤ 8 * length bytes.now + step) }
     ensures answer { result ≡ all (target_at (bits_of bytes.now) first step states) (range edges) }
 {
-    let mut e = 0;
-    while e < edges {
-        if states <= bits::get(bytes, first + e * step, 7) as usize {
-            return false;
-        }
-        e += 1;
-    }
-    true
+    (0..edges).all(|e| (bits::get(bytes, first + e * step, 7) as usize) < states)
 }
 
 // Whether zero bits fill the last byte.
@@ -71,18 +58,9 @@ pub fn good_rest(bytes: &[u8], f: Head) -> bool
     requires { Small f × (length bytes.now ≡ size f) }
     ensures answer { result ≡ rest_good f (bits_of bytes.now) }
 {
-    if !good_states(bytes, f.count) {
-        return false;
-    }
     let edges = f.states * bits::power(f.p);
-    if !good_targets(
-        bytes,
-        edges,
-        FRONT + f.count * STATE + f.q,
-        f.q + 7,
-        f.states,
-    ) {
-        return false;
-    }
-    good_fill(bytes, f)
+    let first = FRONT + f.count * STATE + f.q;
+    good_states(bytes, f.count)
+        && good_targets(bytes, edges, first, f.q + 7, f.states)
+        && good_fill(bytes, f)
 }

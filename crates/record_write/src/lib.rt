@@ -11,12 +11,11 @@ ghost use Rattle.record.specs.Checks.{pack_with};
 ghost use Rattle.record.specs.Layout.{header_bits, header_bytes, state_size, size, pack};
 ghost use Rattle.record.specs.Parts.{front_bits, next_bits, states_bits, rows_bits};
 
-use answer::{Answer, Refusal};
+use answer::Refusal;
 use constraint::Constraint;
 use record::numbers;
 use record::numbers::{FRONT, STATE};
-use table::ready::is_ready;
-use table::{Head, Table, head_of};
+use table::{Head, Table};
 
 // The lowest `width` bits of x become the field at the bit place `at`.
 fn put_low(out: &mut [u8], at: usize, width: usize, x: usize)
@@ -25,16 +24,6 @@ fn put_low(out: &mut [u8], at: usize, width: usize, x: usize)
     ensures kept { length out.new ≡ length out.old }
 {
     bits::put(out, at, width, bits::low_bits(x, width));
-}
-
-// One less, and 0 for 0.
-fn less_one(x: usize) -> usize
-    ensures answer { result ≡ x - 1 }
-{
-    if x == 0 {
-        return 0;
-    }
-    x - 1
 }
 
 // The numbers in front.
@@ -46,10 +35,10 @@ fn put_front(out: &mut [u8], f: Head)
 {
     put_low(out, 0, 3, f.p);
     put_low(out, 3, 4, f.q);
-    put_low(out, 7, 7, less_one(f.states));
+    put_low(out, 7, 7, f.states.saturating_sub(1));
     put_low(out, 14, 4, f.memory);
     put_low(out, 18, 4, f.lookahead);
-    put_low(out, 22, 4, less_one(f.count));
+    put_low(out, 22, 4, f.count.saturating_sub(1));
     put_low(out, 26, 4, f.start);
     put_low(out, 30, 4, f.tail);
 }
@@ -60,11 +49,12 @@ fn put_next(out: &mut [u8], at: usize, next: u8)
     ensures written { bits_of out.new ≡ spliced at (next_bits next) (bits_of out.old) }
     ensures kept { length out.new ≡ length out.old }
 {
-    if next == 255 {
-        bits::put(out, at, 5, 0);
-        return;
-    }
-    bits::put(out, at, 5, 16 + bits::low_bits(next as usize, 4));
+    let field = if next == 255 {
+        0
+    } else {
+        16 + bits::low_bits(next as usize, 4)
+    };
+    bits::put(out, at, 5, field);
 }
 
 // The constraint, after the numbers in front.
@@ -74,12 +64,9 @@ fn put_states(out: &mut [u8], constraint: Constraint)
         (bits_of out.old) }
     ensures kept { length out.new ≡ length out.old }
 {
-    let count = constraint.states;
-    let mut s = 0;
-    while s < count {
+    for s in 0..constraint.states {
         put_next(out, FRONT + s * STATE, constraint.zero[s]);
         put_next(out, FRONT + 5 + s * STATE, constraint.one[s]);
-        s += 1;
     }
 }
 
@@ -92,14 +79,11 @@ fn put_edges(out: &mut [u8], t: Table, first: usize)
 {
     let n = bits::power(t.p);
     let q = t.q;
-    let edges = t.states * n;
-    let mut e = 0;
-    while e < edges {
+    for e in 0..t.states * n {
         let i = e / n * 16 + e % n;
         let at = first + e * (q + 7);
         put_low(out, at, q, t.word[i] as usize);
         put_low(out, at + q, 7, t.next[i] as usize);
-        e += 1;
     }
 }
 
@@ -117,19 +101,19 @@ fn put_record(out: &mut [u8], t: Table, f: Head, long: usize)
 }
 
 // The record of a table into lent bytes: refusal 7 where a field is out of range, and 13 where they are too few.
-pub fn write(t: Table, out: &mut [u8]) -> Answer
+pub fn write(t: Table, out: &mut [u8]) -> Result<usize, Refusal>
     ensures answer { result ≡ answer_of (pack_with t (length out.old)) }
     ensures written { out.new ≡ output_of (pack_with t (length out.old))
         out.old }
 {
-    if !is_ready(t) {
-        return Answer::Refused(Refusal::Field);
+    if !t.is_ready() {
+        return Err(Refusal::Field);
     }
-    let f = head_of(t);
+    let f = t.head();
     let long = numbers::size_of(f);
     if out.len() < long {
-        return Answer::Refused(Refusal::ShortOutput);
+        return Err(Refusal::ShortOutput);
     }
     put_record(out, t, f, long);
-    Answer::Done(long)
+    Ok(long)
 }

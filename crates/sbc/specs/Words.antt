@@ -3,8 +3,7 @@
 -- Assumes nothing.
 use Rattle.std.specs.Prelude.{ℕ}
 use Rattle.word.specs.Words.{joined}
-use Rattle.set_check.specs.declared.SetAnswer.{SetAnswer}
-use Rattle.set_check.specs.Results.{set_number, set_value}
+use Rattle.set_check.specs.Results.{SetAnswer, set_number, set_value}
 
 -- the refusal's number (0 for a good set) and the value: how many records a good set has, or the number of the first
 -- bad one

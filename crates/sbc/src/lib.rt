@@ -19,11 +19,11 @@ ghost use Rattle.word.specs.Words.{word_of};
 ghost use Rattle.sbc.specs.Words.{set_word_of};
 ghost use Rattle.sbc.specs.Version.{version};
 
-use set_check::SetAnswer;
+use set_check::BadRecord;
 use word::{join, word};
 
 // A set's answer as one number: the refusal's number times 2^56 plus the value.
-fn set_word(a: SetAnswer) -> u64
+fn set_word(a: Result<usize, BadRecord>) -> u64
     ensures answer { result ≡ set_word_of a }
 {
     join(set_check::set_number(a), set_check::set_value(a))

@@ -1,4 +1,5 @@
 // The functions exported for C and Rust. Each takes bytes as pointer and length, and answers one number.
+// They stand twice, here and in `sbc`, for the C interface: a crate is a library, which the theorems use, or a static one.
 #![tactic(auto)]
 
 ghost use Rattle.std.specs.Prelude.{◌≡◌, length};

@@ -2,6 +2,7 @@
 -- In order: step-placed, step-record; reached, the walk over good records; set-bare, set-bad, set-left, set-good;
 -- Stops, Counts, why; set-order; set-count.
 -- Assumes nothing.
+use Rattle.std.proofs.Common.{Ok}
 use Rattle.std.proofs.Common.{◌≡◌, ◌⊎◌, ◌↔◌, ◌∷◌, ◌+◌, ◌≤◌, ◌<◌, if◌then◌else◌}
 use Rattle.laws.proofs.All.{refl, sym, ap, subst, ◌∙◌, inl, inr, Bool, true, false, List, [], ℕ}
 use Rattle.laws.proofs.All.{zero, suc, arith, dec_lt, leb, length, get_or, take, drop}
@@ -10,17 +11,14 @@ use Rattle.answer.specs.declared.Refusal.TheVariants.{Length}
 use Rattle.answer.specs.Outcomes.{Outcome, done, refused}
 use Rattle.table.specs.Rows.{Code}
 use Rattle.record_check.specs.Parse.{parse}
-use Rattle.set_places.specs.declared.Place.TheVariants.{At, Nowhere}
-use Rattle.set_places.specs.Offsets.{length_at, end_at, place_at, offset_of}
+use Rattle.set_places.specs.Offsets.{found, length_at, end_at, place_at, offset_of}
 use Rattle.set_places.proofs.Offsets.{record-at}
-use Rattle.set_check.specs.declared.SetAnswer.{SetAnswer}
-use Rattle.set_check.specs.declared.SetAnswer.TheVariants.{Good, Bad}
-use Rattle.set_check.specs.declared.Step.TheVariants.{Stop}
 use Rattle.set_check.specs.Sets.{read_set}
-use Rattle.set_check.specs.Results.{set_answer, step_of, step_at}
+use Rattle.set_check.specs.Results.{bad, SetAnswer, set_answer, step_of, step_at}
 use Rattle.set_check.specs.Outcomes.{outcome_in, record_of, GoodTo}
 use Rattle.set_check.proofs.Walks.{Walking, set-empty, walking_start, walking-stop, walking_on, walking-left}
 use Rattle.set_check.proofs.Walks.{walking-end}
+use Rattle.std.proofs.Common.{Err, None}
 
 -- ---- a step of the walk is what its record comes to
 step-placed : (s : List ℕ) (at : ℕ) → step_at s at ≡ step_of (end_at s at) (outcome_in s (place_at s at))
@@ -28,8 +26,8 @@ unfolding step_at
 step-placed s at = go (leb (end_at s at) (length s))
   where
     go : (b : Bool)
-        → (if b then step_of (end_at s at) (parse (take (length_at s at) (drop (at + 2) s))) else Stop Length)
-        ≡ step_of (end_at s at) (outcome_in s (if b then At (at + 2) (length_at s at) else Nowhere))
+        → (if b then step_of (end_at s at) (parse (take (length_at s at) (drop (at + 2) s))) else Err Length)
+        ≡ step_of (end_at s at) (outcome_in s (if b then found (at + 2) (length_at s at) else None))
     go true = refl
     go false = refl
 
@@ -57,7 +55,7 @@ module _ (s : List ℕ) where
       (subst (λ j. Walking s (get_or s 0 0) j (offset_of s (suc i))) one v, k)
 
   -- ---- the four cases
-  set-bare : length s ≡ 0 → set_answer (read_set s) ≡ Bad 0 Length
+  set-bare : length s ≡ 0 → set_answer (read_set s) ≡ Err (bad 0 Length)
   set-bare e = sym (set-empty s e)
 
   some_bytes : (i : ℕ) → i < get_or s 0 0 → 0 < length s
@@ -68,20 +66,20 @@ module _ (s : List ℕ) where
       go (x ∷ xs) h = omega arith
 
   set-bad : (i : ℕ) (r : Refusal) → i < get_or s 0 0 → GoodTo s i → record_of s i ≡ refused r
-      → set_answer (read_set s) ≡ Bad i r
+      → set_answer (read_set s) ≡ Err (bad i r)
   set-bad i r h g e =
       let (w, _) = reached (some_bytes i h) i (omega arith) g in
       sym (walking-stop s (get_or s 0 0) i (offset_of s i) r h w (step-record s i (refused r) h e))
 
   set-left : 0 < length s → GoodTo s (get_or s 0 0) → offset_of s (get_or s 0 0) < length s
-      → set_answer (read_set s) ≡ Bad (get_or s 0 0) Length
+      → set_answer (read_set s) ≡ Err (bad (get_or s 0 0) Length)
   set-left h g l =
       let c = get_or s 0 0 in
       let (w, _) = reached h c (omega arith) g in
       sym (walking-left s c c (offset_of s c) (omega arith) (omega arith) w l)
 
   set-good : 0 < length s → GoodTo s (get_or s 0 0) → length s ≤ offset_of s (get_or s 0 0)
-      → set_answer (read_set s) ≡ Good (get_or s 0 0)
+      → set_answer (read_set s) ≡ Ok (get_or s 0 0)
   set-good h g l =
       let c = get_or s 0 0 in
       let (w, _) = reached h c (omega arith) g in
@@ -99,8 +97,8 @@ module _ (s : List ℕ) where
   Counts c = (0 < length s) × (c ≡ get_or s 0 0) × GoodTo s c × (offset_of s c ≡ length s)
 
   abbrev Why : SetAnswer → Type 0
-  Why (Good c) = Counts c
-  Why (Bad i r) = Stops i r
+  Why (Ok c) = Counts c
+  Why (Err b) = Stops b.number b.refusal
 
   more-good : (i : ℕ) (c : Code) → GoodTo s i → record_of s i ≡ done c → GoodTo s (suc i)
   more-good i c g e k h = elim (dec_lt k i) [
@@ -135,23 +133,23 @@ module _ (s : List ℕ) where
   ]
 
   -- THEOREM: when a set is answered with the number i and the refusal r
-  pub set-order : (i : ℕ) (r : Refusal) → (set_answer (read_set s) ≡ Bad i r) ↔ Stops i r
+  pub set-order : (i : ℕ) (r : Refusal) → (set_answer (read_set s) ≡ Err (bad i r)) ↔ Stops i r
   set-order i r = (
     (λ e. subst Why e why),
     (λ x. elim x [
-      | inl (z, p, q) ↦ set-bare z ∙ ap (λ j. Bad j Length) (sym p) ∙ ap (Bad i) (sym q)
+      | inl (z, p, q) ↦ set-bare z ∙ ap (λ j. Err (bad j Length)) (sym p) ∙ ap (λ s. Err (bad i s)) (sym q)
       | inr (inl (l, g, e)) ↦ set-bad i r l g e
       | inr (inr (h, p, g, l, q)) ↦
           set-left h (subst (GoodTo s) p g) (subst (λ j. offset_of s j < length s) p l)
-          ∙ ap (λ j. Bad j Length) (sym p) ∙ ap (Bad i) (sym q)
+          ∙ ap (λ j. Err (bad j Length)) (sym p) ∙ ap (λ s. Err (bad i s)) (sym q)
     ]),
   )
 
   -- THEOREM: when it is answered with a count
-  pub set-count : (c : ℕ) → (set_answer (read_set s) ≡ Good c) ↔ Counts c
+  pub set-count : (c : ℕ) → (set_answer (read_set s) ≡ Ok c) ↔ Counts c
   set-count c = (
     (λ e. subst Why e why),
     (λ (h, p, g, l).
         let l' : offset_of s (get_or s 0 0) ≡ length s = subst (λ j. offset_of s j ≡ length s) p l in
-        set-good h (subst (GoodTo s) p g) (omega arith) ∙ ap Good (sym p)),
+        set-good h (subst (GoodTo s) p g) (omega arith) ∙ ap Ok (sym p)),
   )

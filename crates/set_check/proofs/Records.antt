@@ -8,8 +8,7 @@ use Rattle.answer.specs.declared.Refusal.TheVariants.{Length}
 use Rattle.answer.specs.Outcomes.{done}
 use Rattle.table.specs.Rows.{Code}
 use Rattle.record_check.specs.Parse.{parse}
-use Rattle.set_places.specs.declared.Place.TheVariants.{At}
-use Rattle.set_places.specs.Offsets.{length_at, end_at, place_at, offset_of, record_place}
+use Rattle.set_places.specs.Offsets.{found, length_at, end_at, place_at, offset_of, record_place}
 use Rattle.set_places.proofs.Offsets.{place-whole, record-at}
 use Rattle.set_check.specs.Sets.{codes, stopped, walked, read_set}
 use Rattle.set_check.proofs.Sets.{next→}
@@ -21,7 +20,7 @@ Holds s start len c = parse (take len (drop start s)) ≡ done c
 
 -- the record at an offset is all there and holds the code c
 abbrev Stands : List ℕ → ℕ → Code → Type 0
-Stands s at c = (place_at s at ≡ At (at + 2) (length_at s at)) × Holds s (at + 2) (length_at s at) c
+Stands s at c = (place_at s at ≡ found (at + 2) (length_at s at)) × Holds s (at + 2) (length_at s at) c
 
 -- n records from number i on, with their codes
 abbrev Stood : List ℕ → ℕ → ℕ → List Code → Type 0
@@ -70,7 +69,7 @@ walked-places s (suc n) i cs e =
 pub good-places : (s : List ℕ) (cs : List Code) → read_set s ≡ codes cs
     → (length cs ≡ get_or s 0 0)
     × ((i : ℕ) (d : Code) → i < length cs
-    → (start : ℕ) × (len : ℕ) × (record_place s i ≡ At start len) × Holds s start len (get_or cs i d))
+    → (start : ℕ) × (len : ℕ) × (record_place s i ≡ found start len) × Holds s start len (get_or cs i d))
 unfolding read_set
 good-places [] cs e = never (cc)
 good-places (n ∷ xs) cs e =

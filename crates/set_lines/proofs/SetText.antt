@@ -1,40 +1,35 @@
 -- The lines of a set's records, as the code puts them.
--- In order: record-within, text-nowhere, text_at, part-line; line-bad, line-good; no_lines, lines_more.
+-- In order: record-within, text-nowhere, text_at, part-line; line-good; no_lines, lines_more.
 -- Assumes nothing.
-use Rattle.std.proofs.Common.{◌≡◌, ◌+◌, ◌-◌, ◌≤◌, if◌then◌else◌}
+use Rattle.std.proofs.Common.{◌≡◌, ◌++◌, ◌+◌, ◌-◌, ◌≤◌, if◌then◌else◌}
 use Rattle.laws.proofs.All.{refl, sym, ap, ◌∙◌, Bool, true, false, List, [], ℕ, arith, ltb}
-use Rattle.laws.proofs.All.{length, take, drop, get_or, length-map, length-drop, length-take-le, take-nil}
+use Rattle.laws.proofs.All.{length, take, drop, get_or, length-map, length-drop, length-take-le}
 use Rattle.laws.proofs.All.{range, concat-more, length_from}
-use Rattle.text.specs.Texts.{Added}
-use Rattle.text.proofs.Adding.{added-same, added_more}
-use Rattle.answer.specs.declared.Refusal.{Refusal}
-use Rattle.answer.specs.Outcomes.{Outcome, verdict_on}
+use Rattle.answer.specs.Outcomes.{Outcome, done}
 use Rattle.table.specs.declared.Table.{Table}
 use Rattle.table.specs.Rows.{Code}
 use Rattle.table.specs.Value.{code_in, row_in}
-use Rattle.answer.specs.declared.Verdict.{Verdict}
-use Rattle.answer.specs.declared.Verdict.TheVariants.{Good, Bad}
 use Rattle.record_check.specs.Parse.{parse}
-use Rattle.set_places.specs.declared.Place.TheVariants.{At, Nowhere}
-use Rattle.set_places.specs.Offsets.{place_at, offset_of, record_place}
+use Rattle.set_places.specs.Offsets.{found, place_at, offset_of, record_place}
 use Rattle.set_places.proofs.Offsets.{place→}
 use Rattle.set_lines.specs.SetText.{good_line, record_line, placed_line, record_text, lines_to}
+use Rattle.std.proofs.Common.{None}
 
 -- ---- where a record stands
 module _ (s : List ℕ) (i : ℕ) where
-  pub record-within : (start len : ℕ) → record_place s i ≡ At start len → start + len ≤ length s
+  pub record-within : (start len : ℕ) → record_place s i ≡ found start len → start + len ≤ length s
   unfolding record_place
   record-within start len e = go (ltb i (get_or s 0 0)) e
     where
-      go : (b : Bool) → (if b then place_at s (offset_of s i) else Nowhere) ≡ At start len → start + len ≤ length s
+      go : (b : Bool) → (if b then place_at s (offset_of s i) else None) ≡ found start len → start + len ≤ length s
       go true e = let (p, q, h) = place→ s (offset_of s i) start len e in omega arith
       go false e = let z : ◌≡◌ {A = ℕ} 0 1 = cc in absurd (omega arith)
 
-  pub text-nowhere : record_place s i ≡ Nowhere → [] ≡ record_text s i
+  pub text-nowhere : record_place s i ≡ None → [] ≡ record_text s i
   unfolding record_text
   text-nowhere e = sym (ap (placed_line s i) e)
 
-  pub text_at : (start len : ℕ) → record_place s i ≡ At start len
+  pub text_at : (start len : ℕ) → record_place s i ≡ found start len
       → record_line i start len (parse (take len (drop start s))) ≡ record_text s i
   unfolding record_text
   text_at start len e = sym (ap (placed_line s i) e)
@@ -52,24 +47,19 @@ module _ (s : List ℕ) (i : ℕ) where
       ∙ ap (λ k. record_line i start k (parse (take len (drop start s)))) (length-take-le len (drop start s) l)
 
 -- ---- the line of a record
-module _ (i start len : ℕ) (v : Verdict) (t : Table) (o : Outcome Code) where
-  pub line-bad : (r : Refusal) → v ≡ Bad r → verdict_on v (code_in t) ≡ o → [] ≡ record_line i start len o
-  line-bad r e q = ap (record_line i start len) (sym (ap (λ v. verdict_on v (code_in t)) e) ∙ q)
-
-  pub line-good : v ≡ Good → verdict_on v (code_in t) ≡ o
+module _ (i start len : ℕ) (t : Table) (o : Outcome Code) where
+  pub line-good : done (code_in t) ≡ o
       → good_line i start len t.p t.q t.states t.memory t.lookahead ≡ record_line i start len o
-  line-good e q =
+  line-good q =
       ap (λ n. good_line i start len t.p t.q n t.memory t.lookahead)
       (sym (length-map (range t.states) (row_in t) ∙ length_from 0 t.states))
-      ∙ ap (record_line i start len) (sym (ap (λ v. verdict_on v (code_in t)) e) ∙ q)
+      ∙ ap (record_line i start len) q
 
 -- ---- the lines of all records
-pub no_lines : (s B : List ℕ) → Added (lines_to s 0) 0 B B 0
+pub no_lines : (s : List ℕ) → [] ≡ lines_to s 0
 unfolding lines_to
-no_lines s B = record { written = sym (take-nil (length B)); counts = (omega arith, refl); kept = refl; behind = refl }
+no_lines s = refl
 
-module _ (s B C D : List ℕ) (i at r : ℕ) where
-  pub lines_more : Added (lines_to s i) 0 B C at → Added (record_text s i) at C D r → Added (lines_to s (i + 1)) 0 B D r
-  unfolding lines_to
-  lines_more p q =
-      added-same (sym (concat-more (record_text s) i)) (added_more p q)
+pub lines_more : (s : List ℕ) (i : ℕ) → lines_to s i ++ record_text s i ≡ lines_to s (i + 1)
+unfolding lines_to
+lines_more s i = sym (concat-more (record_text s) i)

@@ -1,14 +1,13 @@
 -- What is printed of a good set: a line for each record, and how many there are.
 -- In order: good_line, record_line, placed_line; record_text, lines_to, set_text.
 -- Assumes nothing.
-use Rattle.std.specs.Prelude.{List, [], ◌∷◌, ◌++◌, map, ℕ, length, take, drop}
+use Rattle.std.specs.Prelude.{List, [], ◌∷◌, ◌++◌, map, ℕ, length, take, drop, Option, Some, None}
 use Rattle.laws.specs.Lists.{range, concat}
 use Rattle.sentences.specs.Sentences.{said}
 use Rattle.answer.specs.Outcomes.{Outcome, done, refused}
 use Rattle.table.specs.Rows.{Code}
 use Rattle.record_check.specs.Parse.{parse}
 use Rattle.set_places.specs.declared.Place.{Place}
-use Rattle.set_places.specs.declared.Place.TheVariants.{At, Nowhere}
 use Rattle.set_places.specs.Offsets.{record_place}
 
 -- the number of a record, its first byte and its length; p, q, states, m and a of its code
@@ -24,9 +23,9 @@ record_line i start len (done c) =
 record_line i start len (refused r) = []
 
 -- the record at a place of a set
-abbrev pub placed_line : List ℕ → ℕ → Place → List ℕ
-placed_line s i (At start len) = record_line i start len (parse (take len (drop start s)))
-placed_line s i Nowhere = []
+abbrev pub placed_line : List ℕ → ℕ → Option Place → List ℕ
+placed_line s i (Some p) = record_line i p.start p.len (parse (take p.len (drop p.start s)))
+placed_line s i None = []
 
 -- record i of a set
 unfoldable pub record_text : List ℕ → ℕ → List ℕ

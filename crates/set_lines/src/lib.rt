@@ -6,24 +6,20 @@ ghost use Rattle.text.specs.Texts.{Added};
 ghost use Rattle.record_check.specs.Parse.{parse};
 ghost use Rattle.set_lines.specs.SetText.{record_line, record_text, lines_to, set_text};
 
-use answer::Verdict;
-use sentences::put_sentence;
-use set_places::{Place, find};
-use text::put;
+use sentences::write_sentence;
+use set_places::find;
+use text::Writer;
 
 // The record that stands at a place.
-fn put_record_at(out: &mut [u8], at: usize, i: usize, start: usize, bytes: &[u8]) -> usize
-    ensures written { Added (record_line i start (length bytes.now) (parse bytes.now)) at out.old
-        out.new result }
+fn write_record_at(to: &mut Writer, i: usize, start: usize, bytes: &[u8])
+    ensures lent { to.new.out.ghost_name ≡ to.old.out.ghost_name }
+    ensures written { Added (record_line i start (length bytes.now) (parse bytes.now)) to.old.at to.old.out.now
+        to.new.out.now to.new.at }
 {
-    let r = record_check::load(bytes);
-    let v = r.verdict;
-    let t = r.table;
-    match v {
-        Verdict::Bad(_) => put(out, at, b""),
-        Verdict::Good => put_sentence(
-            out,
-            at,
+    match record_check::load(bytes) {
+        Err(_) => to.put(b""),
+        Ok(t) => write_sentence(
+            to,
             b"record # at byte #, # bytes: p #, q #, # states, m #, a #\n",
             &[
                 i,
@@ -40,35 +36,44 @@ fn put_record_at(out: &mut [u8], at: usize, i: usize, start: usize, bytes: &[u8]
 }
 
 // Record i of a set.
-fn put_record(out: &mut [u8], at: usize, set: &[u8], i: usize) -> usize
-    ensures written { Added (record_text set.now i) at out.old out.new result }
+fn write_record(to: &mut Writer, set: &[u8], i: usize)
+    ensures lent { to.new.out.ghost_name ≡ to.old.out.ghost_name }
+    ensures written { Added (record_text set.now i) to.old.at to.old.out.now to.new.out.now to.new.at }
 {
     match find(set, i) {
-        Place::Nowhere => put(out, at, b""),
-        Place::At { start, len } => {
-            let end = start + len;
-            put_record_at(out, at, i, start, &set[start..end])
+        None => to.put(b""),
+        Some(place) => {
+            let end = place.start + place.len;
+            write_record_at(to, i, place.start, &set[place.start..end]);
         }
     }
 }
 
 // The first n records of a set.
-fn put_records(out: &mut [u8], set: &[u8], n: usize) -> usize
-    ensures written { Added (lines_to set.now n) 0 out.old out.new result }
+fn write_records(to: &mut Writer, set: &[u8], n: usize)
+    ensures lent { to.new.out.ghost_name ≡ to.old.out.ghost_name }
+    ensures written { Added (lines_to set.now n) to.old.at to.old.out.now to.new.out.now to.new.at }
 {
-    let mut at = 0;
-    let mut i = 0;
-    while i < n {
-        at = put_record(out, at, set, i);
-        i += 1;
+    to.put(b"");
+    for i in 0..n {
+        write_record(to, set, i);
     }
-    at
 }
 
 // A good set of n records.
+pub fn write_set(to: &mut Writer, set: &[u8], n: usize)
+    ensures lent { to.new.out.ghost_name ≡ to.old.out.ghost_name }
+    ensures written { Added (set_text set.now n) to.old.at to.old.out.now to.new.out.now to.new.at }
+{
+    write_records(to, set, n);
+    write_sentence(to, b"# records, all good\n", &[n]);
+}
+
+// A good set of n records at the start of the lent bytes; the answer is the place after it.
 pub fn put_set(out: &mut [u8], set: &[u8], n: usize) -> usize
     ensures written { Added (set_text set.now n) 0 out.old out.new result }
 {
-    let count = put_records(out, set, n);
-    put_sentence(out, count, b"# records, all good\n", &[n])
+    let mut writer = Writer::new(out, 0);
+    write_set(&mut writer, set, n);
+    writer.at
 }

@@ -5,84 +5,42 @@
 ghost use Rattle.std.specs.Prelude.{◌≡◌};
 ghost use Rattle.set_places.specs.Offsets.{place_at, record_place};
 
-// A set's bytes and an offset in them. No reader moves on: one is made anew for each record, at the offset where the
-// record before it ends.
-#[derive(Clone, Copy)]
-pub struct Reader<'a> {
-    pub set: &'a [u8],
-    pub at: usize,
-}
+pub mod reader;
 
-// Where a record stands in a set: its first byte and its length; or nowhere.
+use reader::Reader;
+
+// Where a record stands in a set: its first byte and its length.
 #[derive(Clone, Copy)]
-pub enum Place {
-    At { start: usize, len: usize },
-    Nowhere,
+pub struct Place {
+    pub start: usize,
+    pub len: usize,
 }
 
 // The record whose two-byte length stands at an offset of a set.
-pub fn place_at(set: &[u8], at: usize) -> Place
+pub fn place_at(set: &[u8], at: usize) -> Option<Place>
     ensures answer { result ≡ place_at set.now at }
 {
-    if set.len() < 2 {
-        return Place::Nowhere;
-    }
-    let last = set.len() - 2;
-    if last < at {
-        return Place::Nowhere;
-    }
-    let first = set[at] as usize;
-    let second = set[at + 1] as usize;
+    let first = *set.get(at)? as usize;
+    let second = *set.get(at + 1)? as usize;
     let len = first * 256 + second;
-    if last - at < len {
-        return Place::Nowhere;
+    let start = at + 2;
+    if set.len() - start < len {
+        return None;
     }
-    Place::At { start: at + 2, len }
-}
-
-// A reader of a set from an offset on.
-pub fn new<'a>(set: &'a [u8], at: usize) -> Reader<'a>
-    ensures answer { (result.set ≡ set.entry) × (result.at ≡ at) }
-{
-    Reader { set, at }
-}
-
-// The record that a reader stands before. The offset after it is `start + len`, for the next reader.
-pub fn next<'a>(r: Reader<'a>) -> Place
-    ensures answer { result ≡ place_at r.entry.set.now r.entry.at }
-{
-    place_at(r.set, r.at)
-}
-
-// The record that a new reader at an offset of a set stands before.
-pub fn read(set: &[u8], at: usize) -> Place
-    ensures answer { result ≡ place_at set.now at }
-{
-    next(new(set, at))
+    Some(Place { start, len })
 }
 
 // Where record i of a set stands, counted from 0: its bytes need not be a good record.
-pub fn find(set: &[u8], i: usize) -> Place
+pub fn find(set: &[u8], i: usize) -> Option<Place>
     ensures answer { result ≡ record_place set.now i }
 {
-    if set.len() == 0 {
-        return Place::Nowhere;
+    let count = *set.first()? as usize;
+    if count <= i {
+        return None;
     }
-    if set[0] as usize <= i {
-        return Place::Nowhere;
+    let mut reader = Reader::new(set);
+    for passed in 0..i {
+        reader.next()?;
     }
-    let mut passed = 0;
-    let mut at = 1;
-    while passed < i {
-        match read(set, at) {
-            Place::Nowhere => {
-                return Place::Nowhere;
-            }
-            Place::At { start, len } => {
-                at = start + len;
-                passed += 1;
-            }
-        }
-    }
-    read(set, at)
+    reader.next()
 }

@@ -1,13 +1,13 @@
 -- Encoding to a stream, check by check.
--- In order: streamed→, stream-encodes, what a finished stream says; stream-7 to stream-done, under a table by value.
+-- In order: streamed→, stream-encodes, what a finished stream says; stream-7 to stream-last, under a table by value.
 -- Assumes nothing.
 use Rattle.std.proofs.Common.{◌≡◌, ◌+◌, ◌^◌, ◌≤◌, ◌<◌}
-use Rattle.laws.proofs.All.{◌∙◌, true, false, List, ℕ, lt-leb, le-leb, leb, leb→le, le_refl}
+use Rattle.laws.proofs.All.{true, false, List, ℕ, lt-leb, le-leb, leb, leb→le, le_refl}
 use Rattle.laws.proofs.All.{length}
-use Rattle.answer.specs.declared.Refusal.TheVariants.{Field, BadByte, ShortOutput, Stream}
+use Rattle.answer.specs.declared.Refusal.TheVariants.{Field, ShortOutput, Stream}
 use Rattle.answer.specs.Outcomes.{done, refused, unless}
-use Rattle.answer.specs.FirstBad.{first_bad, all_below}
-use Rattle.answer.proofs.FirstBad.{bad-found, none-bad, all_below→}
+use Rattle.answer.specs.FirstBad.{all_below}
+use Rattle.answer.proofs.FirstBad.{all_below→}
 use Rattle.answer.proofs.Outcomes.{unless→}
 use Rattle.table.specs.declared.Table.{Table}
 use Rattle.table.specs.Rows.{Code}
@@ -55,15 +55,7 @@ module _ (t : Table) (room : ℕ) (ds : List ℕ) where
       unfolding streamed_with streamed
       stream-13 l = rw (r, ← q, le-leb n limit h, lt-leb (stream_size t.q n) room l)
 
-      module _ (l : stream_size t.q n ≤ room) where
-        last : streamed_with t room ds ≡ all_below (2 ^ t.p) ds (packed t.q (recording (code_in t) ds))
-        unfolding streamed_with streamed
-        last = rw (r, ← q, le-leb n limit h, le-leb (stream_size t.q n) room l)
-
-        pub stream-11 : (m k : ℕ) → m ≡ 2 ^ t.p → k ≡ first_bad m ds → k < length ds
-            → streamed_with t room ds ≡ refused (BadByte k)
-        stream-11 m k e f b = last ∙ bad-found (2 ^ t.p) ds (packed t.q (recording (code_in t) ds)) m k e f b
-
-        pub stream-done : (m k : ℕ) → m ≡ 2 ^ t.p → k ≡ first_bad m ds → length ds ≤ k
-            → streamed_with t room ds ≡ done (packed t.q (recording (code_in t) ds))
-        stream-done m k e f b = last ∙ none-bad (2 ^ t.p) ds (packed t.q (recording (code_in t) ds)) m k e f b
+      pub stream-last : stream_size t.q n ≤ room
+          → streamed_with t room ds ≡ all_below (2 ^ t.p) ds (packed t.q (recording (code_in t) ds))
+      unfolding streamed_with streamed
+      stream-last l = rw (r, ← q, le-leb n limit h, le-leb (stream_size t.q n) room l)

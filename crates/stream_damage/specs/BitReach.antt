@@ -3,7 +3,8 @@
 -- In order: first_block, last_block; block_range, blocks_of; reach_in, reach_under; reach_answer; reach_number,
 -- reach_values.
 -- Assumes nothing.
-use Rattle.std.specs.Prelude.{List, [], ◌∷◌, ℕ, ◌+◌, ◌*◌, ◌-◌, ◌/◌, ltb}
+use Rattle.std.specs.Prelude.{List, [], ◌∷◌, ℕ, Result, Ok, Err, ◌+◌, ◌*◌, ◌-◌, ◌/◌, ltb}
+use Rattle.answer.specs.declared.Refusal.{Refusal}
 use Rattle.answer.specs.declared.Refusal.TheVariants.{Stream}
 use Rattle.answer.specs.Refusals.{number_of, place_of}
 use Rattle.answer.specs.Outcomes.{Outcome, done, refused, unless, onward}
@@ -12,8 +13,6 @@ use Rattle.record_check.specs.Parse.{parse}
 use Rattle.stream_pack.specs.Streams.{limit}
 use Rattle.stream_damage.specs.declared.BitRange.{BitRange}
 use Rattle.stream_damage.specs.declared.BlockRange.{BlockRange}
-use Rattle.stream_damage.specs.declared.ReachAnswer.{ReachAnswer}
-use Rattle.stream_damage.specs.declared.ReachAnswer.TheVariants.{Blocks, Refused}
 
 -- "f / q − a (0 if negative)"
 abbrev pub first_block : ℕ → ℕ → ℕ → ℕ
@@ -42,16 +41,16 @@ unfoldable pub reach_under : List ℕ → BitRange → Outcome BlockRange
 reach_under rec d = onward (parse rec) (λ c. reach_in c d)
 
 -- the code's answer
-abbrev pub reach_answer : Outcome BlockRange → ReachAnswer
-reach_answer (done b) = Blocks b
-reach_answer (refused r) = Refused r
+abbrev pub reach_answer : Outcome BlockRange → Result BlockRange Refusal
+reach_answer (done b) = Ok b
+reach_answer (refused r) = Err r
 
 -- 0 for blocks that are quoted, otherwise the number of the refusal
-abbrev pub reach_number : ReachAnswer → ℕ
-reach_number (Blocks b) = 0
-reach_number (Refused r) = number_of r
+abbrev pub reach_number : Result BlockRange Refusal → ℕ
+reach_number (Ok b) = 0
+reach_number (Err r) = number_of r
 
 -- the numbers of the first and the last block, otherwise the place that the refusal names
-abbrev pub reach_values : ReachAnswer → List ℕ
-reach_values (Blocks b) = b.first.0 ∷ b.last.0 ∷ []
-reach_values (Refused r) = place_of r ∷ []
+abbrev pub reach_values : Result BlockRange Refusal → List ℕ
+reach_values (Ok b) = b.first.0 ∷ b.last.0 ∷ []
+reach_values (Err r) = place_of r ∷ []

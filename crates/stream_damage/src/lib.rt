@@ -7,8 +7,7 @@ ghost use Rattle.table.specs.Value.{ready, code_in};
 ghost use Rattle.stream_pack.specs.Streams.{limit};
 ghost use Rattle.stream_damage.specs.BitReach.{blocks_of, reach_in, reach_under, reach_answer};
 
-use answer::{Refusal, Verdict};
-use codec_block::blocks::less;
+use answer::Refusal;
 use record_check::load;
 use stream_pack::LIMIT;
 use table::Table;
@@ -21,7 +20,8 @@ pub struct BlockNo(pub usize);
 #[derive(Clone, Copy)]
 pub struct BitNo(pub usize);
 
-// Blocks from the first to the last, both among them.
+// Blocks from the first to the last, both among them. They and `BitRange` are two types and not one of any number, since
+// the definitions and the theorems on the reach (`blocks_of`, `reach-exact`) tell blocks and bits apart by these names.
 #[derive(Clone, Copy)]
 pub struct BlockRange {
     pub first: BlockNo,
@@ -35,13 +35,6 @@ pub struct BitRange {
     pub last: BitNo,
 }
 
-// The blocks that damage can reach, or why none are quoted.
-#[derive(Clone, Copy)]
-pub enum ReachAnswer {
-    Blocks(BlockRange),
-    Refused(Refusal),
-}
-
 // The blocks that can differ when these channel bits are overwritten, under a code with words of q bits, memory m and
 // lookahead a.
 fn blocks_of(q: usize, m: usize, a: usize, damage: BitRange) -> BlockRange
@@ -51,34 +44,28 @@ fn blocks_of(q: usize, m: usize, a: usize, damage: BitRange) -> BlockRange
     let f = damage.first;
     let l = damage.last;
     BlockRange {
-        first: BlockNo(less(f.0 / q, a)),
+        first: BlockNo((f.0 / q).saturating_sub(a)),
         last: BlockNo(l.0 / q + m),
     }
 }
 
 // The blocks that can differ when these channel bits of a stream are overwritten, under a table. Declines with 15 for
 // bits past the longest stream.
-fn quote(t: Table, damage: BitRange) -> ReachAnswer
+fn quote(t: Table, damage: BitRange) -> Result<BlockRange, Refusal>
     requires { T (ready t) }
     ensures answer { result ≡ reach_answer (reach_in (code_in t) damage) }
 {
     let l = damage.last;
     if l.0 < LIMIT * t.q {
-        return ReachAnswer::Blocks(blocks_of(t.q, t.memory, t.lookahead, damage));
+        return Ok(blocks_of(t.q, t.memory, t.lookahead, damage));
     }
-    ReachAnswer::Refused(Refusal::Stream)
+    Err(Refusal::Stream)
 }
 
 // The blocks that can differ from the data written when these channel bits of a stream are overwritten, under the
 // record in the bytes. Declines with the record's refusal, then 15 for bits past the longest stream.
-pub fn reach(bytes: &[u8], damage: BitRange) -> ReachAnswer
+pub fn reach(bytes: &[u8], damage: BitRange) -> Result<BlockRange, Refusal>
     ensures answer { result ≡ reach_answer (reach_under bytes.now damage) }
 {
-    let r = load(bytes);
-    let v = r.verdict;
-    let t = r.table;
-    match v {
-        Verdict::Bad(x) => ReachAnswer::Refused(x),
-        Verdict::Good => quote(t, damage),
-    }
+    quote(load(bytes)?, damage)
 }

@@ -1,14 +1,13 @@
 -- A stream, packing and unpacking, check by check.
--- In order: width→, stream-long, stream-other, stream-fill; pack-1, pack-15, pack-13, pack-11, pack-done; unpack-1,
+-- In order: width→, stream-long, stream-other, stream-fill; pack-1, pack-15, pack-13, pack-last; unpack-1,
 -- unpack-15, unpack-13, unpack-done.
 -- Assumes nothing.
 use Rattle.std.proofs.Common.{◌≡◌, ◌-◌, ◌*◌, ◌^◌, ◌≤◌, ◌<◌}
-use Rattle.laws.proofs.All.{sym, subst, ◌∙◌, true, false, List, ℕ}
+use Rattle.laws.proofs.All.{sym, subst, true, false, List, ℕ}
 use Rattle.laws.proofs.All.{lt-leb, le-leb, eq-eqb, ne_eqb, T, leb, eqb, leb→le, length, and→}
-use Rattle.answer.specs.declared.Refusal.TheVariants.{Parameters, BadByte, ShortOutput, Stream}
+use Rattle.answer.specs.declared.Refusal.TheVariants.{Parameters, ShortOutput, Stream}
 use Rattle.answer.specs.Outcomes.{done, refused}
-use Rattle.answer.specs.FirstBad.{first_bad, all_below}
-use Rattle.answer.proofs.FirstBad.{bad-found, none-bad}
+use Rattle.answer.specs.FirstBad.{all_below}
 use Rattle.bits.specs.Fields.{bits_of, field}
 use Rattle.stream_pack.specs.Streams.{limit, stream_size, good_width, good_stream, packed, unpacked}
 use Rattle.stream_pack.specs.Streams.{pack_into, unpack_into}
@@ -48,16 +47,9 @@ module _ (q room : ℕ) (ws : List ℕ) where
       unfolding pack_into
       pack-13 l = rw (r, le-leb (length ws) limit h, lt-leb (stream_size q (length ws)) room l)
 
-      module _ (l : stream_size q (length ws) ≤ room) (n k : ℕ) (e : n ≡ 2 ^ q) (f : k ≡ first_bad n ws) where
-        last : pack_into q room ws ≡ all_below (2 ^ q) ws (packed q ws)
-        unfolding pack_into
-        last = rw (r, le-leb (length ws) limit h, le-leb (stream_size q (length ws)) room l)
-
-        pub pack-11 : k < length ws → pack_into q room ws ≡ refused (BadByte k)
-        pack-11 b = last ∙ bad-found (2 ^ q) ws (packed q ws) n k e f b
-
-        pub pack-done : length ws ≤ k → pack_into q room ws ≡ done (packed q ws)
-        pack-done b = last ∙ none-bad (2 ^ q) ws (packed q ws) n k e f b
+      pub pack-last : stream_size q (length ws) ≤ room → pack_into q room ws ≡ all_below (2 ^ q) ws (packed q ws)
+      unfolding pack_into
+      pack-last l = rw (r, le-leb (length ws) limit h, le-leb (stream_size q (length ws)) room l)
 
 -- ---- unpacking
 module _ (q count room : ℕ) (xs : List ℕ) where

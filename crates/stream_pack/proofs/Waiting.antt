@@ -1,5 +1,5 @@
 -- Words put into bytes one by one, the bits that do not fill a byte yet waiting.
--- In order: waiting; waits-none; length-waits; waits-more, waits-full, one word; waits-word, waits-room; waits-whole,
+-- In order: waits-none; length-waits; waits-more, waits-full, one word; waits-word, waits-room; waits-whole,
 -- waits-filled, the end.
 -- Assumes nothing.
 use Rattle.std.proofs.Common.{◌≡◌, ◌∷◌, ◌++◌, ◌+◌, ◌*◌, ◌-◌, ◌/◌, ◌%◌, ◌^◌, ◌≤◌, ◌<◌}
@@ -11,27 +11,16 @@ use Rattle.laws.proofs.All.{below-append, below-take, Below}
 use Rattle.bits.specs.Fields.{bits, uniform, bits_of}
 use Rattle.bits.proofs.Fields.{length-bits}
 use Rattle.bits.proofs.Places.{bits-split, bits-join}
-use Rattle.bits.proofs.Bytes.{bits-rest, digits-pow}
+use Rattle.bits.proofs.Bytes.{bits-rest}
 use Rattle.bits.proofs.Puts.{uniform-more, length-uniform, bits_of-append, length-bits_of}
 use Rattle.stream_pack.specs.declared.writing.Waiting.{Waiting}
 use Rattle.stream_pack.specs.Streams.{stream_size, packed}
 use Rattle.stream_pack.specs.Waiting.{Waits}
 use Rattle.stream_pack.proofs.Sizes.{stream-holds, packed-is}
 
--- so many bits wait, this number, for the byte at this place
-abbrev pub waiting : ℕ → ℕ → ℕ → Waiting
-waiting at count held = record { at = at; count = count; held = held }
-
 -- before the first word
-pub waits-none : (lent : List ℕ) → Waits [] (waiting 0 0 0) lent lent
-waits-none lent = record {
-  few = omega arith;
-  small = omega arith;
-  inside = omega arith;
-  long = refl;
-  spelled = refl;
-  behind = refl;
-}
+pub waits-none : (p : Waiting) (lent : List ℕ) → p.at ≡ 0 → p.count ≡ 0 → Waits [] p lent lent
+waits-none p lent e f = record { inside = rw e (omega arith); long = refl; spelled = rw (e, f); behind = refl }
 
 module _ (B lent out : List ℕ) (p : Waiting) (w : Waits B p lent out) where
   -- as many bits as stand in bytes and wait
@@ -53,31 +42,27 @@ module _ (B lent out : List ℕ) (p : Waiting) (w : Waits B p lent out) where
         ∙ ap (λ l. l ++ bits q v) w.spelled
 
     -- a word that fills no byte
-    pub waits-more : (both : ℕ) → both ≡ p.held * 2 ^ q + v → p.count + q < 8
-        → Waits (B ++ bits q v) (waiting p.at (p.count + q) both) lent out
-    waits-more both e l = rw e (record {
-      few = l;
-      small = digits-pow p.count q p.held v w.small h;
-      inside = w.inside;
+    pub waits-more : (p' : Waiting) → p'.at ≡ p.at → p'.count ≡ p.count + q → p'.held ≡ p.held * 2 ^ q + v
+        → Waits (B ++ bits q v) p' lent out
+    waits-more p' a e f = record {
+      inside = rw a w.inside;
       long = w.long;
-      spelled = joined;
-      behind = w.behind;
-    })
+      spelled = rw (a, e, f) joined;
+      behind = rw a w.behind;
+    }
 
     -- a word that fills the next byte, with j bits left to wait
-    pub waits-full : (j both x rest : ℕ) → p.count + q ≡ 8 + j → j < 8 → both ≡ p.held * 2 ^ q + v
-        → x ≡ both / 2 ^ j % 2 ^ 8 → rest ≡ both % 2 ^ j → p.at < length out
-        → Waits (B ++ bits q v) (waiting (p.at + 1) j rest) lent (set out p.at x)
-    waits-full j both x rest e l f g k i = record {
-      few = l;
-      small = rw k (mod-lt both (pow_pos j));
-      inside = rw (length-set out p.at x) (omega arith);
+    pub waits-full : (p' : Waiting) (j both x : ℕ) → p.count + q ≡ 8 + j → both ≡ p.held * 2 ^ q + v
+        → x ≡ both / 2 ^ j % 2 ^ 8 → p'.at ≡ p.at + 1 → p'.count ≡ j → p'.held ≡ both % 2 ^ j → p.at < length out
+        → Waits (B ++ bits q v) p' lent (set out p.at x)
+    waits-full p' j both x e f g a b k i = record {
+      inside = rw (a, length-set out p.at x) (omega arith);
       long = length-set out p.at x ∙ w.long;
-      spelled = ap₂ (λ s t. bits_of s ++ t) front (ap (bits j) k ∙ bits-rest j both)
+      spelled = rw (a, b) (ap₂ (λ s t. bits_of s ++ t) front (ap (bits j) k ∙ bits-rest j both)
           ∙ ap (λ s. s ++ bits j both) (bits_of-append (take p.at out) (x ∷ []) ∙ ap (λ s. stood ++ s) byte)
           ∙ append_assoc stood (bits 8 (both / 2 ^ j)) (bits j both)
-          ∙ ap (λ s. stood ++ s) (sym (bits-split 8 j both) ∙ ap₂ bits (sym e) f) ∙ joined;
-      behind = drop-set-lt (p.at + 1) out p.at x (omega arith) ∙ past;
+          ∙ ap (λ s. stood ++ s) (sym (bits-split 8 j both) ∙ ap₂ bits (sym e) f) ∙ joined);
+      behind = rw a (drop-set-lt (p.at + 1) out p.at x (omega arith) ∙ past);
     }
       where
         stood : List ℕ
@@ -146,12 +131,12 @@ module _ (q : ℕ) (ws lent out : List ℕ) (p : Waiting) (w : Waits (uniform q 
       j = 8 - p.count
 
       long : p.count + j ≡ 8
-      long = omega (arith, w.few)
+      long = omega (arith, p.few)
 
       shifted : x ≡ p.held * 2 ^ j
       shifted =
-          e ∙ ap (λ n. n % 2 ^ 8) (shl_exact p.count j 64 w.small (omega arith))
-          ∙ shl_exact p.count j 8 w.small (omega arith)
+          e ∙ ap (λ n. n % 2 ^ 8) (shl_exact p.count j 64 p.small (omega arith))
+          ∙ shl_exact p.count j 8 p.small (omega arith)
 
       small : x < 256
       small = rw e (mod-lt (p.held * 2 ^ j % 2 ^ 64) (pow_pos 8))

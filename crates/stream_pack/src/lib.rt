@@ -9,8 +9,8 @@ ghost use Rattle.stream_pack.specs.Streams.{limit, stream_size, good_width, good
 pub mod reading;
 pub mod writing;
 
-use answer::bytes::first_bad;
-use answer::{Answer, Refusal};
+use answer::Refusal;
+use answer::bytes::check_below;
 use bits::{get, power};
 use reading::get_words;
 use writing::put_words;
@@ -30,10 +30,7 @@ pub fn stream_size(q: usize, count: usize) -> usize
 fn is_width(q: usize) -> bool
     ensures answer { result ≡ good_width q }
 {
-    if q < 1 {
-        return false;
-    }
-    q <= 8
+    (1..=8).contains(&q)
 }
 
 // Whether the bits of the bytes after the place `at` are all 0; they are fewer than eight.
@@ -49,53 +46,44 @@ pub fn is_stream(q: usize, count: usize, bytes: &[u8]) -> bool
     requires { q ≤ 8 }
     ensures answer { result ≡ good_stream q count bytes.now }
 {
-    if LIMIT < count {
-        return false;
-    }
-    if bytes.len() != stream_size(q, count) {
-        return false;
-    }
-    is_filled(bytes, count * q)
+    count <= LIMIT && bytes.len() == stream_size(q, count) && is_filled(bytes, count * q)
 }
 
 // The stream of the words in the output. Declines with 1, 15, 13, then 11 with the place of the first bad word.
-pub fn pack(q: usize, words: &[u8], out: &mut [u8]) -> Answer
+pub fn pack(q: usize, words: &[u8], out: &mut [u8]) -> Result<usize, Refusal>
     ensures answer { result ≡ answer_of (pack_into q (length out.old) words.now) }
     ensures written { out.new ≡ output_of (pack_into q (length out.old) words.now) out.old }
 {
     if !is_width(q) {
-        return Answer::Refused(Refusal::Parameters);
+        return Err(Refusal::Parameters);
     }
     if LIMIT < words.len() {
-        return Answer::Refused(Refusal::Stream);
+        return Err(Refusal::Stream);
     }
-    let bad = first_bad(words, power(q));
     let size = stream_size(q, words.len());
     if out.len() < size {
-        return Answer::Refused(Refusal::ShortOutput); // 13 comes before 11
+        return Err(Refusal::ShortOutput); // 13 comes before 11
     }
-    if bad < words.len() {
-        return Answer::Refused(Refusal::BadByte(bad));
-    }
+    check_below(words, power(q))?;
     put_words(q, words, out);
-    Answer::Done(size)
+    Ok(size)
 }
 
 // The words of a stream in the output. Declines with 1, 15, 13.
-pub fn unpack(q: usize, count: usize, bytes: &[u8], out: &mut [u8]) -> Answer
+pub fn unpack(q: usize, count: usize, bytes: &[u8], out: &mut [u8]) -> Result<usize, Refusal>
     ensures answer { result ≡ answer_of (unpack_into q count (length out.old) bytes.now) }
     ensures written { out.new
         ≡ output_of (unpack_into q count (length out.old) bytes.now) out.old }
 {
     if !is_width(q) {
-        return Answer::Refused(Refusal::Parameters);
+        return Err(Refusal::Parameters);
     }
     if !is_stream(q, count, bytes) {
-        return Answer::Refused(Refusal::Stream);
+        return Err(Refusal::Stream);
     }
     if out.len() < count {
-        return Answer::Refused(Refusal::ShortOutput);
+        return Err(Refusal::ShortOutput);
     }
     get_words(bytes, q, count, out);
-    Answer::Done(count)
+    Ok(count)
 }

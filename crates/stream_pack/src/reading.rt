@@ -9,11 +9,7 @@ pub fn get_words(bytes: &[u8], q: usize, count: usize, out: &mut [u8])
     requires { (q ≤ 8) × (count ≤ limit) × (count * q ≤ 8 * length bytes.now) × (count ≤ length out.old) }
     ensures written { out.new ≡ unpacked q count bytes.now ++ drop count out.old }
 {
-    let mut at = 0;
-    let mut i = 0;
-    while i < count {
-        out[i] = get(bytes, at, q);
-        at += q;
-        i += 1;
+    for i in 0..count {
+        out[i] = get(bytes, i * q, q);
     }
 }

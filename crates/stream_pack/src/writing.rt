@@ -3,65 +3,71 @@ ghost use Rattle.std.specs.Prelude.{◌≡◌, List, ◌++◌, ℕ, ◌+◌, ◌
 ghost use Rattle.laws.specs.Sums.{Below};
 ghost use Rattle.bits.specs.Fields.{bits, uniform};
 ghost use Rattle.stream_pack.specs.Streams.{limit, stream_size, packed};
-ghost use Rattle.stream_pack.specs.Waiting.{Waits};
 
 use bits::{joined, low_bits};
 
-// The bits of words that fill no byte yet: as many as `count`, fewer than eight, the number `held`, for the byte at
-// the place `at`.
+// The bits of words that fill no byte yet: as many as `count`, the number `held`, for the byte at the place `at`.
 #[derive(Clone, Copy)]
 pub struct Waiting {
     pub at: usize,
     pub count: usize,
     pub held: usize,
+    pub ghost few: { count < 8 },
+    pub ghost small: { held < 2 ^ count },
 }
 
-// No bit waits, and the first byte is next.
-pub const NONE: Waiting = Waiting {
-    at: 0,
-    count: 0,
-    held: 0,
-};
+impl Waiting {
+    ghost use Rattle.std.specs.Prelude.{[]};
+    ghost use Rattle.stream_pack.specs.Waiting.{Waits};
 
-// One word more. The byte that it fills is written.
-pub fn put_word(out: &mut [u8], p: Waiting, q: usize, word: u8) -> Waiting
-    requires { (p.count < 8) × (p.held < 2 ^ p.count) × (q ≤ 8) × (word < 2 ^ q)
-        × (p.at * 8 + p.count + q ≤ 8 * length out.old) }
-    ensures written { (B lent : List ℕ) → Waits B p lent out.old
-        → Waits (B ++ bits q word) result lent out.new }
-{
-    let both = joined(p.held, q, word);
-    let n = p.count + q;
-    if n < 8 {
-        return Waiting {
-            at: p.at,
-            count: n,
-            held: both,
-        };
+    // No bit waits, and the first byte is next.
+    pub fn none() -> Waiting
+        ensures answer { (lent : List ℕ) → Waits [] result lent lent }
+    {
+        Waiting {
+            at: 0,
+            count: 0,
+            held: 0,
+        }
     }
-    let rest = n - 8;
-    let front = both >> rest;
-    let at = p.at;
-    out[at] = low_bits(front, 8);
-    Waiting {
-        at: at + 1,
-        count: rest,
-        held: low_bits(both, rest) as usize,
-    }
-}
 
-// The bits that wait, with bits 0 after them, in the byte that they begin.
-pub fn put_fill(out: &mut [u8], p: Waiting)
-    requires { (p.count < 8) × (p.held < 2 ^ p.count) × (p.at * 8 + p.count ≤ 8 * length out.old) }
-    ensures written { (q : ℕ) (ws lent : List ℕ)
-        → Waits (uniform q ws) p lent out.old
-        → out.new ≡ packed q ws ++ drop (stream_size q (length ws)) lent }
-{
-    if p.count == 0 {
-        return;
+    // What waits after one word more. The byte that the word fills is written.
+    pub fn put_word(self, q: usize, word: u8, out: &mut [u8]) -> Waiting
+        requires { (q ≤ 8) × (word < 2 ^ q) × (self.at * 8 + self.count + q ≤ 8 * length out.old) }
+        ensures written { (B lent : List ℕ) → Waits B self lent out.old → Waits (B ++ bits q word) result lent out.new }
+    {
+        let both = joined(self.held, q, word);
+        let count = self.count + q;
+        if count < 8 {
+            return Waiting {
+                at: self.at,
+                count,
+                held: both,
+            };
+        }
+        let rest = count - 8;
+        let at = self.at;
+        out[at] = low_bits(both >> rest, 8);
+        Waiting {
+            at: at + 1,
+            count: rest,
+            held: low_bits(both, rest) as usize,
+        }
     }
-    let at = p.at;
-    out[at] = low_bits(p.held << (8 - p.count), 8);
+
+    // The bits that wait, with bits 0 after them, in the byte that they begin.
+    pub fn put_fill(self, out: &mut [u8])
+        requires { self.at * 8 + self.count ≤ 8 * length out.old }
+        ensures written { (q : ℕ) (ws lent : List ℕ)
+            → Waits (uniform q ws) self lent out.old
+            → out.new ≡ packed q ws ++ drop (stream_size q (length ws)) lent }
+    {
+        if self.count == 0 {
+            return;
+        }
+        let at = self.at;
+        out[at] = low_bits(self.held << (8 - self.count), 8);
+    }
 }
 
 // The stream of the words at the start of the output.
@@ -71,12 +77,9 @@ pub fn put_words(q: usize, words: &[u8], out: &mut [u8])
     ensures written { out.new
         ≡ packed q words.now ++ drop (stream_size q (length words.now)) out.old }
 {
-    let mut p = NONE;
-    let mut i = 0;
-    while i < words.len() {
-        let next = put_word(out, p, q, words[i]);
-        p = next;
-        i += 1;
+    let mut waiting = Waiting::none();
+    for word in words {
+        waiting = waiting.put_word(q, *word, out);
     }
-    put_fill(out, p);
+    waiting.put_fill(out);
 }

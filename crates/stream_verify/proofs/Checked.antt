@@ -1,29 +1,23 @@
 -- Verifying a stream under a table by value, check by check, and under a record that was loaded.
 -- In order: stream-7 to stream-done; streamed, what the count asks for; stream-read.
 -- Assumes nothing.
-use Rattle.std.proofs.Common.{◌≡◌, ◌*◌, ◌%◌, ◌^◌, ◌≤◌, ◌<◌}
-use Rattle.laws.proofs.All.{refl, sym, ap, ◌∙◌, true, false, List, ℕ, lt-leb, le-leb}
-use Rattle.laws.proofs.All.{T, arith, length, get_or}
-use Rattle.answer.specs.declared.Answer.TheVariants.{Done}
+use Rattle.std.proofs.Common.{◌≡◌, ◌*◌, ◌≤◌, ◌<◌, Ok}
+use Rattle.laws.proofs.All.{sym, ap, ◌∙◌, true, false, List, ℕ, lt-leb, le-leb}
+use Rattle.laws.proofs.All.{T, arith, length}
 use Rattle.answer.specs.declared.Refusal.TheVariants.{Field, TooFewWords, Stream}
-use Rattle.answer.specs.declared.Verdict.TheVariants.{Good}
 use Rattle.answer.specs.Outcomes.{Outcome, done, refused, onward, answer_of}
 use Rattle.table.specs.declared.Table.{Table}
 use Rattle.table.specs.Rows.{Code}
 use Rattle.table.specs.Value.{code_in, ready}
-use Rattle.table.specs.Edges.{Fits}
-use Rattle.table.proofs.ReadyTables.{ready→, ready-formed}
-use Rattle.table.proofs.RowsOf.{fits-lent}
-use Rattle.codec_groups.proofs.ReadyWords.{words-lent}
-use Rattle.record.specs.declared.TableAnswer.{TableAnswer}
-use Rattle.record.specs.Checks.{outcome_in}
+use Rattle.table.specs.Edges.{lent}
+use Rattle.table.proofs.ReadyTables.{ready-formed}
 use Rattle.codec.proofs.Loaded.{under-good}
 use Rattle.stream_pack.specs.Streams.{limit, unpacked, good_stream}
 use Rattle.stream_pack.proofs.Streams.{good-stream→}
 use Rattle.codec_verify.specs.declared.Sizes.{Sizes}
 use Rattle.codec_verify.specs.Fronts.{same_front}
 use Rattle.codec_verify.specs.Verify.{rebuilt, verified_stream}
-use Rattle.codec_verify.specs.Counting.{followed, agreed, sizes_of, arrays_of, come_back}
+use Rattle.codec_verify.specs.Counting.{followed, agreed, sizes_of, come_back}
 use Rattle.stream_verify.specs.With.{verified_stream_with}
 
 module _ (t : Table) (count : ℕ) (xs : List ℕ) where
@@ -49,37 +43,24 @@ module _ (t : Table) (count : ℕ) (xs : List ℕ) where
       last h = rw (r, g, le-leb t.lookahead count h)
 
       pub stream-done : t.lookahead ≤ count → (z : Sizes) (v : ℕ) → z ≡ sizes_of t
-          → v ≡ come_back z t.word t.next (unpacked z.q count xs)
-          → Done v ≡ answer_of (verified_stream_with t count xs)
+          → v ≡ come_back (lent t) z (unpacked t.q count xs)
+          → Ok v ≡ answer_of (verified_stream_with t count xs)
       unfolding followed agreed
-      stream-done h z v f q = ap Done (rw f at q) ∙ sym (ap answer_of (last h))
+      stream-done h z v f q = ap Ok (rw f at q) ∙ sym (ap answer_of (last h))
 
 -- a good stream can be counted in, under a table that is ready
 pub streamed : (t : Table) → T (ready t) → (count : ℕ) (xs : List ℕ) → T (good_stream t.q count xs)
-    → t.lookahead ≤ count → (k : Sizes) → k ≡ sizes_of t
-    → Fits (arrays_of k t.word t.next) × (k.q ≤ 8) × (count ≤ limit) × (count * k.q ≤ 8 * length xs)
-    × (k.memory ≤ 15) × (k.lookahead ≤ 15) × (k.lookahead ≤ count)
-    × ((e : ℕ) → e < k.states * 16 → e % 16 < k.ways → get_or t.word e 0 < 2 ^ k.q)
-streamed t y count xs g h k e =
-    let r = ready→ t y in
+    → t.lookahead ≤ count → (k : Sizes) → k ≡ sizes_of t → (q : ℕ) → q ≡ t.q
+    → (count ≤ limit) × (count * q ≤ 8 * length xs) × (k.memory ≤ 15) × (k.lookahead ≤ 15) × (k.lookahead ≤ count)
+streamed t y count xs g h k e q w =
     let f = (ready-formed t y).range in
     let s = good-stream→ t.q count xs g in
     let m : t.memory ≤ 15 = omega (arith, f.m) in
     let a : t.lookahead ≤ 15 = omega (arith, f.a) in
-    rw e (
-      fits-lent t (2 ^ t.p) r refl,
-      f.q₂,
-      s.few,
-      s.holds,
-      m,
-      a,
-      h,
-      words-lent t (2 ^ t.p) r refl,
-    )
+    rw (e, w) (s.few, s.holds, m, a, h)
 
 -- under a record that was loaded
-pub stream-read : (o : Outcome Code) (r : TableAnswer) → outcome_in r ≡ o → (count : ℕ) (xs : List ℕ)
-    → r.verdict ≡ Good → T (ready r.table)
-    → verified_stream_with r.table count xs ≡ onward o (λ c. verified_stream c count xs)
+pub stream-read : (o : Outcome Code) (t : Table) → done (code_in t) ≡ o → T (ready t) → (count : ℕ) (xs : List ℕ)
+    → verified_stream_with t count xs ≡ onward o (λ c. verified_stream c count xs)
 unfolding verified_stream_with
-stream-read o r e count xs q k = under-good o r e (λ c. verified_stream c count xs) q k
+stream-read o t e k count xs = under-good o t e k (λ c. verified_stream c count xs)

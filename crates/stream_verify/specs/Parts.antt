@@ -7,13 +7,13 @@ use Rattle.table.specs.Edges.{Arrays, rows_of}
 use Rattle.codec_steps.specs.Reading.{block}
 use Rattle.codec_steps.specs.BlockParts.{under}
 use Rattle.codec_verify.specs.declared.Sizes.{Sizes}
-use Rattle.codec_verify.specs.Counting.{agreed, arrays_of}
+use Rattle.codec_verify.specs.Counting.{agreed}
 use Rattle.stream_verify.specs.declared.part.Part.{Part}
 use Rattle.stream_verify.specs.declared.part.Reached.{Reached}
 
--- the code by which blocks are read: a table of these sizes, and its window
-abbrev pub read_by : Sizes → List ℕ → List ℕ → Code
-read_by k word next = under (rows_of (arrays_of k word next)) k.memory k.lookahead
+-- the code by which blocks are read: a table with these edges, and its window
+abbrev pub read_by : Arrays → Sizes → Code
+read_by t k = under (rows_of t) k.memory k.lookahead
 
 -- the list M holds the words of U that belong to the part z, and the windows of their blocks
 pub record Held (c : Code) (U M : List ℕ) (z : Part) : Type 0 where

@@ -8,10 +8,9 @@
 ghost use Rattle.std.specs.Prelude.{◌<◌};
 ghost use Rattle.io.specs.Counts.{IsPrefixLen};
 
-use answer::{Answer, answer_number};
+use answer::{Refusal, answer_number};
 use compile::bytes::compile_run_length;
 use sentences::put_sentence;
-use std::num::wrapping_add_usize;
 use text::{put, put_hex};
 
 // How many jobs there were, how many of them had each answer by its number, and the checksum.
@@ -45,22 +44,17 @@ fn job_at(i: usize) -> [u8; 5]
 }
 
 // How many bytes at the start of the output are the result.
-fn size_of(a: Answer, out: &[u8]) -> usize
+fn size_of(a: Result<usize, Refusal>, out: &[u8]) -> usize
     ensures within { IsPrefixLen result out.now }
 {
     match a {
-        Answer::Done(size) => {
-            if size < out.len() {
-                return size;
-            }
-            out.len()
-        }
-        Answer::Refused(_) => 0,
+        Ok(size) => size.min(out.len()),
+        Err(_) => 0,
     }
 }
 
 // The checksum with a job, the number of its answer and the bytes of its record more.
-fn sum_with(x: u64, job: &[u8], a: Answer, number: u8, out: &[u8]) -> u64 {
+fn sum_with(x: u64, job: &[u8], a: Result<usize, Refusal>, number: u8, out: &[u8]) -> u64 {
     let size = size_of(a, out);
     checksum::add(
         checksum::add(checksum::add(x, job), &[number]),
@@ -77,8 +71,8 @@ fn with_job(t: Tally, i: usize) -> Tally
     let a = compile_run_length(&job, &mut out);
     let n = (answer_number(a) % 256) as usize;
     let mut r = t;
-    r.jobs = wrapping_add_usize(t.jobs, 1);
-    r.answers[n] = wrapping_add_usize(t.answers[n], 1);
+    r.jobs = t.jobs.wrapping_add(1);
+    r.answers[n] = t.answers[n].wrapping_add(1);
     r.sum = sum_with(t.sum, &job, a, n as u8, &out);
     r
 }
@@ -88,19 +82,17 @@ fn with_number(t: Tally, i: usize) -> Tally
     requires { i < 131072 }
 {
     if i / 512 % 16 < i / 8192 {
-        return t;
+        t
+    } else {
+        with_job(t, i)
     }
-    with_job(t, i)
 }
 
 // The tally of all jobs.
 fn sweep() -> Tally {
     let mut t = no_job();
-    let mut i = 0;
-    while i < 131072 {
-        let next = with_number(t, i);
-        t = next;
-        i += 1;
+    for i in 0..131072 {
+        t = with_number(t, i);
     }
     t
 }

@@ -2,9 +2,8 @@
 -- all edges give, a what those passed give, and f tests an edge still to come, below c.
 -- In order: left-jump, left-more, left-done.
 -- Assumes nothing.
-use Rattle.std.proofs.Common.{◌≡◌, ◌||◌, ◌+◌, ◌-◌, ◌<◌}
+use Rattle.std.proofs.Common.{◌≡◌, ◌||◌, ◌+◌}
 use Rattle.laws.proofs.All.{refl, sym, ap, ◌∙◌, Bool, true, false, or-false, or_comm, ℕ}
-use Rattle.laws.proofs.All.{arith}
 use Rattle.table.specs.Marks.{some}
 use Rattle.table.proofs.Marks.{none-start, some_more}
 
@@ -18,13 +17,10 @@ module _ (L a : Bool) (f : ℕ → Bool) where
   pub left-jump : (c c' : ℕ) → L ≡ (a || some f c) → some f c ≡ some f c' → L ≡ (a || some f c')
   left-jump c c' e j = e ∙ ap (λ b. a || b) j
 
-  -- the edge below c passed by
-  pub left-more : (c : ℕ) (a' : Bool) → 0 < c → L ≡ (a || some f c) → a' ≡ (a || f (c - 1))
-      → L ≡ (a' || some f (c - 1))
-  left-more c a' h e m =
-      let q : c ≡ c - 1 + 1 = omega arith in
-      e ∙ ap (λ b. a || b) (ap (some f) q ∙ some_more f (c - 1)) ∙ swap a (some f (c - 1)) (f (c - 1))
-      ∙ ap (λ b. b || some f (c - 1)) (sym m)
+  -- the edge e passed by
+  pub left-more : (e : ℕ) (a' : Bool) → L ≡ (a || some f (e + 1)) → a' ≡ (a || f e) → L ≡ (a' || some f e)
+  left-more e a' h m =
+      h ∙ ap (λ b. a || b) (some_more f e) ∙ swap a (some f e) (f e) ∙ ap (λ b. b || some f e) (sym m)
 
   -- no edge is left
   pub left-done : (c : ℕ) → c ≡ 0 → L ≡ (a || some f c) → a ≡ L

@@ -1,10 +1,11 @@
 -- Words in binary digit by digit, and when two texts are the same.
--- In order: bit-none, bit-one; binary-more; length-binary; same_refl, same→, same-is.
+-- In order: bit-none, bit-one; binary-more; length-binary; same_refl, same→; same_pointwise.
 -- Assumes nothing.
-use Rattle.std.proofs.Common.{◌≡◌, ◌∷◌, ◌++◌, ◌-◌, ◌/◌, ◌%◌, ◌^◌, ◌<◌, if◌then◌else◌}
+use Rattle.std.proofs.Common.{◌≡◌, ◌∷◌, ◌++◌, ◌-◌, ◌/◌, ◌%◌, ◌^◌, ◌<◌, ◌&&◌, if◌then◌else◌}
 use Rattle.laws.proofs.All.{refl, sym, ap, ap₂, subst, ◌∙◌, Bool, true, false, List, []}
 use Rattle.laws.proofs.All.{append_assoc, ℕ, zero, suc, arith, eqb-true, eq-eqb, T, eqb}
 use Rattle.laws.proofs.All.{length, length-map}
+use Rattle.std.specs.Cmp.Lexicographic.{pointwise}
 use Rattle.bits.specs.Fields.{bits}
 use Rattle.bits.proofs.Fields.{length-bits}
 use Rattle.text.specs.Words.{digit, binary, same}
@@ -44,11 +45,15 @@ same→ (x ∷ xs) (y ∷ ys) e = go (eqb x y) refl e (same→ xs ys)
     go true q e f = ap₂ ◌∷◌ (eqb-true x y q) (f e)
     go false q e f = absurd (subst T (sym e) tt)
 
--- THEOREM: an answer that is true exactly of the same text
-pub same-is : (r : Bool) (xs ys : List ℕ) → (r ≡ true → xs ≡ ys) → (xs ≡ ys → r ≡ true) → r ≡ same xs ys
-same-is true xs ys f g = sym (ap (same xs) (sym (f refl)) ∙ same_refl xs)
-same-is false xs ys f g = go (same xs ys) refl
+-- a test byte by byte
+pub same_pointwise : (xs ys : List ℕ) → pointwise eqb xs ys ≡ same xs ys
+unfolding same
+same_pointwise [] [] = refl
+same_pointwise [] (y ∷ ys) = refl
+same_pointwise (x ∷ xs) [] = refl
+same_pointwise (x ∷ xs) (y ∷ ys) = go (eqb x y) (same_pointwise xs ys)
   where
-    go : (b : Bool) → same xs ys ≡ b → false ≡ b
-    go true e = absurd (subst T (sym (g (same→ xs ys e))) tt)
+    go : (b : Bool) → pointwise eqb xs ys ≡ same xs ys
+        → (b && pointwise eqb xs ys) ≡ (if b then same xs ys else false)
+    go true e = e
     go false e = refl

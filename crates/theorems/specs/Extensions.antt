@@ -11,8 +11,9 @@
 -- encode-calls, decode-calls, checked-calls; info-numbers, phrase-words, phrases, with-tail; refusal-numbers,
 -- answer-words, word-numbers, set_words, outputs.
 -- Assumes nothing.
+use Rattle.std.specs.Prelude.{Result, Ok, Err}
 use Rattle.std.specs.Prelude.{if◌then◌else◌, ◌≡◌, ◌⊎◌, ◌↔◌, true, not, ◌&&◌, List, [], ◌∷◌, ◌++◌, map, ℕ, ◌+◌, ◌*◌, ◌-◌}
-use Rattle.std.specs.Prelude.{◌/◌, ◌%◌, ◌^◌, ◌≤◌, ◌<◌, min, T, eqb, length, get_or, take, drop, replicate}
+use Rattle.std.specs.Prelude.{◌/◌, ◌%◌, ◌^◌, ◌≤◌, ◌<◌, min, None, T, eqb, length, get_or, take, drop, replicate}
 use Rattle.std.specs.Int.Count.{ones, count_trailing_zeros}
 use Rattle.laws.specs.Lists.{range, concat, sum, elem}
 use Rattle.laws.specs.Sums.{Each, Once, Below}
@@ -20,8 +21,6 @@ use Rattle.answer.specs.declared.Refusal.{Refusal}
 use Rattle.answer.specs.declared.Refusal.TheVariants.{Parameters, States, NoCode, TooHeavy, TooManyEdges, NoWindow}
 use Rattle.answer.specs.declared.Refusal.TheVariants.{Field, Length, Disobeys, WindowFails, BadByte, TooFewWords}
 use Rattle.answer.specs.declared.Refusal.TheVariants.{ShortOutput, TooManyPairs, Stream, Depth, BadWeights}
-use Rattle.answer.specs.declared.Answer.{Answer}
-use Rattle.answer.specs.declared.Answer.TheVariants.{Done}
 use Rattle.answer.specs.Refusals.{number_of, place_of}
 use Rattle.answer.specs.Answers.{answer_value}
 use Rattle.answer.specs.Outcomes.{done, refused, onward, answer_of, output_of}
@@ -74,9 +73,8 @@ use Rattle.record_tail.specs.Closing.{closed_with}
 use Rattle.codec_verify.specs.Fronts.{same_front}
 use Rattle.codec_verify.specs.Verify.{rebuilt, verify_under, verify_stream}
 use Rattle.set_places.specs.Offsets.{offset_of}
-use Rattle.set_check.specs.declared.SetAnswer.TheVariants.{Good, Bad}
 use Rattle.set_check.specs.Sets.{read_set}
-use Rattle.set_check.specs.Results.{set_answer}
+use Rattle.set_check.specs.Results.{bad, set_answer}
 use Rattle.set_check.specs.Outcomes.{record_of}
 use Rattle.text.specs.Texts.{bytes}
 use Rattle.view_refusals.specs.Phrases.{words_of}
@@ -475,27 +473,29 @@ state-sets =
     (λ s w. (p.number s w, p.lowest s w, p.empty s w), p.joining)
 
 -- Stepping by a word: the set to which the groups of a word lead from the states of S is the list stepped.
-pub step-bits : (t : Arrays) (start edge low high : List ℕ) → Grouped t start edge low high → (S R : BitSet) (w : ℕ)
-    → w < 256 → ((u : ℕ) → holds R u ≡ between (steps_to edge low high S u) (get_or start w 0) (get_or start (w + 1) 0))
+pub step-bits : (t : Arrays) (start edge : List ℕ) (sets : List BitSet) → Grouped t start edge sets
+    → (S R : BitSet) (w : ℕ)
+    → w < 256 → ((u : ℕ) → holds R u ≡ between (steps_to edge sets S u) (get_or start w 0) (get_or start (w + 1) 0))
     → yes_no t.states R ≡ along (rows_of t) (yes_no t.states S) w
 step-bits = Rattle.codec_steps.proofs.SetSteps.step-bits
 
 -- Stepping back: the set of those states whose group of the word leads into S is the list stepped back.
-pub back-bits : (t : Arrays) (start edge low high : List ℕ) → Grouped t start edge low high → (S R : BitSet) (w : ℕ)
-    → w < 256 → ((s : ℕ) → holds R s ≡ between (leads_into edge low high S s) (get_or start w 0)
+pub back-bits : (t : Arrays) (start edge : List ℕ) (sets : List BitSet) → Grouped t start edge sets
+    → (S R : BitSet) (w : ℕ)
+    → w < 256 → ((s : ℕ) → holds R s ≡ between (leads_into edge sets S s) (get_or start w 0)
     (get_or start (w + 1) 0))
     → yes_no t.states R ≡ back (rows_of t) (yes_no t.states S) w
 back-bits = Rattle.codec_steps.proofs.SetSteps.back-bits
 
 -- The pair check's own step: the rows that hold where two edges with one word lead from the pairs are the list stepped.
 pub pair-step-bits : (t : Arrays) → Fits t → ((e : ℕ) → e < places t → is_edge t e ≡ true → word_at t e < 256)
-    → (P R : List ℕ) → ((u v : ℕ) → u < t.states → holds (set_at R u) v ≡ some (joins_by t P 16 u v) 256)
+    → (P R : List BitSet) → ((u v : ℕ) → u < t.states → holds (set_at R u) v ≡ some (joins_by t P None u v) 256)
     → pairs_in t.states R ≡ into (reversed (rows_of t)) (pairs_in t.states P)
 pair-step-bits = Rattle.window_test.proofs.StepPairs.step-pairs
 
 -- Its own hit: where two edges with one word and different data lead from the pairs is where a clash leads.
 pub pair-hit-bits : (t : Arrays) → Fits t → ((e : ℕ) → e < places t → is_edge t e ≡ true → word_at t e < 256)
-    → (P R : List ℕ) → ((u v : ℕ) → u < t.states → holds (set_at R u) v ≡ some (clashes_by t P u v) 256)
+    → (P R : List BitSet) → ((u v : ℕ) → u < t.states → holds (set_at R u) v ≡ some (clashes_by t P u v) 256)
     → pairs_in t.states R ≡ hits (rows_of t) (pairs_in t.states P)
 pair-hit-bits = Rattle.window_test.proofs.StepPairs.hits-pairs
 
@@ -529,7 +529,7 @@ brought-alike = Rattle.compile.proofs.Brought.brought-alike
 -- All words come back exactly when they are a recording, so the value is then their number; otherwise it is smaller.
 pub verified : (rec : List ℕ) → Below 256 rec → (c : Code) → parse rec ≡ done c → (L : List ℕ)
     → ((verify_under rec L ≡ done L) ↔ Recording c L)
-    × ((answer_of (verify_under rec L) ≡ Done (length L)) ↔ Recording c L)
+    × ((answer_of (verify_under rec L) ≡ Ok (length L)) ↔ Recording c L)
     × ((F : List ℕ) → verify_under rec L ≡ done F → (length F ≤ length L) × (take (length F) L ≡ F))
 verified rec b c p L = (
   Rattle.codec_verify.proofs.Verified.verify-exact rec b c p L,
@@ -664,7 +664,7 @@ pub set-layout : (s : List ℕ) → (offset_of s 0 ≡ 1) × ((i : ℕ) → let 
 set-layout = Rattle.set_check.proofs.SetLayout.set-layout
 
 -- A set's first bad record with its number (8 if cut off); 8 with 0 for no bytes, with the count for bytes left over.
-pub set-order : (s : List ℕ) (i : ℕ) (r : Refusal) → (set_answer (read_set s) ≡ Bad i r)
+pub set-order : (s : List ℕ) (i : ℕ) (r : Refusal) → (set_answer (read_set s) ≡ Err (bad i r))
     ↔ (((length s ≡ 0) × (i ≡ 0) × (r ≡ Length))
     ⊎ (((i < get_or s 0 0) × ((k : ℕ) → k < i → (c : Code) × (record_of s k ≡ done c)) × (record_of s i ≡ refused r))
     ⊎ ((0 < length s) × (i ≡ get_or s 0 0) × ((k : ℕ) → k < i → (c : Code) × (record_of s k ≡ done c))
@@ -672,7 +672,7 @@ pub set-order : (s : List ℕ) (i : ℕ) (r : Refusal) → (set_answer (read_set
 set-order = Rattle.set_check.proofs.Orders.set-order
 
 -- A good set is answered with its count: so many records, all good, and its bytes end with the last.
-pub set-count : (s : List ℕ) (n : ℕ) → (set_answer (read_set s) ≡ Good n)
+pub set-count : (s : List ℕ) (n : ℕ) → (set_answer (read_set s) ≡ Ok n)
     ↔ ((0 < length s) × (n ≡ get_or s 0 0) × ((k : ℕ) → k < n → (c : Code) × (record_of s k ≡ done c))
     × (offset_of s n ≡ length s))
 set-count = Rattle.set_check.proofs.Orders.set-count
@@ -777,7 +777,7 @@ pub answer-words : ((xs : List ℕ) → let w = word_of (answer_of (done xs)) in
     (w / 2 ^ 56 ≡ 0) × (w % 2 ^ 56 ≡ min (length xs) (2 ^ 56 - 1)))
     × ((r : Refusal) → let w = word_of (answer_of (refused r)) in (w / 2 ^ 56 ≡ number_of r)
     × (w % 2 ^ 56 ≡ min (place_of r) (2 ^ 56 - 1)) × (1 ≤ number_of r) × (number_of r ≤ 17))
-    × ((a b : Answer) → answer_value a < 2 ^ 56 → answer_value b < 2 ^ 56 → word_of a ≡ word_of b → a ≡ b)
+    × ((a b : Result ℕ Refusal) → answer_value a < 2 ^ 56 → answer_value b < 2 ^ 56 → word_of a ≡ word_of b → a ≡ b)
 answer-words = (
   Rattle.word.proofs.Words.word-done,
   Rattle.word.proofs.Words.word-refused,
@@ -791,9 +791,9 @@ pub word-numbers : ((xs : List ℕ) → length xs < 2 ^ 56 → word_of (answer_o
 word-numbers = Rattle.word.proofs.Words.word-numbers
 
 -- The word of a set has number 0 and the count of a good set, or the refusal's number and that of the record.
-pub set_words : ((n : ℕ) → (set_word_of (Good n) / 2 ^ 56 ≡ 0) × (set_word_of (Good n) % 2 ^ 56 ≡ min n (2 ^ 56 - 1)))
-    × ((i : ℕ) (r : Refusal) → (set_word_of (Bad i r) / 2 ^ 56 ≡ number_of r)
-    × (set_word_of (Bad i r) % 2 ^ 56 ≡ min i (2 ^ 56 - 1)))
+pub set_words : ((n : ℕ) → (set_word_of (Ok n) / 2 ^ 56 ≡ 0) × (set_word_of (Ok n) % 2 ^ 56 ≡ min n (2 ^ 56 - 1)))
+    × ((i : ℕ) (r : Refusal) → (set_word_of (Err (bad i r)) / 2 ^ 56 ≡ number_of r)
+    × (set_word_of (Err (bad i r)) % 2 ^ 56 ≡ min i (2 ^ 56 - 1)))
 set_words = Rattle.sbc.proofs.Words.set_words
 
 -- A result fills the output from its first byte and leaves the bytes past its end; a refusal leaves all as lent.

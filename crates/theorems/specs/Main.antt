@@ -293,7 +293,7 @@ sets = (Rattle.set_check.proofs.Counts.set-written, Rattle.set_check.proofs.Coun
 -- In a good set record i stands at the place of number i, and its bytes hold code i.
 pub good-places : (s : List ℕ) (cs : List Code) → read_set s ≡ codes cs → (length cs ≡ get_or s 0 0)
     × ((i : ℕ) (d : Code) → i < length cs → (start : ℕ) × (len : ℕ) × (Rattle.set_places.specs.Offsets.record_place s i
-    ≡ Rattle.set_places.specs.declared.Place.TheVariants.At start len)
+    ≡ Rattle.set_places.specs.Offsets.found start len)
     × (parse (take len (drop start s)) ≡ done (get_or cs i d)))
 good-places = Rattle.set_check.proofs.Records.good-places
 

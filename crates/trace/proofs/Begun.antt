@@ -1,7 +1,7 @@
 -- The component of a job, as the code holds it.
 -- In order: members-are; splits-ready.
 -- Assumes nothing.
-use Rattle.std.proofs.Common.{◌≡◌, ◌*◌, ◌/◌, ◌%◌, ◌≤◌, ◌<◌}
+use Rattle.std.proofs.Common.{Some, ◌≡◌, ◌*◌, ◌/◌, ◌%◌, ◌≤◌, ◌<◌}
 use Rattle.laws.proofs.All.{sym, ap, subst, subst₂, ◌∙◌, Bool, false, List, ℕ, arith}
 use Rattle.laws.proofs.All.{length, get_or, take, length-take-le, sum, filter, first}
 use Rattle.compile_graph.specs.Weights.{weights}
@@ -13,8 +13,7 @@ use Rattle.compile_weights.specs.PowerTable.{tabled, Powers, word_count}
 use Rattle.compile_component.proofs.LiveArcs.{linked-is}
 use Rattle.compile_job.specs.Jobs.{Job, Allowed}
 use Rattle.compile.specs.Compile.{ways}
-use Rattle.compile.specs.Stages.{Begun}
-use Rattle.compile.proofs.CompileSteps.{begun-splits}
+use Rattle.compile.proofs.CompileSteps.{found-begun, begun-splits}
 use Rattle.trace_splits.specs.ChoiceParts.{Begins}
 use Rattle.trace.specs.declared.beginnings.Beginning.{Beginning}
 use Rattle.trace.specs.Beginnings.{FoundOf}
@@ -41,19 +40,13 @@ members-are {P} {words} {k} pw v long n counts E edges M reach lowest is =
 
 -- THEOREM: a component that weighs from 1 to 128 is split
 pub splits-ready : {j : Job} {k : ℕ} {b : Beginning} → FoundOf j k b → Allowed j → {n : ℕ} → n ≡ ways j
-    → (b.found.total ≡ 0 → ⊥) → b.found.total ≤ 128 → b.found.crowded ≡ false
-    → {q : ℕ} {g : Graph} → j.q ≡ q → b.found.graph ≡ g → Begins n q g
-splits-ready {j} {k} {b} i a {n} ways-are some light room e f =
-    let begun : Begun j n b.found.graph b.found.start = record {
-      count = ways-are;
-      work = i.found.work room;
-      fits = i.found.fits room;
-      first = i.found.start;
-      some = omega (arith, i.found.total, some);
-      light = omega (arith, i.found.total);
-    } in
-    subst₂ (Begins n) e f record {
+    → (b.found.total ≡ 0 → ⊥) → b.found.total ≤ 128 → {g : Graph} → b.found.graph ≡ Some g
+    → {q : ℕ} → j.q ≡ q → Begins n q g
+splits-ready {j} {k} {b} i a {n} ways-are some light {g} e f =
+    let begun = found-begun j n b.found g i.found e ways-are (omega (arith, i.found.total, some))
+    (omega (arith, i.found.total)) in
+    subst (λ q. Begins n q g) f record {
       narrow = a.q₂;
-      splits = begun-splits j a n b.found.graph b.found.start begun;
+      splits = begun-splits j a n g b.found.start begun;
       weighs = subst (λ x. 0 < sum x.weights) (sym begun.work) begun.some;
     }

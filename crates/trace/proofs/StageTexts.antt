@@ -1,9 +1,10 @@
 -- The steps of a job from its weights on.
 -- In order: stages-none, stages-heavy, stages-crowded, stages-all.
 -- Assumes nothing.
-use Rattle.std.proofs.Common.{◌≡◌, ◌||◌, ◌++◌, ◌≤◌, ◌<◌}
+use Rattle.std.proofs.Common.{Some, None, is_none, ◌≡◌, ◌||◌, ◌++◌, ◌≤◌, ◌<◌}
 use Rattle.laws.proofs.All.{refl, sym, ap, ap₂, subst, ◌∙◌, true, false, List, append_assoc}
 use Rattle.laws.proofs.All.{append-nil, ℕ, eq-eqb, ne_eqb, lt-ltb, le-ltb, ltb, eqb, take, sum}
+use Rattle.compile_graph.specs.declared.Graph.{Graph}
 use Rattle.compile_graph.specs.Component.{component_states}
 use Rattle.compile_graph.specs.Splitting.{crowded}
 use Rattle.compile_graph.specs.Value.{work_in}
@@ -55,14 +56,18 @@ module _ {j : Job} {k : ℕ} {b : Beginning} (i : FoundOf j k b) {at m : ℕ} {B
       light : ltb 128 (sum (component_of j).weights) ≡ false
       light = le-ltb 128 (sum (component_of j).weights) (subst (λ k. k ≤ 128) is l)
 
-      pub stages-crowded : b.found.crowded ≡ true → Added (stages j) at B D r
-      stages-crowded z = stages-stop (ap₂ ◌||◌ light (sym i.found.crowds ∙ z))
+      pub stages-crowded : b.found.graph ≡ None → Added (stages j) at B D r
+      stages-crowded z = stages-stop (ap₂ ◌||◌ light (sym i.found.crowds ∙ ap is_none z))
 
       -- THEOREM: all steps
-      pub stages-all : {n : ℕ} → n ≡ ways j → b.found.crowded ≡ false → {e : ℕ} {E : List ℕ}
-          → Added (split_text j.q n (work_in b.found.graph)) r D E e → Added (stages j) at B E e
+      pub stages-all : {n : ℕ} → n ≡ ways j → {g : Graph} → b.found.graph ≡ Some g → {e : ℕ} {E : List ℕ}
+          → Added (split_text j.q n (work_in g)) r D E e → Added (stages j) at B E e
       unfolding stages
-      stages-all e z s =
-          added-same (append_assoc (weights_line (weights_of j)) _ _
-          ∙ rw (some, light, sym i.found.crowds ∙ z) refl)
-          (front then added-same (ap₂ (split_text j.q) e (i.found.work z)) s)
+      stages-all e {g} z s =
+          let p : work_in g ≡ component_of j = (rw z at i.found.found).0 in
+          let x = component_of j in
+          added-same (append_assoc (weights_line (weights_of j))
+          (component_line (component_states (weights_of j) (graph_of j)) (sum x.weights))
+          (split_text j.q (ways j) x)
+          ∙ rw (some, light, sym i.found.crowds ∙ ap is_none z) refl)
+          (front then added-same (ap₂ (split_text j.q) e p) s)

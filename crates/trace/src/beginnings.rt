@@ -11,7 +11,6 @@ use compile_component::component_graph::{ComponentAnswer, find_component};
 use compile_job::JobValue;
 use compile_reach::reaching::{Members, first_returning, list_members, live_edges, reach_all};
 use compile_weights::state_weights::word_counts;
-use constraint::power::power_codes;
 
 // The weights, the states of the component in the constraint's numbers and how many there are, and the component.
 #[derive(Clone, Copy)]
@@ -31,7 +30,8 @@ fn component_states(power: &[u8; 4096], words: usize, k: usize, v: [usize; 16]) 
     let count = word_counts(power, words, k);
     let edge = live_edges(&count, v, k);
     let m = reach_all(&edge, k);
-    let s = first_returning(&m, v, k);
+    // Where there is none, no state has a weight, so that the component of any state is empty.
+    let s = first_returning(&m, v, k).unwrap_or(0);
     list_members(&m, v, k, s)
 }
 
@@ -40,7 +40,7 @@ pub fn begin(j: JobValue, n: usize) -> Beginning
     requires { JobReady j × (n ≡ ways (job_in j)) }
     ensures answer { FoundOf (job_in j) j.constraint.states result }
 {
-    let power = power_codes(j.constraint, j.q);
+    let power = j.constraint.power_codes(j.q);
     let words = bits::power(j.q);
     let k = j.constraint.states;
     let v = weights_of(j, &power, words, n);

@@ -7,7 +7,6 @@ ghost use Rattle.trace.specs.Traced.{failing};
 
 use answer::Refusal;
 use compile_job::JobValue;
-use constraint::power::power_codes;
 use table::chains::ways;
 use trace_stages::failures::put_failure;
 use trace_stages::put_weights;
@@ -18,7 +17,7 @@ pub fn put_failing(j: JobValue, out: &mut [u8], at: usize) -> usize
     requires { Held (job_in j) × (fit (job_in j) (job_in j).choice ≡ false) }
     ensures written { Added (failing (job_in j)) at out.old out.new result }
 {
-    let power = power_codes(j.constraint, j.q);
+    let power = j.constraint.power_codes(j.q);
     let words = bits::power(j.q);
     let k = j.constraint.states;
     let v = j.weight;

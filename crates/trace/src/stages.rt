@@ -27,9 +27,8 @@ pub fn put_stages(j: JobValue, out: &mut [u8], at: usize, n: usize) -> usize
     if 128 < found.total {
         return next;
     }
-    if found.crowded {
-        return next;
+    match found.graph {
+        None => next,
+        Some(g) => put_splitting(out, next, g, n, j.q),
     }
-    let g = found.graph;
-    put_splitting(out, next, g, n, j.q)
 }

@@ -1,19 +1,18 @@
 // The trace of a job: its weights, its component, each split, the table and the window, or the refusal where it comes.
-ghost use Rattle.std.specs.Prelude.{◌≡◌};
+ghost use Rattle.std.specs.Prelude.{IfOk};
 ghost use Rattle.text.specs.Texts.{Added};
 ghost use Rattle.answer.specs.Outcomes.{done};
-ghost use Rattle.answer.specs.declared.Verdict.TheVariants.{Good};
 ghost use Rattle.compile_job.specs.JobValues.{job_in, job_outcome, Held};
 ghost use Rattle.trace.specs.Traced.{tracing, traced_job, traced_run_length};
 
 use crate::endings::put_ending;
 use crate::failures::put_failing;
 use crate::stages::put_stages;
-use answer::Verdict;
+use answer::Refusal;
 use compile::compiling::{begin, compile};
+use compile_job::JobValue;
 use compile_job::fitting::passes;
 use compile_job::holding::{hold_job, hold_run_length};
-use compile_job::{JobAnswer, JobValue};
 use table::chains::ways;
 use view_refusals::put_refusal_line;
 
@@ -30,15 +29,13 @@ fn trace_held(j: JobValue, out: &mut [u8], at: usize) -> usize
 }
 
 // The trace of a job that bytes hold, or the refusal.
-fn trace(r: JobAnswer, out: &mut [u8], at: usize) -> usize
-    requires { r.verdict ≡ Good → Held (job_in r.job) }
+fn trace(r: Result<JobValue, Refusal>, out: &mut [u8], at: usize) -> usize
+    requires { IfOk r (λ j. Held (job_in j)) }
     ensures written { Added (tracing (job_outcome r)) at out.old out.new result }
 {
-    let v = r.verdict;
-    let j = r.job;
-    match v {
-        Verdict::Bad(x) => put_refusal_line(out, at, x),
-        Verdict::Good => trace_held(j, out, at),
+    match r {
+        Err(x) => put_refusal_line(out, at, x),
+        Ok(j) => trace_held(j, out, at),
     }
 }
 

@@ -2,28 +2,27 @@
 -- In order: chosen-in; chosen-line.
 -- Assumes nothing.
 use Rattle.std.proofs.Common.{◌≡◌, ◌+◌, ◌/◌, ◌≤◌}
-use Rattle.laws.proofs.All.{sym, ap, ap₂, ◌∙◌, List, map, ℕ, arith, get_or, take, length-map-range}
+use Rattle.laws.proofs.All.{sym, ap, ap₂, ◌∙◌, List, map, ℕ, length, get_or, length-map-range}
 use Rattle.compile_graph.specs.declared.Graph.{Graph}
-use Rattle.compile_order.specs.declared.keys.Keys.{Keys}
+use Rattle.arrayvec.specs.ArrayVec.{ArrayVec}
 use Rattle.compile_choice.specs.declared.find_run.Run.{Run}
 use Rattle.compile_graph.specs.Arcs.{Work}
 use Rattle.compile_graph.specs.Weights.{total}
 use Rattle.compile_graph.specs.Splitting.{chosen, kept}
 use Rattle.compile_graph.specs.Value.{weight_at, weights_in, arcs_in, work_in}
-use Rattle.compile_order.specs.EdgeKeys.{keys_in, key_weight}
+use Rattle.compile_order.specs.EdgeKeys.{key_weight}
 use Rattle.compile_choice.specs.ChoiceParts.{FirstRun}
 use Rattle.compile_split.proofs.SplitState.{Keyed, inside-run, kept-is, kept-total, share-le}
 use Rattle.text.specs.Texts.{Added}
 use Rattle.text.proofs.Adding.{added-same}
 use Rattle.trace_splits.specs.declared.choices.Choice.{Choice}
 use Rattle.trace_splits.specs.SplitText.{part_line, split_line}
-use Rattle.trace_splits.specs.ChoiceParts.{run_arcs, ChosenIn}
-use Rattle.trace_splits.proofs.Kept.{kept_run}
+use Rattle.trace_splits.specs.ChoiceParts.{ChosenIn}
+use Rattle.compile_split.specs.SplitParts.{kept_arcs}
 
-module _ {n : ℕ} {g : Graph} {s M : ℕ} {list : Keys} (k : Keyed n g s M list) (w : List ℕ)
-    (w-is : take list.count w ≡ map (key_weight g) (keys_in list)) (run : Run)
-    (run_is : FirstRun n (take list.count w) run) where
-  within : run.from + run.count ≤ list.count
+module _ {n : ℕ} {g : Graph} {s M : ℕ} {list : ArrayVec ℕ} (k : Keyed n g s M list.items) (w : List ℕ)
+    (w-is : w ≡ map (key_weight g) list.items) (run : Run) (run_is : FirstRun n w run) where
+  within : run.from + run.count ≤ length list.items
   within = inside-run k w w-is run run_is
 
   -- THEOREM: state, weight, run and shares are those of the rule
@@ -32,23 +31,22 @@ module _ {n : ℕ} {g : Graph} {s M : ℕ} {list : Keys} (k : Keyed n g s M list
     weight = M;
     share = run.total / n;
     fresh = g.states;
-    from = run.from;
-    count = run.count;
-    keys = list.key;
+    run = run;
+    keys = list;
   })
   chosen-in is = record {
     state = is;
     weight = k.weighs;
-    edges = kept_run s list run within ∙ kept-is k w w-is run run_is;
+    edges = kept-is k w w-is run run_is;
     share = ap (λ t. t / n) (sym (kept-total k w w-is run run_is));
     fresh = sym (length-map-range (weight_at g) g.states);
-    inside = omega (arith, within, k.few-keys, k.narrow);
+    inside = within;
     less = share-le k w w-is run run_is;
   }
 
 -- THEOREM: so its line is that of the split
 pub chosen-line : (q : ℕ) {n : ℕ} {x : Work} {c : Choice} → ChosenIn n x c → {at r : ℕ} {B C : List ℕ}
-    → Added (part_line q c.state c.weight (run_arcs c.state c.keys c.from c.count) c.share
+    → Added (part_line q c.state c.weight (kept_arcs c.state c.keys.items c.run) c.share
     c.fresh) at B C r
     → Added (split_line q n x) at B C r
 unfolding split_line

@@ -3,21 +3,20 @@ ghost use Rattle.compile_graph.specs.Value.{work_in};
 ghost use Rattle.trace_splits.specs.ChoiceParts.{Ripe, ChosenIn};
 
 use compile_choice::choose::{candidate_keys, choose, greatest_weight};
-use compile_choice::find_run::first_run;
+use compile_choice::find_run::{Run, first_run};
 use compile_graph::Graph;
-use compile_order::keys::key_weights;
+use compile_order::keys::{Keys, key_weights};
 
 // The state to split and its weight, the weight that it keeps, the number of the new state, and the run of keys of the
 // edges that it keeps.
-#[derive(Clone, Copy)]
+#[derive(Drop)]
 pub struct Choice {
     pub state: usize,
     pub weight: usize,
     pub share: usize,
     pub fresh: usize,
-    pub from: usize,
-    pub count: usize,
-    pub keys: [usize; 16],
+    pub run: Run,
+    pub keys: Keys,
 }
 
 // The choice of the rule.
@@ -27,17 +26,15 @@ pub fn next_choice(g: Graph, n: usize) -> Choice
 {
     let m = greatest_weight(g);
     let s = choose(g, m);
-    let list = candidate_keys(g, s, m, n);
-    let count = list.count;
-    let run = first_run(key_weights(g, list), count, n);
-    let keys = list.key;
+    let keys = candidate_keys(g, s, m, n);
+    let weights = key_weights(g, &keys);
+    let run = first_run(&weights, n);
     Choice {
         state: s,
         weight: m as usize,
         share: run.total / n,
         fresh: g.states,
-        from: run.from,
-        count: run.count,
-        keys: keys,
+        run,
+        keys,
     }
 }

@@ -1,8 +1,9 @@
 -- Which call a case makes, and what it comes to: its number and its value.
 -- In order: told_of, told_of_set; Called.
 -- Assumes nothing.
+use Rattle.answer.specs.declared.Refusal.{Refusal}
+use Rattle.std.specs.Prelude.{Result}
 use Rattle.std.specs.Prelude.{◌≡◌, ℕ, List}
-use Rattle.answer.specs.declared.Answer.{Answer}
 use Rattle.answer.specs.Outcomes.{answer_of}
 use Rattle.answer.specs.Answers.{answer_number, answer_value}
 use Rattle.record_check.specs.Parse.{checked_only}
@@ -12,7 +13,7 @@ use Rattle.set_check.specs.Results.{set_answer, set_number, set_value}
 use Rattle.judging.specs.declared.Told.{Told}
 
 -- the number and the value of an answer
-abbrev pub told_of : Answer → Told
+abbrev pub told_of : Result ℕ Refusal → Told
 told_of a = record { number = answer_number a; value = answer_value a }
 
 -- the number and the value of what a set is answered

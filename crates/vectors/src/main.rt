@@ -9,9 +9,10 @@ mod calls;
 mod walk;
 
 use checksum::START;
-use files::Loaded;
+use files::LoadError;
+use judging::say_number;
 use sentences::put_sentence;
-use text::{put, put_hex, put_line};
+use text::{put, put_hex};
 use walk::{Tally, is_end, walk};
 
 // A text.
@@ -28,53 +29,16 @@ fn say_file<R: Print>(rt: &R, bytes: &[u8]) {
     let _ = rt.write_all(&out[..size]);
 }
 
-// A name and a number on a line.
-fn say_number<R: Print>(rt: &R, name: &[u8], n: u64) {
-    let mut out = [0u8; 128];
-    let size = put_line(&mut out, 0, name, n);
-    let _ = rt.write_all(&out[..size]);
-}
-
 // The numbers of a tally as they are printed: of kinds 1 to 17 and then of all, how many cases, and how many differ.
 fn numbers_of(t: Tally) -> [usize; 36] {
-    [
-        t.kinds[1] as usize,
-        t.differ[1] as usize,
-        t.kinds[2] as usize,
-        t.differ[2] as usize,
-        t.kinds[3] as usize,
-        t.differ[3] as usize,
-        t.kinds[4] as usize,
-        t.differ[4] as usize,
-        t.kinds[5] as usize,
-        t.differ[5] as usize,
-        t.kinds[6] as usize,
-        t.differ[6] as usize,
-        t.kinds[7] as usize,
-        t.differ[7] as usize,
-        t.kinds[8] as usize,
-        t.differ[8] as usize,
-        t.kinds[9] as usize,
-        t.differ[9] as usize,
-        t.kinds[10] as usize,
-        t.differ[10] as usize,
-        t.kinds[11] as usize,
-        t.differ[11] as usize,
-        t.kinds[12] as usize,
-        t.differ[12] as usize,
-        t.kinds[13] as usize,
-        t.differ[13] as usize,
-        t.kinds[14] as usize,
-        t.differ[14] as usize,
-        t.kinds[15] as usize,
-        t.differ[15] as usize,
-        t.kinds[16] as usize,
-        t.differ[16] as usize,
-        t.kinds[17] as usize,
-        t.differ[17] as usize,
-        t.cases as usize,
-        t.wrong as usize,
-    ]
+    let mut numbers = [0usize; 36];
+    for i in 0..17 {
+        numbers[2 * i] = t.kinds[i + 1] as usize;
+        numbers[2 * i + 1] = t.differ[i + 1] as usize;
+    }
+    numbers[34] = t.cases as usize;
+    numbers[35] = t.wrong as usize;
+    numbers
 }
 
 // What is printed of a tally.
@@ -111,8 +75,8 @@ fn main(rt: HostRuntime) {
     let mut bytes = files::buffer();
     let loaded = files::load(&rt, b"vectors", &mut bytes);
     match loaded {
-        Loaded::Whole(n) => run(&rt, &bytes[..n]),
-        Loaded::Unreadable(_) => say(&rt, b"vectors cannot be read\n"),
-        Loaded::TooLong => say(&rt, b"vectors is too long\n"),
+        Ok(n) => run(&rt, &bytes[..n]),
+        Err(LoadError::Unreadable(_)) => say(&rt, b"vectors cannot be read\n"),
+        Err(LoadError::TooLong) => say(&rt, b"vectors is too long\n"),
     }
 }

@@ -4,10 +4,8 @@ ghost use Rattle.cases.specs.Placing.{Whole};
 ghost use Rattle.vectors.specs.Counting.{Few, Counted, ends_at};
 
 use crate::calls::call;
-use crate::say_number;
 use cases::{Case, case_at, is_case};
-use judging::{is_same, judge};
-use std::num::wrapping_add_u64;
+use judging::{is_same, judge, say_number};
 
 // The place that the walk reached; how many cases there were, and how many of them differ; and for each kind how many
 // cases it has and how many of them differ.
@@ -39,18 +37,12 @@ fn known_agrees(bytes: &[u8], c: Case) -> bool
 {
     let mut out = lent();
     let room = c.room;
-    let first = c.first;
-    let behind = c.behind;
-    let second = c.second;
-    let told = c.told;
-    let output = c.output;
-    let end = c.end;
     call_agrees(
         c,
-        &bytes[first..behind],
-        &bytes[second..told],
+        &bytes[c.first..c.behind],
+        &bytes[c.second..c.told],
         &mut out[..room],
-        &bytes[output..end],
+        &bytes[c.output..c.end],
     )
 }
 
@@ -76,8 +68,8 @@ fn with_case(t: Tally, c: Case, more: u64) -> Tally
     r.at = c.end;
     r.cases = t.cases + 1;
     r.wrong = t.wrong + more;
-    r.kinds[kind] = wrapping_add_u64(t.kinds[kind], 1);
-    r.differ[kind] = wrapping_add_u64(t.differ[kind], more);
+    r.kinds[kind] = t.kinds[kind].wrapping_add(1);
+    r.differ[kind] = t.differ[kind].wrapping_add(more);
     r
 }
 
@@ -112,10 +104,8 @@ pub fn walk<R: Print>(rt: &R, bytes: &[u8]) -> Tally
     let mut t = no_case();
     let mut c = case_at(bytes, 0);
     while is_case(bytes, c) {
-        let next = step(rt, bytes, t, c);
-        t = next;
-        let following = case_at(bytes, t.at);
-        c = following;
+        t = step(rt, bytes, t, c);
+        c = case_at(bytes, t.at);
     }
     t
 }
@@ -125,8 +115,5 @@ pub fn is_end(bytes: &[u8], at: usize) -> bool
     requires { at ≤ length bytes.now }
     ensures answer { result ≡ ends_at at bytes.now }
 {
-    if bytes.len() - at != 1 {
-        return false;
-    }
-    bytes[at] == 0
+    bytes.len() - at == 1 && bytes[at] == 0
 }

@@ -1,5 +1,5 @@
 -- The diagram of the code that a table stands for.
--- In order: added-here; opens-so, opens_not; others-none, others-joined, others_apart; arrows-none, arrows-open,
+-- In order: opens-so, opens_not; others-none, others-joined, others_apart; arrows-none, arrows-open,
 -- arrows-same; diagram-is, diagram-drawn, matrix-drawn, nothing-drawn.
 -- Assumes nothing.
 use Rattle.std.proofs.Common.{◌≡◌, ◌&&◌, ◌∷◌, ◌++◌, ◌+◌, ◌*◌, ◌/◌, ◌%◌, ◌^◌, ◌≤◌, ◌<◌, if◌then◌else◌}
@@ -14,18 +14,13 @@ use Rattle.table.specs.Rows.{at}
 use Rattle.table.specs.Value.{word_at, next_at, code_in, ready}
 use Rattle.table.proofs.Marks.{some-stop}
 use Rattle.table.proofs.RowsOf.{length-rows, row-long, edge-at}
-use Rattle.text.specs.Texts.{bytes, Added}
+use Rattle.text.specs.Texts.{bytes}
 use Rattle.text.specs.Words.{binary}
 use Rattle.sentences.specs.Sentences.{said}
 use Rattle.view_draw.specs.Drawn.{joined, opens, other, others, arrow_head, arrow_text, arrow}
 use Rattle.view_draw.specs.Drawn.{arrow_of, table_arrow, arrows_to, opening, diagram, drawn, draw_text}
 use Rattle.view_matrix.specs.Matrix.{matrix}
 use Rattle.view_listing.proofs.Edges.{edges_are}
-
--- a text, where the bytes after it and the place have other names
-pub added-here : {s B C D : List ℕ} {at m r : ℕ} → D ≡ C → m ≡ r → Added s at B C r → Added s at B D m
-added-here {s = s} {B = B} {C = C} {at = at} {m = m} e f p =
-    subst (λ l. Added s at B l m) (sym e) (subst (λ k. Added s at B C k) (sym f) p)
 
 -- ---- the first datum of an arrow
 pub opens-so : (next : ℕ → ℕ) (d : ℕ) → some (joined next d) d ≡ false → true ≡ opens next d

@@ -1,9 +1,9 @@
 -- The listing of a run-length job is the reading of the job, and then the listing of its code.
 -- In order: listed-so.
 -- Assumes nothing.
-use Rattle.std.proofs.Common.{◌≡◌}
+use Rattle.std.proofs.Common.{Result, ◌≡◌}
 use Rattle.laws.proofs.All.{refl, ap, ◌∙◌, List, ℕ}
-use Rattle.answer.specs.declared.Answer.{Answer}
+use Rattle.answer.specs.declared.Refusal.{Refusal}
 use Rattle.answer.specs.Outcomes.{Outcome, done, refused, onward, fitting, answer_of, output_of}
 use Rattle.compile_job.specs.Jobs.{Job, read_listed}
 use Rattle.compile.specs.Compile.{compile}
@@ -18,7 +18,7 @@ list-onward xs room = go (read_listed xs)
     go (done j) = refl
     go (refused r) = refl
 
-pub listed-so : (xs : List ℕ) (room : ℕ) (B C : List ℕ) (r : Answer)
+pub listed-so : (xs : List ℕ) (room : ℕ) (B C : List ℕ) (r : Result ℕ Refusal)
     → (r ≡ answer_of (onward (read_listed xs) (listed_into room)))
     × (C ≡ output_of (onward (read_listed xs) (listed_into room)) B)
     → (r ≡ answer_of (list_into xs room)) × (C ≡ output_of (list_into xs room) B)

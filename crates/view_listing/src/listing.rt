@@ -7,45 +7,56 @@ ghost use Rattle.view_listing.specs.Edges.{lines_to};
 ghost use Rattle.view_listing.specs.Listing.{entry, listing};
 
 use crate::filling::fill;
-use answer::Answer;
-use sentences::put_sentence;
+use answer::Refusal;
+use sentences::write_sentence;
 use table::Table;
 use table::chains::ways;
-use text::{put, put_word};
+use text::Writer;
 
 // The line of an edge.
-fn put_entry(out: &mut [u8], at: usize, q: usize, s: usize, d: usize, w: usize, t: usize) -> usize
+fn write_entry(to: &mut Writer, q: usize, s: usize, d: usize, w: usize, t: usize)
     requires { q ≤ 8 }
-    ensures written { Added (entry q s d w t) at out.old out.new result }
+    ensures lent { to.new.out.ghost_name ≡ to.old.out.ghost_name }
+    ensures written { Added (entry q s d w t) to.old.at to.old.out.now to.new.out.now to.new.at }
 {
-    let word = put_sentence(out, at, b"# # ", &[s, d]);
-    let next = put_word(out, word, q, w);
-    put_sentence(out, next, b" #\n", &[t])
+    write_sentence(to, b"# # ", &[s, d]);
+    to.word(q, w);
+    write_sentence(to, b" #\n", &[t]);
 }
 
 // The lines of all edges, n a state.
-fn put_entries(out: &mut [u8], first: usize, code: Table, n: usize) -> usize
-    requires { Ready code × (n ≡ 2 ^ code.p) }
-    ensures written { Added (lines_to entry code (code.states * n)) first out.old out.new result }
+fn write_entries(to: &mut Writer, code: &Table, n: usize)
+    requires { Ready code.now × (n ≡ 2 ^ code.now.p) }
+    ensures lent { to.new.out.ghost_name ≡ to.old.out.ghost_name }
+    ensures written { Added (lines_to entry code.now (code.now.states * n)) to.old.at to.old.out.now to.new.out.now
+        to.new.at }
 {
-    let q = code.q;
-    let edges = code.states * n;
-    let mut at = put(out, first, b"");
-    let mut e = 0;
-    while e < edges {
+    to.put(b"");
+    for e in 0..code.states * n {
         let i = e / n * 16 + e % n;
-        at = put_entry(
-            out,
-            at,
-            q,
+        write_entry(
+            to,
+            code.q,
             e / n,
             e % n,
             code.word[i] as usize,
             code.next[i] as usize,
         );
-        e += 1;
     }
-    at
+}
+
+// The listing.
+pub fn write_listing(to: &mut Writer, t: &Table)
+    requires { Ready t.now }
+    ensures lent { to.new.out.ghost_name ≡ to.old.out.ghost_name }
+    ensures written { Added (listing (code_in t.now)) to.old.at to.old.out.now to.new.out.now to.new.at }
+{
+    write_sentence(
+        to,
+        b"# # # # #\n",
+        &[t.p, t.q, t.states, t.memory, t.lookahead],
+    );
+    write_entries(to, t, ways(t.p));
 }
 
 // The listing after the first `at` bytes; the answer is the place after it.
@@ -53,17 +64,13 @@ pub fn put_listing(out: &mut [u8], at: usize, t: Table) -> usize
     requires { Ready t }
     ensures written { Added (listing (code_in t)) at out.old out.new result }
 {
-    let first = put_sentence(
-        out,
-        at,
-        b"# # # # #\n",
-        &[t.p, t.q, t.states, t.memory, t.lookahead],
-    );
-    put_entries(out, first, t, ways(t.p))
+    let mut writer = Writer::new(out, at);
+    write_listing(&mut writer, &t);
+    writer.at
 }
 
 // The listing of a table in the output, or refusal 13.
-pub fn list(t: Table, out: &mut [u8]) -> Answer
+pub fn list(t: Table, out: &mut [u8]) -> Result<usize, Refusal>
     requires { Ready t }
     ensures answer { result ≡ answer_of (fitting (length out.old) (listing (code_in t))) }
     ensures written { out.new ≡ output_of (fitting (length out.old) (listing (code_in t))) out.old }

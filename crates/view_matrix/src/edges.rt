@@ -1,4 +1,5 @@
-// The word and the next state of an edge of a table.
+// The word and the next state of an edge of a table. Two functions, as the definitions are two: one that is given the
+// array would say less where it is called.
 ghost use Rattle.std.specs.Prelude.{◌≡◌, ◌<◌};
 ghost use Rattle.table.specs.Value.{word_at, next_at};
 
@@ -6,19 +7,17 @@ use table::Table;
 use table::chains::wide;
 
 // The word of the edge of state s that carries d.
-pub fn word_at(code: Table, s: usize, d: usize) -> usize
+pub fn word_at(code: &Table, s: usize, d: usize) -> usize
     requires { (s < 128) × (d < 16) }
-    ensures answer { (result ≡ word_at code s d) × (result < 256) }
+    ensures answer { (result ≡ word_at code.now s d) × (result < 256) }
 {
-    let words = code.word;
-    wide(words[s * 16 + d])
+    wide(code.word[s * 16 + d])
 }
 
 // The next state of the edge of state s that carries d.
-pub fn next_at(code: Table, s: usize, d: usize) -> usize
+pub fn next_at(code: &Table, s: usize, d: usize) -> usize
     requires { (s < 128) × (d < 16) }
-    ensures answer { result ≡ next_at code s d }
+    ensures answer { result ≡ next_at code.now s d }
 {
-    let states = code.next;
-    wide(states[s * 16 + d])
+    wide(code.next[s * 16 + d])
 }

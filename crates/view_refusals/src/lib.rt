@@ -6,18 +6,20 @@ ghost use Rattle.text.specs.Texts.{Added};
 ghost use Rattle.view_refusals.specs.Phrases.{words_of, phrase_of, refusal_words, refusal_line};
 
 use crate::lines::line;
-use answer::{Refusal, refusal_number, refusal_place};
-use text::{put, put_decimal, put_number};
+use answer::Refusal;
+use text::Writer;
 
 mod lines;
 
-// The words of a number after the first `at` bytes; the answer is the place after them. Line 0 is empty, a number
-// that is no refusal has no words, and 11 has its place after the words.
-pub fn put_words(out: &mut [u8], at: usize, number: u64) -> usize
-    ensures written { Added (words_of number) at out.old out.new result }
+// The words of a number. Line 0 is empty, a number that is no refusal has no words, and 11 has its place after the
+// words.
+pub fn write_words(to: &mut Writer, number: u64)
+    ensures lent { to.new.out.ghost_name ≡ to.old.out.ghost_name }
+    ensures written { Added (words_of number) to.old.at to.old.out.now to.new.out.now to.new.at }
 {
-    if 17 < number {
-        return put(out, at, b"");
+    if number > 17 {
+        to.put(b"");
+        return;
     }
     let words: &[u8] = b"\n\
         p, q or cap out of range\n\
@@ -37,34 +39,63 @@ pub fn put_words(out: &mut [u8], at: usize, number: u64) -> usize
         over 1,000,000 words, wrong number of bytes, or fill not 0\n\
         depth D is not 2 to 16, or does not divide the length\n\
         weights over cap, all 0, or the inequality fails at a state\n";
-    put(out, at, line(words, number as usize))
+    to.put(line(words, number as usize));
 }
 
-// The condition of a refusal after the first `at` bytes; the answer is the place after it.
-pub fn put_phrase(out: &mut [u8], at: usize, r: Refusal) -> usize
-    ensures written { Added (phrase_of r) at out.old out.new result }
+// The condition of a refusal.
+pub fn write_phrase(to: &mut Writer, r: Refusal)
+    ensures lent { to.new.out.ghost_name ≡ to.old.out.ghost_name }
+    ensures written { Added (phrase_of r) to.old.at to.old.out.now to.new.out.now to.new.at }
 {
-    let number = refusal_number(r);
-    let end = put_words(out, at, number);
+    let number = r.number();
+    write_words(to, number);
     if number == 11 {
-        return put_decimal(out, end, refusal_place(r) as u64);
+        to.decimal(r.place() as u64);
     }
-    end
+}
+
+// The number and the condition of a refusal.
+pub fn write_refusal(to: &mut Writer, r: Refusal)
+    ensures lent { to.new.out.ghost_name ≡ to.old.out.ghost_name }
+    ensures written { Added (refusal_words r) to.old.at to.old.out.now to.new.out.now to.new.at }
+{
+    to.number(b"refused ", r.number());
+    to.put(b": ");
+    write_phrase(to, r);
+}
+
+// The same as a line.
+pub fn write_refusal_line(to: &mut Writer, r: Refusal)
+    ensures lent { to.new.out.ghost_name ≡ to.old.out.ghost_name }
+    ensures written { Added (refusal_line r) to.old.at to.old.out.now to.new.out.now to.new.at }
+{
+    write_refusal(to, r);
+    to.put(b"\n");
+}
+
+// The words of a number after the first `at` bytes; the answer is the place after them.
+pub fn put_words(out: &mut [u8], at: usize, number: u64) -> usize
+    ensures written { Added (words_of number) at out.old out.new result }
+{
+    let mut writer = Writer::new(out, at);
+    write_words(&mut writer, number);
+    writer.at
 }
 
 // The number and the condition of a refusal after the first `at` bytes; the answer is the place after them.
 pub fn put_refusal(out: &mut [u8], at: usize, r: Refusal) -> usize
     ensures written { Added (refusal_words r) at out.old out.new result }
 {
-    let colon = put_number(out, at, b"refused ", refusal_number(r));
-    let phrase = put(out, colon, b": ");
-    put_phrase(out, phrase, r)
+    let mut writer = Writer::new(out, at);
+    write_refusal(&mut writer, r);
+    writer.at
 }
 
-// The same as a line.
+// The same as a line; the answer is the place after it.
 pub fn put_refusal_line(out: &mut [u8], at: usize, r: Refusal) -> usize
     ensures written { Added (refusal_line r) at out.old out.new result }
 {
-    let end = put_refusal(out, at, r);
-    put(out, end, b"\n")
+    let mut writer = Writer::new(out, at);
+    write_refusal_line(&mut writer, r);
+    writer.at
 }

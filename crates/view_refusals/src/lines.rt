@@ -7,10 +7,7 @@ fn behind(at: usize, size: usize) -> usize
     requires { at ≤ size }
     ensures answer { (result ≡ min (at + 1) size) × (result ≤ size) }
 {
-    if at < size {
-        return at + 1;
-    }
-    size
+    if at < size { at + 1 } else { size }
 }
 
 // Where the line ends that starts at a place.
@@ -18,14 +15,12 @@ fn line_end(text: &[u8], from: usize) -> usize
     requires { from ≤ length text.now }
     ensures answer { (result ≡ from + line_end (drop from text.now)) × (result ≤ length text.now) }
 {
-    let mut i = from;
-    while i < text.len() {
-        if text[i] == 10 {
+    for i in from..text.len() {
+        if text[i] == b'\n' {
             return i;
         }
-        i += 1;
     }
-    i
+    text.len()
 }
 
 // Where line n starts, counted from 0.
@@ -33,11 +28,9 @@ fn line_start(text: &[u8], n: usize) -> usize
     ensures answer { (drop result text.now ≡ rest n text.now) × (result ≤ length text.now) }
 {
     let mut from = 0;
-    let mut i = 0;
-    while i < n {
+    for _i in 0..n {
         let end = line_end(text, from);
         from = behind(end, text.len());
-        i += 1;
     }
     from
 }

@@ -7,61 +7,64 @@ ghost use Rattle.view_show.specs.Shown.{window_line, whole, show_text};
 
 mod limits;
 
-use crate::limits::put_constraint;
-use sentences::put_sentence;
+use crate::limits::write_constraint;
+use sentences::write_sentence;
 use table::Table;
-use table::ready::is_ready;
-use text::put;
-use view_listing::listing::put_listing;
+use text::Writer;
+use view_listing::listing::write_listing;
 
 // The line of the window.
-fn put_window(out: &mut [u8], at: usize, m: usize, a: usize) -> usize
-    ensures written { Added (window_line m a) at out.old out.new result }
+fn write_window(to: &mut Writer, m: usize, a: usize)
+    ensures lent { to.new.out.ghost_name ≡ to.old.out.ghost_name }
+    ensures written { Added (window_line m a) to.old.at to.old.out.now to.new.out.now to.new.at }
 {
     if m == 0 && a == 0 {
-        return put_sentence(
-            out,
-            at,
+        write_sentence(
+            to,
             b"memory #, lookahead #: a bad word at i can spoil block i\n",
             &[m, a],
         );
+    } else {
+        write_sentence(
+            to,
+            b"memory #, lookahead #: a bad word at i can spoil blocks i - # to i + #\n",
+            &[m, a, a, m],
+        );
     }
-    put_sentence(
-        out,
-        at,
-        b"memory #, lookahead #: a bad word at i can spoil blocks i - # to i + #\n",
-        &[m, a, a, m],
-    )
 }
 
 // The table is one that a record can give, with its window.
-fn is_whole(t: Table) -> bool
-    ensures answer { result ≡ whole t }
+fn is_whole(t: &Table) -> bool
+    ensures answer { result ≡ whole t.now }
 {
-    if 15 < t.memory {
-        return false;
+    t.memory <= 15 && t.lookahead <= 15 && t.is_ready()
+}
+
+// The code in words and its listing.
+pub fn write_show(to: &mut Writer, t: &Table)
+    ensures lent { to.new.out.ghost_name ≡ to.old.out.ghost_name }
+    ensures written { Added (show_text t.now) to.old.at to.old.out.now to.new.out.now to.new.at }
+{
+    if !is_whole(t) {
+        to.put(b"");
+        return;
     }
-    if 15 < t.lookahead {
-        return false;
-    }
-    is_ready(t)
+    write_sentence(
+        to,
+        b"# data bit~ to # channel bit~, # state~\n",
+        &[t.p, t.p, t.q, t.q, t.states, t.states],
+    );
+    write_window(to, t.memory, t.lookahead);
+    write_constraint(to, t.constraint, t.start);
+    write_sentence(to, b"tail datum #\n", &[t.tail]);
+    write_listing(to, t);
 }
 
 // The code in words and its listing after the first `at` bytes; the answer is the place after them.
 pub fn show(t: Table, out: &mut [u8], at: usize) -> usize
     ensures written { Added (show_text t) at out.old out.new result }
 {
-    if !is_whole(t) {
-        return put(out, at, b"");
-    }
-    let window = put_sentence(
-        out,
-        at,
-        b"# data bit~ to # channel bit~, # state~\n",
-        &[t.p, t.p, t.q, t.q, t.states, t.states],
-    );
-    let constraint = put_window(out, window, t.memory, t.lookahead);
-    let closing = put_constraint(out, constraint, t.constraint, t.start);
-    let first = put_sentence(out, closing, b"tail datum #\n", &[t.tail]);
-    put_listing(out, first, t)
+    let mut writer = Writer::new(out, at);
+    write_show(&mut writer, &t);
+    writer.at
 }

@@ -7,18 +7,14 @@ ghost use Rattle.sentences.specs.Sentences.{sentence};
 ghost use Rattle.view_show.specs.Limits.{alike, least_run, state_line, states_to, constraint_lines};
 
 use constraint::Constraint;
-use constraint::runs::run_length;
-use sentences::put_sentence;
-use text::put;
+use sentences::write_sentence;
+use text::Writer;
 
 // Whether two states have the same next states.
 fn is_alike(z: u8, o: u8, zero: u8, one: u8) -> bool
     ensures answer { result ≡ (eqb z zero && eqb o one) }
 {
-    if z != zero {
-        return false;
-    }
-    o == one
+    z == zero && o == one
 }
 
 // Whether every state of the first constraint has the same next states in the second.
@@ -26,15 +22,7 @@ fn is_same(a: Constraint, b: Constraint) -> bool
     requires { a.states ≤ 16 }
     ensures answer { result ≡ all (λ i. alike (next_states_at a i) (next_states_at b i)) (range a.states) }
 {
-    let count = a.states;
-    let mut i = 0;
-    while i < count {
-        if !is_alike(a.zero[i], a.one[i], b.zero[i], b.one[i]) {
-            return false;
-        }
-        i += 1;
-    }
-    true
+    (0..a.states).all(|i| is_alike(a.zero[i], a.one[i], b.zero[i], b.one[i]))
 }
 
 // The d with which the constraint is (d, k), or the number of its states.
@@ -42,92 +30,82 @@ fn least_run(c: Constraint) -> usize
     requires { c.states ≤ 16 }
     ensures answer { result ≡ least_run (constraint_of c) }
 {
-    let count = c.states;
-    let mut d = 0;
-    while d < count {
-        if is_same(c, run_length(d, count - 1)) {
+    for d in 0..c.states {
+        if is_same(c, Constraint::run_length(d, c.states - 1)) {
             return d;
         }
-        d += 1;
     }
-    count
+    c.states
 }
 
 // The first of two sentences if something is so, otherwise the second.
-fn put_either(
-    out: &mut [u8],
-    at: usize,
-    so: bool,
-    first: &[u8],
-    second: &[u8],
-    numbers: &[usize],
-) -> usize
+fn write_either(to: &mut Writer, so: bool, first: &[u8], second: &[u8], numbers: &[usize])
+    ensures lent { to.new.out.ghost_name ≡ to.old.out.ghost_name }
     ensures written { Added (if so then sentence first.now numbers.now
         else sentence second.now numbers.now)
-        at out.old out.new result }
+        to.old.at to.old.out.now to.new.out.now to.new.at }
 {
     if so {
-        return put_sentence(out, at, first, numbers);
+        write_sentence(to, first, numbers);
+    } else {
+        write_sentence(to, second, numbers);
     }
-    put_sentence(out, at, second, numbers)
 }
 
 // The line of a state.
-fn put_state(out: &mut [u8], at: usize, s: usize, zero: u8, one: u8) -> usize
-    ensures written { Added (state_line s zero one) at out.old out.new result }
+fn write_state(to: &mut Writer, s: usize, zero: u8, one: u8)
+    ensures lent { to.new.out.ghost_name ≡ to.old.out.ghost_name }
+    ensures written { Added (state_line s zero one) to.old.at to.old.out.now to.new.out.now to.new.at }
 {
-    let comma = put_either(
-        out,
-        at,
+    write_either(
+        to,
         zero == 255,
         b"state #: bit 0 to none",
         b"state #: bit 0 to #",
         &[s, zero as usize],
     );
-    put_either(
-        out,
-        comma,
+    write_either(
+        to,
         one == 255,
         b", bit 1 to none\n",
         b", bit 1 to #\n",
         &[one as usize],
-    )
+    );
 }
 
 // The lines of all states.
-fn put_states(out: &mut [u8], first: usize, c: Constraint) -> usize
+fn write_states(to: &mut Writer, c: Constraint)
     requires { c.states ≤ 16 }
-    ensures written { Added (states_to (constraint_of c) c.states) first out.old out.new result }
+    ensures lent { to.new.out.ghost_name ≡ to.old.out.ghost_name }
+    ensures written { Added (states_to (constraint_of c) c.states) to.old.at to.old.out.now to.new.out.now
+        to.new.at }
 {
-    let count = c.states;
-    let mut at = put(out, first, b"");
-    let mut s = 0;
-    while s < count {
-        at = put_state(out, at, s, c.zero[s], c.one[s]);
-        s += 1;
+    to.put(b"");
+    for s in 0..c.states {
+        write_state(to, s, c.zero[s], c.one[s]);
     }
-    at
 }
 
-// The constraint and its start after the first `at` bytes; the answer is the place after them.
-pub fn put_constraint(out: &mut [u8], at: usize, c: Constraint, start: usize) -> usize
+// The constraint and its start.
+pub fn write_constraint(to: &mut Writer, c: Constraint, start: usize)
     requires { c.states ≤ 16 }
-    ensures written { Added (constraint_lines (constraint_of c) start) at out.old out.new result }
+    ensures lent { to.new.out.ghost_name ≡ to.old.out.ghost_name }
+    ensures written { Added (constraint_lines (constraint_of c) start) to.old.at to.old.out.now to.new.out.now
+        to.new.at }
 {
     let d = least_run(c);
     if d < c.states {
-        return put_sentence(
-            out,
-            at,
+        write_sentence(
+            to,
             b"constraint (#,#), start #\n",
             &[d, c.states - 1, start],
         );
+    } else {
+        write_sentence(
+            to,
+            b"constraint of # state~, start #\n",
+            &[c.states, c.states, start],
+        );
+        write_states(to, c);
     }
-    let first = put_sentence(
-        out,
-        at,
-        b"constraint of # state~, start #\n",
-        &[c.states, c.states, start],
-    );
-    put_states(out, first, c)
 }

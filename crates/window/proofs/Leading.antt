@@ -1,8 +1,8 @@
 -- The search for the least window, memory by memory.
--- In order: later_trans; lead-start, lead-small, lead-take, lead-skip, lead-done, lead-rest; none_found.
+-- In order: later_trans; lead-start, lead-take, lead-skip, lead-done, lead-rest.
 -- Assumes nothing.
 use Rattle.std.proofs.Common.{◌≡◌, ◌⊎◌, ◌+◌, ◌-◌, ◌≤◌, ◌<◌}
-use Rattle.laws.proofs.All.{refl, sym, ap, subst, ◌∙◌, inl, inr, ⊎_elim, ℕ, arith}
+use Rattle.laws.proofs.All.{refl, sym, ap, subst, ◌∙◌, inl, inr, ℕ, arith}
 use Rattle.laws.proofs.All.{dec_lt, T, iterate}
 use Rattle.table.specs.Rows.{Rows, Size}
 use Rattle.window.specs.Works.{into, reversed, works}
@@ -10,7 +10,6 @@ use Rattle.table.specs.Paths.{Closed}
 use Rattle.window.specs.Window.{NoLater}
 use Rattle.window.specs.Search.{no_size, window, hits, pasts, empty}
 use Rattle.window.proofs.Search.{works-by-hits}
-use Rattle.window.proofs.WindowLeast.{window-least}
 use Rattle.window.proofs.WindowOnly.{window-only, window-none}
 use Rattle.window.specs.Steps.{size, Leading, Room}
 use Rattle.window.proofs.PastSets.{pasts-rest}
@@ -24,18 +23,6 @@ later_trans x y z (inr h) (inr k) = inr (h.0 ∙ k.0, omega (arith, h.1, k.1))
 module _ (t : Rows) where
   pub lead-start : Leading t 0 no_size
   lead-start = record { better = λ w h l k. absurd (omega arith); known = inl refl }
-
-  -- the numbers of the best so far
-  pub lead-small : (m : ℕ) (z : Size) → m ≤ 16 → Leading t m z → (z.memory ≤ 16) × (z.lookahead ≤ 16)
-  lead-small m z hm h = go h.known
-    where
-      go : (z ≡ no_size) ⊎ ((z.memory < m) × (z.lookahead < 16) × T (works t z))
-          → (z.memory ≤ 16) × (z.lookahead ≤ 16)
-      go (inl e) =
-          let p : z.memory ≡ 16 = ap (λ s. s.memory) e in
-          let q : z.lookahead ≡ 16 = ap (λ s. s.lookahead) e in
-          (omega arith, omega arith)
-      go (inr k) = (omega (arith, k.0), omega (arith, k.1))
 
   module _ (m : ℕ) (z : Size) (hm : m ≤ 15) (h : Leading t m z) where
     module _ (r : ℕ) (f : Room z m r) where
@@ -140,9 +127,3 @@ lead-rest t c m z h l e =
         later_trans z (size m w.lookahead) w
         (h.better (size m w.lookahead) (omega arith) b
         (memory-rest t c m w.memory w.lookahead e (omega arith) k)) (inl (omega arith))
-
--- memory 16 is the mark for none
-pub none_found : (t : Rows) (m a : ℕ) → window t ≡ size m a → m ≡ 16 → no_size ≡ window t
-none_found t m a e q = ⊎_elim
-    (λ k. let p : (window t).memory ≡ 16 = ap (λ s. s.memory) e ∙ q in absurd (omega (arith, k.0)))
-    (λ k. sym k.0) (window-least t)

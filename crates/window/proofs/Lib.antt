@@ -9,4 +9,3 @@ pub mod Search
 pub mod PastSets
 pub mod Lookahead
 pub mod Leading
-pub mod Turns

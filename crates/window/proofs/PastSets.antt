@@ -7,7 +7,7 @@ use Rattle.laws.proofs.All.{or_comm, ℕ, zero, suc, add-zero, add-one, arith, T
 use Rattle.laws.proofs.All.{→or_l, →or_r, T→true, bool_eq, grid→, iterate-suc, map, [], List, from, range, grid}
 use Rattle.laws.proofs.All.{map-range-same, map-range-at}
 use mathlib.Core.List.{map-map}
-use Rattle.table.specs.Rows.{Rows, at}
+use Rattle.table.specs.Rows.{Rows}
 use Rattle.table.specs.Paths.{Closed}
 use Rattle.window.specs.Works.{meet, into, entering, reversed, all_pairs, start_pair, past, started}
 use Rattle.window.specs.Search.{union, starts, pasts}

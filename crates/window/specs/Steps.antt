@@ -1,8 +1,8 @@
 -- What the search for a window keeps while it steps sets of pairs.
--- In order: size; with_word, one word of memory more; Emptied, the number of steps until a set is empty; Leading, the
--- best window so far; Room.
+-- In order: size; with_word, one word of memory more; steps_of; Emptied, the number of steps until a set is empty;
+-- Leading, the best window so far; Room.
 -- Assumes nothing.
-use Rattle.std.specs.Prelude.{◌≡◌, true, false, ◌⊎◌, ℕ, ◌+◌, ◌≤◌, ◌<◌, T}
+use Rattle.std.specs.Prelude.{Option, Some, None, ◌≡◌, true, false, ◌⊎◌, ℕ, ◌+◌, ◌≤◌, ◌<◌, T}
 use Rattle.laws.specs.Lists.{iterate}
 use Rattle.laws.specs.Sets.{Pairs}
 use Rattle.table.specs.Rows.{Rows, Size}
@@ -18,6 +18,11 @@ size m a = record { memory = m; lookahead = a }
 -- must agree under one memory, those under the next
 abbrev pub with_word : Rows → Pairs → Pairs
 with_word t P = union t (into (reversed t) P) (start_pair t)
+
+-- the number of steps that an answer names, or one more than `most` where it names none
+abbrev pub steps_of : ℕ → Option ℕ → ℕ
+steps_of most None = most + 1
+steps_of most (Some k) = k
 
 -- after r steps forward, and not before, no pair of H is left; where r is over `most`, one is left after `most` steps
 pub record Emptied (t : Rows) (H : Pairs) (most r : ℕ) : Type 0 where

@@ -2,19 +2,18 @@
 -- In order: window-found; windowed-none, windowed-found, whole_with.
 -- Assumes nothing.
 use Rattle.std.proofs.Common.{◌≡◌, ◌≤◌, ◌<◌}
-use Rattle.laws.proofs.All.{sym, ap, ap₂, subst, ◌∙◌, inl, inr, Bool, true, ℕ, arith, T, le-leb}
+use Rattle.laws.proofs.All.{sym, ap, subst, ◌∙◌, inl, inr, Bool, true, ℕ, arith, T, le-leb}
 use Rattle.laws.proofs.All.{lt-leb, leb}
 use Rattle.answer.specs.declared.Refusal.TheVariants.{NoWindow}
 use Rattle.answer.specs.Outcomes.{Outcome, done, refused, unless}
 use Rattle.answer.proofs.Outcomes.{unless-false}
 use Rattle.table.specs.declared.Table.{Table}
-use Rattle.table.specs.Rows.{Rows, Size, Code}
+use Rattle.table.specs.Rows.{Rows, Code}
 use Rattle.table.specs.Value.{rows_in, code_in, Ready}
 use Rattle.window.specs.Works.{works}
-use Rattle.window.specs.Search.{window}
+use Rattle.window.specs.Search.{no_size, window}
+use Rattle.window.specs.Steps.{size}
 use Rattle.window.proofs.WindowLeast.{window-least, Chosen}
-use Rattle.window_search.specs.declared.Found.{Found}
-use Rattle.window_search.specs.Finding.{found_size}
 use Rattle.window_least.specs.Windowed.{windowed, with_size, Whole}
 
 -- a window of memory up to 15 works and is small
@@ -29,18 +28,15 @@ window-found t h = go (window-least t)
 passed : (b : Bool) (x : Outcome Code) → b ≡ true → unless NoWindow b x ≡ x
 passed b x e = ap (λ c. unless NoWindow c x) e
 
-module _ (t : Table) (w : Found) (e : found_size w ≡ window (rows_in t)) where
-  pub windowed-none : (m : ℕ) → m ≡ (found_size w).memory → 15 < m → windowed (code_in t) ≡ refused NoWindow
-  windowed-none m q h =
-      let z : m ≡ (window (rows_in t)).memory = q ∙ ap (λ x. x.memory) e in
-      unless-false NoWindow _ _ (lt-leb _ _ (subst (λ k. 15 < k) z h))
+module _ (t : Table) where
+  pub windowed-none : no_size ≡ window (rows_in t) → windowed (code_in t) ≡ refused NoWindow
+  windowed-none e =
+      let z : 16 ≡ (window (rows_in t)).memory = ap (λ x. x.memory) e in
+      unless-false NoWindow _ _ (lt-leb (window (rows_in t)).memory 15 (omega arith))
 
-  module _ (m a : ℕ) (q : m ≡ (found_size w).memory) (p : a ≡ (found_size w).lookahead) (h : m ≤ 15) where
-    size_is : window (rows_in t) ≡ record { memory = m; lookahead = a }
-    size_is = sym e ∙ ap₂ {C = Size} (λ x y. record { memory = x; lookahead = y }) (sym q) (sym p)
-
+  module _ (m a : ℕ) (e : size m a ≡ window (rows_in t)) (h : m ≤ 15) where
     small : (window (rows_in t)).memory ≤ 15
-    small = subst (λ k. k ≤ 15) (q ∙ ap (λ x. x.memory) e) h
+    small = subst (λ k. k ≤ 15) (ap (λ x. x.memory) e) h
 
     -- THEOREM: the table with the window that was found
     pub windowed-found : done (code_in (with_size t m a)) ≡ windowed (code_in t)
@@ -53,11 +49,11 @@ module _ (t : Table) (w : Found) (e : found_size w ≡ window (rows_in t)) where
           start = t.start;
           tail = t.tail;
           table = rows_in t;
-        })) (sym size_is)
+        })) e
         ∙ sym (passed (leb (window (rows_in t)).memory 15) _ (le-leb _ _ small))
 
-    pub whole_with : Ready t → Whole (with_size t m a)
-    whole_with r = record {
+    pub whole_with : a ≤ 15 → Ready t → Whole (with_size t m a)
+    whole_with l r = record {
       ready = record {
         some = r.some;
         few = r.few;
@@ -68,8 +64,5 @@ module _ (t : Table) (w : Found) (e : found_size w ≡ window (rows_in t)) where
         limits = r.limits;
       };
       memory = h;
-      lookahead =
-          let k : a ≡ (window (rows_in t)).lookahead = p ∙ ap (λ x. x.lookahead) e in
-          let l = (window-found (rows_in t) small).0 in
-          omega arith;
+      lookahead = l;
     }

@@ -1,210 +1,113 @@
 // Sets of pairs of states, for each first state a set of second states, and where two edges with one word lead them.
 #![tactic(auto)]
 
-ghost use Rattle.std.specs.Prelude.{◌≡◌, true, ◌&&◌, ◌||◌, ℕ, ◌*◌, ◌<◌, eqb};
+ghost use Rattle.std.specs.Prelude.{◌≡◌, true, ◌&&◌, ◌||◌, ℕ, ◌<◌, eqb};
 ghost use Rattle.laws.specs.Lists.{any};
 ghost use Rattle.table.specs.Marks.{some};
-ghost use Rattle.table.specs.Edges.{borrowed, Linked};
+ghost use Rattle.table.specs.Edges.{places};
+ghost use Rattle.table.specs.Lent.{edges_in};
 ghost use Rattle.bitsets.specs.BitSets.{holds, members_of, set_at};
 ghost use Rattle.table_words.specs.Gathered.{Gathered, holds_in};
 ghost use Rattle.window_pairs.specs.PairSets.{Long, takes, joins, joins_by, clashes_by, Marked};
 
 use crate::sets::clear;
-use bitsets::rows::{put_at, set_at};
-use bitsets::{BitSet, join, meet, none, same};
+use bitsets::BitSet;
+use table::linked::Chains;
 use table_words::{gather, union_of};
 
 pub mod sets;
 
 // The states of the sets whose numbers are in the set, where `joined` are those of the sets in `last`: no set is
 // joined twice in a row.
-fn union_again(sets: &[u64; 256], last: BitSet, joined: BitSet, set: BitSet) -> BitSet
+fn union_again(sets: &[BitSet; 128], last: BitSet, joined: BitSet, set: BitSet) -> BitSet
     requires { (u : ℕ) → holds joined u ≡ any (holds_in sets.now u) (members_of last) }
     ensures answer { (u : ℕ) → holds result u ≡ any (holds_in sets.now u) (members_of set) }
 {
-    if same(last, set) {
+    if last == set {
         return joined;
     }
     union_of(sets, set)
 }
 
-// The edge i carries the datum k; where k is 16, any edge.
-fn is_taken(k: usize, i: usize) -> bool
+// Whether the edge i carries the datum k; where there is none, any edge is taken.
+fn is_taken(k: Option<usize>, i: usize) -> bool
     ensures answer { result ≡ takes k i }
 {
-    if k == 16 {
-        return true;
+    match k {
+        Some(datum) => i % 16 == datum,
+        None => true,
     }
-    i % 16 == k
 }
 
 // Puts the states into row u.
-fn put_into(u: usize, states: BitSet, out: &mut [u64; 256])
+fn put_into(u: usize, states: BitSet, out: &mut [BitSet; 128])
     requires { (u < 128) × Long out.old }
     ensures written { Long out.new × ((x y : ℕ) → holds (set_at out.new x) y
         ≡ (holds (set_at out.old x) y || (eqb u x && holds states y))) }
 {
-    let joined = join(set_at(out, u), states);
-    put_at(out, u, joined);
+    out[u] = out[u].join(states);
 }
 
-// Marks where the edges with the word w, those that carry the datum k where it is one, lead from the pairs together
-// with the edges that do not carry it, which are gathered in `targets`.
+// Marks where the edges with the word w that carry the datum k, or all where there is none, lead from the pairs
+// together with the edges that do not carry it, which are gathered in `targets`.
 fn mark_edges(
-    states: usize,
-    n: usize,
-    word: &[u8; 2048],
-    next: &[u8; 2048],
-    head: &[u16; 256],
-    link: &[u16; 2048],
-    pairs: &[u64; 256],
+    chains: &Chains,
+    pairs: &[BitSet; 128],
     w: usize,
-    k: usize,
+    k: Option<usize>,
     have: BitSet,
-    targets: &[u64; 256],
-    out: &mut [u64; 256],
+    targets: &[BitSet; 128],
+    out: &mut [BitSet; 128],
 )
-    requires { Linked (borrowed states n word next) head.now link.now × (w < 256)
-        × Gathered (borrowed states n word next) w k have targets.now × Long out.old }
-    ensures written { Marked out.old (joins (borrowed states n word.entry next.entry) pairs.now w k)
-        (states * 16) out.new }
+    requires { (w < 256) × Gathered (edges_in chains.now.edges) w k have targets.now × Long out.old }
+    ensures written { Marked out.old (joins (edges_in chains.now.edges) pairs.now w k)
+        (places (edges_in chains.now.edges)) out.new }
 {
-    let mut last = none();
-    let mut joined = none();
-    let mut cur = head[w] as usize;
-    while 0 < cur {
-        let i = cur - 1;
+    let mut last = BitSet::none();
+    let mut joined = BitSet::none();
+    let mut at = chains.last(w);
+    while let Some(i) = at {
         if is_taken(k, i) {
-            let set = meet(set_at(pairs, i / 16), have);
-            let more = union_again(targets, last, joined, set);
-            put_into(next[i] as usize, more, out);
+            let set = pairs[i / 16].meet(have);
+            joined = union_again(targets, last, joined, set);
             last = set;
-            joined = more;
+            put_into(chains.edges.next[i] as usize, joined, out);
         }
-        cur = link[i] as usize;
+        at = chains.before(i);
     }
 }
 
-// Marks where two edges with the word w lead from the pairs, of which one carries the datum k and the other does not;
-// where k is 16, any two.
-fn mark_word(
-    states: usize,
-    n: usize,
-    word: &[u8; 2048],
-    next: &[u8; 2048],
-    head: &[u16; 256],
-    link: &[u16; 2048],
-    pairs: &[u64; 256],
-    w: usize,
-    k: usize,
-    targets: &mut [u64; 256],
-    out: &mut [u64; 256],
-)
-    requires { Linked (borrowed states n word next) head.now link.now × (w < 256) × Long targets.old
-        × Long out.old }
-    ensures written { Marked out.old (joins (borrowed states n word.entry next.entry) pairs.now w k)
-        (states * 16) out.new }
-    ensures kept { Long targets.new }
+// Marks where two edges with one word lead from the pairs, of which one carries the datum k and the other does not;
+// where there is no datum, any two.
+fn mark_pairs(chains: &Chains, pairs: &[BitSet; 128], k: Option<usize>, out: &mut [BitSet; 128])
+    requires { Long out.old }
+    ensures written { Marked out.old (joins_by (edges_in chains.now.edges) pairs.now k) 256 out.new }
 {
-    let have = gather(states, n, word, next, head, link, w, k, targets);
-    mark_edges(
-        states, n, word, next, head, link, pairs, w, k, have, targets, out,
-    );
+    let mut targets = [BitSet::none(); 128];
+    for w in 0..256 {
+        let have = gather(chains, w, k, &mut targets);
+        mark_edges(chains, pairs, w, k, have, &targets, out);
+    }
 }
 
 // Puts into `out` where two edges with one word lead from the pairs.
-pub fn step_pairs(
-    states: usize,
-    n: usize,
-    word: &[u8; 2048],
-    next: &[u8; 2048],
-    head: &[u16; 256],
-    link: &[u16; 2048],
-    pairs: &[u64; 256],
-    out: &mut [u64; 256],
-)
-    requires { Linked (borrowed states n word next) head.now link.now × Long out.old }
-    ensures written { Long out.new × ((u v : ℕ) → u < states → holds (set_at out.new u) v
-        ≡ some (joins_by (borrowed states n word.entry next.entry) pairs.now 16 u v) 256) }
+pub fn step_pairs(chains: &Chains, pairs: &[BitSet; 128], out: &mut [BitSet; 128])
+    requires { Long out.old }
+    ensures written { Long out.new × ((u v : ℕ) → u < chains.now.edges.states → holds (set_at out.new u) v
+        ≡ some (joins_by (edges_in chains.now.edges) pairs.now None u v) 256) }
 {
-    clear(states, out);
-    let mut targets = [0u64; 256];
-    let mut w = 0;
-    while w < 256 {
-        mark_word(
-            states,
-            n,
-            word,
-            next,
-            head,
-            link,
-            pairs,
-            w,
-            16,
-            &mut targets,
-            out,
-        );
-        w += 1;
-    }
-}
-
-// Marks where two edges with the word w and different data lead from the pairs.
-fn mark_clashes(
-    states: usize,
-    n: usize,
-    word: &[u8; 2048],
-    next: &[u8; 2048],
-    head: &[u16; 256],
-    link: &[u16; 2048],
-    pairs: &[u64; 256],
-    w: usize,
-    targets: &mut [u64; 256],
-    out: &mut [u64; 256],
-)
-    requires { Linked (borrowed states n word next) head.now link.now × (w < 256) × Long targets.old
-        × Long out.old }
-    ensures written { Marked out.old (λ u v d.
-        joins_by (borrowed states n word.entry next.entry) pairs.now d u v w) n out.new }
-    ensures kept { Long targets.new }
-{
-    let mut d = 0;
-    while d < n {
-        mark_word(states, n, word, next, head, link, pairs, w, d, targets, out);
-        d += 1;
-    }
+    clear(chains.edges.states, out);
+    mark_pairs(chains, pairs, None, out);
 }
 
 // Puts into `out` where two edges with one word and different data lead from the pairs.
-pub fn clash_pairs(
-    states: usize,
-    n: usize,
-    word: &[u8; 2048],
-    next: &[u8; 2048],
-    head: &[u16; 256],
-    link: &[u16; 2048],
-    pairs: &[u64; 256],
-    out: &mut [u64; 256],
-)
-    requires { Linked (borrowed states n word next) head.now link.now × Long out.old }
-    ensures written { Long out.new × ((u v : ℕ) → u < states → holds (set_at out.new u) v
-        ≡ some (clashes_by (borrowed states n word.entry next.entry) pairs.now u v) 256) }
+pub fn clash_pairs(chains: &Chains, pairs: &[BitSet; 128], out: &mut [BitSet; 128])
+    requires { Long out.old }
+    ensures written { Long out.new × ((u v : ℕ) → u < chains.now.edges.states → holds (set_at out.new u) v
+        ≡ some (clashes_by (edges_in chains.now.edges) pairs.now u v) 256) }
 {
-    clear(states, out);
-    let mut targets = [0u64; 256];
-    let mut w = 0;
-    while w < 256 {
-        mark_clashes(
-            states,
-            n,
-            word,
-            next,
-            head,
-            link,
-            pairs,
-            w,
-            &mut targets,
-            out,
-        );
-        w += 1;
+    clear(chains.edges.states, out);
+    for datum in 0..chains.edges.ways {
+        mark_pairs(chains, pairs, Some(datum), out);
     }
 }

@@ -10,6 +10,7 @@ use Rattle.window.specs.Search.{empty}
 use Rattle.table.specs.Marks.{some}
 use Rattle.table.proofs.Marks.{found, some_at}
 use Rattle.table.proofs.EqualGrids.{has-grid}
+use Rattle.bitsets.specs.declared.BitSet.{BitSet}
 use Rattle.bitsets.specs.BitSets.{holds, set_at}
 use Rattle.window_pairs.specs.PairSets.{pairs_in, row_has}
 use Rattle.window.specs.Steps.{with_word}
@@ -18,13 +19,13 @@ use Rattle.window_pairs.proofs.PairSets.{has-pairs, pairs-grid}
 
 -- ---- all, and the start's
 module _ (t : Rows) (n : ℕ) (e : length t ≡ n) where
-  pub all_of : (A : List ℕ) → ((x y : ℕ) → x < n → holds (set_at A x) y ≡ ltb y n) → pairs_in n A ≡ all_pairs t
+  pub all_of : (A : List BitSet) → ((x y : ℕ) → x < n → holds (set_at A x) y ≡ ltb y n) → pairs_in n A ≡ all_pairs t
   all_of A h =
       pairs-grid n A (λ x y. true) (λ x y hx hy. h x y hx ∙ lt-ltb y n hy)
       ∙ ap (λ m. grid m m (λ x y. true)) (sym e) ∙ sym (all-grid t)
 
   -- the start's pair put into a set that is one word on from A
-  pub start-put : (A R S : List ℕ)
+  pub start-put : (A R S : List BitSet)
       → ((x y : ℕ) → holds (set_at S x) y ≡ (holds (set_at R x) y || (eqb x 0 && eqb y 0)))
       → pairs_in n R ≡ into (reversed t) (pairs_in n A) → pairs_in n S ≡ with_word t (pairs_in n A)
   start-put A R S h q =
@@ -38,7 +39,7 @@ module _ (t : Rows) (n : ℕ) (e : length t ≡ n) where
       start-at x y hx hy = has-grid (length t) (length t) (λ s u. eqb s 0 && eqb u 0) x y hx hy
 
 -- ---- no pair
-module _ (t : Rows) (n : ℕ) (e : length t ≡ n) (P : List ℕ) where
+module _ (t : Rows) (n : ℕ) (e : length t ≡ n) (P : List BitSet) where
   empty→ : T (not (some (row_has n P) n)) → T (empty t (pairs_in n P))
   empty→ k = →all-below _ (length t) (λ s hs. →all-below _ (length t) (λ u hu.
       let ls : s < n = rw e at hs in

@@ -2,7 +2,7 @@
 -- In order: step→, →step, one word on; hit→, →hit, a clash; by_two; step-pairs, a step forward; hits-pairs, a step by
 -- a clash.
 -- Assumes nothing.
-use Rattle.std.proofs.Common.{◌≡◌, ◌<◌}
+use Rattle.std.proofs.Common.{None, ◌≡◌, ◌<◌}
 use Rattle.laws.proofs.All.{sym, ap, subst₂, ◌∙◌, Bool, true, false, List, ℕ, T, length, Pairs, has, grid}
 use Rattle.laws.proofs.All.{bool_eq}
 use Rattle.table.specs.Rows.{edges}
@@ -15,6 +15,7 @@ use Rattle.window.proofs.Complete.{back_one}
 use Rattle.window.proofs.Clashes.{Hit, hits→, →hits}
 use Rattle.table.proofs.RowsOf.{length-rows, row-long, edge-at, closed-rows}
 use Rattle.table.proofs.EqualGrids.{grid-has}
+use Rattle.bitsets.specs.declared.BitSet.{BitSet}
 use Rattle.bitsets.specs.BitSets.{holds, set_at}
 use Rattle.window_pairs.specs.PairSets.{pairs_in, joins_by, clashes_by}
 use Rattle.window_pairs.proofs.PairSets.{has-pairs, pairs-grid}
@@ -22,7 +23,7 @@ use Rattle.window.proofs.PastSets.{into-grid}
 use Rattle.window_test.proofs.TwoEdges.{Bytes, Two, join→, →join, clash→, →clash}
 
 -- ---- the definitions' two edges
-module _ (t : Arrays) (g : Fits t) (P : List ℕ) (x y : ℕ) (hx : x < t.states) (hy : y < t.states) where
+module _ (t : Arrays) (g : Fits t) (P : List BitSet) (x y : ℕ) (hx : x < t.states) (hy : y < t.states) where
   -- the edges are there
   there : (s d : ℕ) → s < t.states → d < t.ways → d < length (edges (rows_of t) s)
   there s d hs hd = rw (row-long t s hs) hd
@@ -107,7 +108,7 @@ module _ (t : Arrays) (g : Fits t) (P : List ℕ) (x y : ℕ) (hx : x < t.states
       }
 
 -- ---- what the code's array holds
-module _ (t : Arrays) (P R : List ℕ) (apart : Bool) (f : ℕ → ℕ → Bool)
+module _ (t : Arrays) (P R : List BitSet) (apart : Bool) (f : ℕ → ℕ → Bool)
     (h : (x y : ℕ) → x < t.states → holds (set_at R x) y ≡ f x y)
     (f→ : (x y : ℕ) → T (f x y) → Two t P apart x y) (→f : (x y : ℕ) → Two t P apart x y → T (f x y)) where
   by_two : (Q : Pairs) → ((x y : ℕ) → x < t.states → y < t.states → Two t P apart x y → T (has Q x y))
@@ -116,16 +117,16 @@ module _ (t : Arrays) (P R : List ℕ) (apart : Bool) (f : ℕ → ℕ → Bool)
   by_two Q q→ →q = pairs-grid t.states R (has Q) (λ x y hx hy. h x y hx
       ∙ bool_eq (f x y) (has Q x y) (λ v. q→ x y hx hy (f→ x y v)) (λ v. →f x y (→q x y hx hy v)))
 
-pub step-pairs : (t : Arrays) → Fits t → Bytes t → (P R : List ℕ)
-    → ((u v : ℕ) → u < t.states → holds (set_at R u) v ≡ some (joins_by t P 16 u v) 256)
+pub step-pairs : (t : Arrays) → Fits t → Bytes t → (P R : List BitSet)
+    → ((u v : ℕ) → u < t.states → holds (set_at R u) v ≡ some (joins_by t P None u v) 256)
     → pairs_in t.states R ≡ into (reversed (rows_of t)) (pairs_in t.states P)
 step-pairs t g l P R h =
     let Q = into (reversed (rows_of t)) (pairs_in t.states P) in
-    by_two t P R false (λ u v. some (joins_by t P 16 u v) 256) h (join→ t g l P) (→join t g l P) Q (step→ t g P)
+    by_two t P R false (λ u v. some (joins_by t P None u v) 256) h (join→ t g l P) (→join t g l P) Q (step→ t g P)
     (→step t g P)
     ∙ sym (into-grid (rows_of t) (pairs_in t.states P) ∙ ap (λ n. grid n n (has Q)) (length-rows t))
 
-pub hits-pairs : (t : Arrays) → Fits t → Bytes t → (P R : List ℕ)
+pub hits-pairs : (t : Arrays) → Fits t → Bytes t → (P R : List BitSet)
     → ((u v : ℕ) → u < t.states → holds (set_at R u) v ≡ some (clashes_by t P u v) 256)
     → pairs_in t.states R ≡ hits (rows_of t) (pairs_in t.states P)
 hits-pairs t g l P R h =

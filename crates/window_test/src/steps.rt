@@ -1,109 +1,79 @@
 // The steps of the window test and of the search: sets of pairs one word on, one word of memory more, and the lookahead
 // that a set of pairs needs.
-ghost use Rattle.std.specs.Prelude.{◌≡◌, true, ◌≤◌};
-ghost use Rattle.table.specs.Edges.{borrowed, rows_of};
+ghost use Rattle.std.specs.Prelude.{◌≡◌, true, ◌≤◌, IfSome};
+ghost use Rattle.table.specs.Edges.{rows_of};
+ghost use Rattle.table.specs.Lent.{edges_in};
 ghost use Rattle.window.specs.Works.{into, reversed};
 ghost use Rattle.window.specs.Search.{hits};
-ghost use Rattle.window.specs.Steps.{with_word, Emptied};
-ghost use Rattle.window_pairs.specs.PairSets.{pairs_in, Long, Worded};
+ghost use Rattle.window.specs.Steps.{with_word, steps_of, Emptied};
+ghost use Rattle.window_pairs.specs.PairSets.{pairs_in, Long};
 
+use bitsets::BitSet;
+use table::linked::Chains;
 use window_pairs::sets::{add_start, is_empty, replace};
 use window_pairs::{clash_pairs, step_pairs};
 
 // Puts into `out` the pairs that one common word leads to from the pairs.
-pub fn forward(
-    states: usize,
-    n: usize,
-    word: &[u8; 2048],
-    next: &[u8; 2048],
-    head: &[u16; 256],
-    link: &[u16; 2048],
-    pairs: &[u64; 256],
-    out: &mut [u64; 256],
-)
-    requires { Worded (borrowed states n word next) head.now link.now × Long out.old }
+pub fn forward(chains: &Chains, pairs: &[BitSet; 128], out: &mut [BitSet; 128])
+    requires { Long out.old }
     ensures written { Long out.new
-        × (pairs_in states out.new
-        ≡ into (reversed (rows_of (borrowed states n word.entry next.entry)))
-        (pairs_in states pairs.now)) }
+        × (pairs_in chains.now.edges.states out.new
+        ≡ into (reversed (rows_of (edges_in chains.now.edges))) (pairs_in chains.now.edges.states pairs.now)) }
 {
-    step_pairs(states, n, word, next, head, link, pairs, out);
+    step_pairs(chains, pairs, out);
 }
 
 // Puts into `out` the pairs that a clash leads to from the pairs.
-pub fn clashes(
-    states: usize,
-    n: usize,
-    word: &[u8; 2048],
-    next: &[u8; 2048],
-    head: &[u16; 256],
-    link: &[u16; 2048],
-    pairs: &[u64; 256],
-    out: &mut [u64; 256],
-)
-    requires { Worded (borrowed states n word next) head.now link.now × Long out.old }
+pub fn clashes(chains: &Chains, pairs: &[BitSet; 128], out: &mut [BitSet; 128])
+    requires { Long out.old }
     ensures written { Long out.new
-        × (pairs_in states out.new
-        ≡ hits (rows_of (borrowed states n word.entry next.entry))
-        (pairs_in states pairs.now)) }
+        × (pairs_in chains.now.edges.states out.new
+        ≡ hits (rows_of (edges_in chains.now.edges)) (pairs_in chains.now.edges.states pairs.now)) }
 {
-    clash_pairs(states, n, word, next, head, link, pairs, out);
+    clash_pairs(chains, pairs, out);
 }
 
 // Steps the pairs whose next edges must agree by one word of memory more; whether they stay the same.
-pub fn extend_memory(
-    states: usize,
-    n: usize,
-    word: &[u8; 2048],
-    next: &[u8; 2048],
-    head: &[u16; 256],
-    link: &[u16; 2048],
-    past: &mut [u64; 256],
-    spare: &mut [u64; 256],
-) -> bool
-    requires { Worded (borrowed states n word next) head.now link.now × Long past.old × Long spare.old }
-    ensures answer { result ≡ true → pairs_in states past.new ≡ pairs_in states past.old }
-    ensures written { pairs_in states past.new
-        ≡ with_word (rows_of (borrowed states n word.entry next.entry))
-        (pairs_in states past.old) }
+pub fn extend_memory(chains: &Chains, past: &mut [BitSet; 128], spare: &mut [BitSet; 128]) -> bool
+    requires { Long past.old × Long spare.old }
+    ensures answer { result ≡ true
+        → pairs_in chains.now.edges.states past.new ≡ pairs_in chains.now.edges.states past.old }
+    ensures written { pairs_in chains.now.edges.states past.new
+        ≡ with_word (rows_of (edges_in chains.now.edges)) (pairs_in chains.now.edges.states past.old) }
     ensures kept { Long past.new × Long spare.new }
 {
-    forward(states, n, word, next, head, link, past, spare);
+    forward(chains, past, spare);
     add_start(spare);
-    replace(states, spare, past)
+    replace(chains.edges.states, spare, past)
 }
 
-// The number of words after which no pair of the set is left, or one more than `most`. A set that a word leads to
+// The number of words after which no pair of the set is left, if it is at most `most`. A set that a word leads to
 // itself stays.
 pub fn lookahead_needed(
-    states: usize,
-    n: usize,
-    word: &[u8; 2048],
-    next: &[u8; 2048],
-    head: &[u16; 256],
-    link: &[u16; 2048],
+    chains: &Chains,
     most: usize,
-    set: &mut [u64; 256],
-    spare: &mut [u64; 256],
-) -> usize
-    requires { Worded (borrowed states n word next) head.now link.now × (most ≤ 15) × Long set.old
-        × Long spare.old }
-    ensures answer { Emptied (rows_of (borrowed states n word.entry next.entry)) (pairs_in states set.old)
-        most result }
+    set: &mut [BitSet; 128],
+    spare: &mut [BitSet; 128],
+) -> Option<usize>
+    requires { (most ≤ 15) × Long set.old × Long spare.old }
+    ensures answer { Emptied (rows_of (edges_in chains.now.edges)) (pairs_in chains.now.edges.states set.old) most
+        (steps_of most result) }
+    ensures within { IfSome result (λ k. k ≤ most) }
     ensures kept { Long set.new × Long spare.new }
 {
-    let mut k = 0;
-    loop {
+    let states = chains.edges.states;
+    for k in 0..most {
         if is_empty(states, set) {
-            return k;
+            return Some(k);
         }
-        if k == most {
-            return most + 1;
-        }
-        forward(states, n, word, next, head, link, set, spare);
+        forward(chains, set, spare);
         if replace(states, spare, set) {
-            return most + 1;
+            return None;
         }
-        k += 1;
+    }
+    if is_empty(states, set) {
+        Some(most)
+    } else {
+        None
     }
 }

@@ -5,16 +5,13 @@ ghost use Rattle.std.specs.Prelude.{◌≡◌, ℕ, ◌≤◌, min};
 ghost use Rattle.answer.specs.Refusals.{most};
 ghost use Rattle.word.specs.Words.{held, joined, word_of};
 
-use answer::Answer;
+use answer::Refusal;
 
 // A value, held to 2^56 - 1.
 fn hold(value: usize) -> u64
     ensures answer { result ≡ held value }
 {
-    if value < 72057594037927936 {
-        return value as u64;
-    }
-    72057594037927935
+    value.min(72057594037927935) as u64
 }
 
 // A number times 2^56 plus a value. The premise holds of every answer.
@@ -26,7 +23,7 @@ pub fn join(number: u64, value: usize) -> u64
 }
 
 // An answer as one number: the refusal's number times 2^56 plus the value.
-pub fn word(a: Answer) -> u64
+pub fn word(a: Result<usize, Refusal>) -> u64
     ensures answer { result ≡ word_of a }
 {
     join(answer::answer_number(a), answer::answer_value(a))

@@ -1,35 +1,28 @@
 use Rattle.std.proofs.Common.{◌≡◌, ◌++◌}
-use Rattle.laws.proofs.All.{refl, ap, ◌∙◌, map, arith, drop, length-set}
+use Rattle.laws.proofs.All.{ap, ◌∙◌, map, arith, length, drop, drop-length, append-nil, length-set}
 use Rattle.laws.proofs.All.{from, map_more}
-use Rattle.table.specs.Edges.{arrays, rows_of}
+use Rattle.table.specs.Edges.{rows_of}
+use Rattle.codec_groups.specs.Lent.{lent_edges}
 use Rattle.codec_steps.specs.Reading.{block}
 use Rattle.codec_steps.specs.BlockParts.{under}
 use Rattle.codec_blocks.proofs.read_blocks.Goals as goal
 
-pub loop-i-init : goal.loop-i-init
-loop-i-init c = (omega arith, c.requires.2, refl, refl)
-
 pub loop-i-preserved : goal.loop-i-preserved
 loop-i-preserved c =
-    let l = c.loop-i in (
-      omega arith,
-      l.invariant.1,
-      length-set l.out l.i c.read_block.result ∙ l.invariant.2,
-      map_more ((let a = c.args in
-          block (under (rows_of (arrays a.states a.n a.word.now a.next.now)) a.m a.a) a.words.now)) c.args.begin
-          c.args.out.now l.out l.i c.read_block.result l.invariant.3
-          c.read_block.ensures.answer (omega arith),
+    let l = c.loop-i in
+    let a = c.args in (
+      length-set l.out l.i c.read_block.result ∙ l.invariant.0,
+      map_more (block (under (rows_of (lent_edges a.grouped.now)) a.m a.a) a.words.now) a.begin a.out.now l.out l.i
+          c.read_block.result l.invariant.1 c.read_block.ensures.answer (omega (arith, l.invariant.0)),
     )
-
-pub shape_of-out : goal.shape_of-out
-shape_of-out c = c.loop-i.invariant.2
 
 pub returns : goal.returns
 returns c =
     let l = c.loop-i in
-    let e : l.i ≡ c.args.count = omega arith in
+    let a = c.args in
+    let f = block (under (rows_of (lent_edges a.grouped.now)) a.m a.a) a.words.now in
+    let e : l.i ≡ length a.out.now = omega (arith, l.invariant.0) in
     record {
-      written = l.invariant.3 ∙ ap (λ k. map ((let a = c.args in
-          block (under (rows_of (arrays a.states a.n a.word.now a.next.now)) a.m a.a) a.words.now))
-          (from c.args.begin k) ++ drop k c.args.out.now) e;
+      written = l.invariant.1 ∙ ap (λ k. map f (from a.begin k) ++ drop k a.out.now) e
+          ∙ ap (λ x. map f (from a.begin (length a.out.now)) ++ x) (drop-length a.out.now) ∙ append-nil _;
     }

@@ -1,7 +1,9 @@
 -- `check_words` meets its contract: each return follows the check that it comes from, 12 before 13 before 11.
-use Rattle.std.proofs.Common.{◌^◌, ◌-◌}
+use Rattle.std.proofs.Common.{◌^◌}
 use Rattle.laws.proofs.All.{sym, ap, ◌∙◌, arith}
-use Rattle.codec.proofs.Tabled.{decode-12, decode-13, decode-11, decode-done}
+use Rattle.answer.specs.FirstBad.{all_below}
+use Rattle.codec_steps.specs.Reading.{decode}
+use Rattle.codec.proofs.Tabled.{decode-12, decode-13, decode-last}
 use Rattle.codec_decode.proofs.check_words.Goals as goal
 
 pub returns-then-words-a : goal.returns-then-words-a
@@ -13,18 +15,12 @@ returns-then-room-count c = record {
       (omega (arith, f, c.if-room-count.true));
 }
 
-pub returns-then-bad-words : goal.returns-then-bad-words
-returns-then-bad-words c =
-    record {
-      answer = λ k e f. decode-11 k _ _ (omega (arith, f, c.if-words-a.false)) (omega (arith, f, c.if-room-count.false))
-          _ _
-          (c.power.ensures.answer ∙ ap (λ q. 2 ^ q) (sym e)) c.first_bad-bad.ensures.answer c.if-bad-words.true;
-    }
-
 pub returns : goal.returns
 returns c =
+    let ws = c.args.words.now in
     record {
-      answer = λ k e f. decode-done k _ _ (omega (arith, f, c.if-words-a.false))
-          (omega (arith, f, c.if-room-count.false)) _ _
-          (c.power.ensures.answer ∙ ap (λ q. 2 ^ q) (sym e)) c.first_bad-bad.ensures.answer c.if-bad-words.false;
+      answer = λ k e f.
+          decode-last k _ _ (omega (arith, f, c.if-words-a.false)) (omega (arith, f, c.if-room-count.false))
+          ∙ ap (λ n. all_below n ws (decode k ws)) (ap (λ q. 2 ^ q) e ∙ sym c.power.ensures.answer)
+          ∙ sym (c.check_below.ensures.answer (decode k ws));
     }

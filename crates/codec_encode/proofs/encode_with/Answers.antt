@@ -1,20 +1,22 @@
 -- The checks in their order, then the words of the blocks and the closing words.
 use Rattle.std.proofs.Common.{◌≡◌, ◌+◌, ◌≤◌, ◌^◌, ◌<◌}
-use Rattle.laws.proofs.All.{sym, subst, ◌∙◌, true, arith, ltb-true, ltb-false}
+use Rattle.laws.proofs.All.{sym, ap, subst, ◌∙◌, true, arith, ltb-true, ltb-false}
 use Rattle.laws.proofs.All.{T, length, Below}
-use Rattle.answer.specs.declared.Refusal.TheVariants.{Field, BadByte, ShortOutput}
+use Rattle.answer.specs.declared.Refusal.TheVariants.{Field, ShortOutput}
 use Rattle.table.specs.Paths.{recording}
 use Rattle.table.specs.Value.{Ready, ready, code_in}
-use Rattle.table.specs.Edges.{arrays, Fits}
+use Rattle.table.specs.Edges.{Arrays}
+use Rattle.table.specs.Lent.{edges_in}
 use Rattle.table.proofs.Paths.{length-recording}
 use Rattle.table.proofs.ReadyTables.{ready→, ready-formed}
-use Rattle.table.proofs.RowsOf.{fits-lent}
 use Rattle.codec.specs.With.{encoded_with}
-use Rattle.answer.proofs.FirstBad.{below-first_bad, bad-le}
+use Rattle.answer.specs.FirstBad.{all_below}
+use Rattle.answer.proofs.FirstBad.{all_below→}
+use Rattle.answer.proofs.Outcomes.{handed_on}
 use Rattle.codec_spell.proofs.Writing.{recorded-in}
 use Rattle.answer.proofs.Answered.{declined, finished}
-use Rattle.codec.proofs.Tabled.{encode-7, encode-13, encode-11, encode-done}
-use Rattle.codec_encode.proofs.encode_with.Goals.{After-ways-n, Else-bad-blocks, Else-lacks_room, Else-not-is_ready}
+use Rattle.codec.proofs.Tabled.{encode-7, encode-13, encode-last}
+use Rattle.codec_encode.proofs.encode_with.Goals.{After-of-edges, In_ok-check_below, Else-lacks_room, Else-not-is_ready}
 use Rattle.codec_encode.proofs.encode_with.Goals as goal
 
 is-ready : (c : Else-not-is_ready) → ready c.args.t ≡ true
@@ -28,24 +30,28 @@ tail-small : (c : Else-not-is_ready)
     → let t = c.args.t in t.tail < 2 ^ t.p
 tail-small c = (ready-formed c.args.t (subst T (sym (is-ready c)) tt)).range.tail
 
-fits : (c : After-ways-n)
-    → let t = c.args.t in Fits (arrays t.states c.ways-n.result
-    t.word t.next)
-fits c = fits-lent c.args.t c.ways-n.result (ready→ c.args.t
-    (subst T (sym (sym c.is_ready.ensures.answer ∙ c.if-not-is_ready.false)) tt))
-    c.ways-n.ensures.answer.0
+-- as many data as the table has
+ways-are : (c : After-of-edges) → c.of-edges.result.ways ≡ 2 ^ c.args.t.p
+ways-are c = ap (λ (a : Arrays). a.ways) c.of-edges.ensures.answer
 
 room : (c : Else-lacks_room)
     → let a = c.args in
     length a.blocks.now + a.t.lookahead ≤ length a.out.now
 room c = ltb-false _ _ (sym c.lacks_room.ensures.answer ∙ c.if-lacks_room.false)
 
-blocks-below : (c : Else-bad-blocks)
-    → Below c.ways-n.result c.args.blocks.now
+blocks-below : (c : In_ok-check_below) → Below c.of-edges.result.ways c.args.blocks.now
 blocks-below c =
     let ds = c.args.blocks.now in
-    below-first_bad c.ways-n.result ds
-    (omega (arith, c.first_bad-bad.ensures.answer, c.if-bad-blocks.false, bad-le c.ways-n.result ds))
+    (all_below→ c.of-edges.result.ways ds ds ds (sym (c.in_ok-check_below.ensures.answer ds))).0
+
+-- with room enough only the blocks are left to check
+last : (c : Else-lacks_room) → let a = c.args in
+    ready a.t ≡ true → c.of-edges.result.ways ≡ 2 ^ a.t.p → encoded_with a.t (length a.out.now) a.blocks.now
+    ≡ all_below c.of-edges.result.ways a.blocks.now (recording (code_in a.t) a.blocks.now)
+last c r n =
+    let a = c.args in
+    encode-last a.t (length a.out.now) a.blocks.now r (room c)
+    ∙ ap (λ k. all_below k a.blocks.now (recording (code_in a.t) a.blocks.now)) (sym n)
 
 pub returns-then-not-is_ready : goal.returns-then-not-is_ready
 returns-then-not-is_ready c =
@@ -55,8 +61,8 @@ returns-then-not-is_ready c =
     (sym c.is_ready.ensures.answer ∙ c.if-not-is_ready.true)) in
     record { answer = w.0; written = w.1 }
 
-pub ways-n-requires : goal.ways-n-requires
-ways-n-requires c = (ready-table c).narrow
+pub of-edges-requires : goal.of-edges-requires
+of-edges-requires c = ready-table (goal.at.of-edges-requires c).Else-not-is_ready
 
 pub returns-then-lacks_room : goal.returns-then-lacks_room
 returns-then-lacks_room c =
@@ -66,49 +72,37 @@ returns-then-lacks_room c =
     (ltb-true _ _ (sym c.lacks_room.ensures.answer ∙ c.if-lacks_room.true))) in
     record { answer = w.0; written = w.1 }
 
-pub returns-then-bad-blocks : goal.returns-then-bad-blocks
-returns-then-bad-blocks c =
+pub returns-in_err-check_below : goal.returns-in_err-check_below
+returns-in_err-check_below c =
+    let i = goal.at.returns-in_err-check_below c in
     let a = c.args in
-    let w = declined (encoded_with a.t (length a.out.now) a.blocks.now) (BadByte c.first_bad-bad.result) a.out.now
-    (encode-11 a.t (length a.out.now) a.blocks.now (is-ready (goal.at.returns-then-bad-blocks c).Else-not-is_ready)
-    (room (goal.at.returns-then-bad-blocks c).Else-lacks_room)
-    c.ways-n.result
-    c.first_bad-bad.result c.ways-n.ensures.answer.0 c.first_bad-bad.ensures.answer c.if-bad-blocks.true) in
-    record { answer = w.0; written = w.1 }
+    let w = declined (encoded_with a.t (length a.out.now) a.blocks.now) _ a.out.now
+    (last i.Else-lacks_room (is-ready i.Else-not-is_ready) (ways-are i.After-of-edges)
+    ∙ sym (c.in_err-check_below.ensures.answer (recording (code_in a.t) a.blocks.now))) in
+    rw (handed_on _ _ c.from_residual.ensures.1) (record { answer = w.0; written = w.1 })
 
 pub overflow_add-end : goal.overflow_add-end
 overflow_add-end c = omega (arith, room (goal.at.overflow_add-end c).Else-lacks_room)
 
-pub write_blocks-s-requires : goal.write_blocks-s-requires
-write_blocks-s-requires c = (
-  fits (goal.at.write_blocks-s-requires c).After-ways-n,
-  blocks-below
-      (goal.at.write_blocks-s-requires c).Else-bad-blocks,
-  omega
-      (arith, room (goal.at.write_blocks-s-requires c).Else-lacks_room),
-)
-
-pub write_closing-requires : goal.write_closing-requires
-write_closing-requires c = (
-  fits (goal.at.write_closing-requires c).After-ways-n,
-  omega (arith, c.ways-n.ensures.answer.0, tail-small (goal.at.write_closing-requires c).Else-not-is_ready),
-  c.write_blocks-s.ensures.answer.1,
-  omega arith,
-  omega (arith, room (goal.at.write_closing-requires c).Else-lacks_room),
-)
+pub write_recording-requires : goal.write_recording-requires
+write_recording-requires c =
+    let n = ways-are (goal.at.write_recording-requires c).After-of-edges in (
+      blocks-below (goal.at.write_recording-requires c).In_ok-check_below,
+      omega (arith, n, tail-small (goal.at.write_recording-requires c).Else-not-is_ready),
+      omega arith,
+      omega (arith, room (goal.at.write_recording-requires c).Else-lacks_room),
+    )
 
 pub returns : goal.returns
 returns c =
+    let i = goal.at.returns c in
     let a = c.args in
     let ds = a.blocks.now in
     let out = a.out.now in
     let w = finished (encoded_with a.t (length out) ds) (recording (code_in a.t) ds) out _ (length ds + a.t.lookahead)
-    (encode-done a.t (length out) ds (is-ready (goal.at.returns c).Else-not-is_ready)
-    (room (goal.at.returns c).Else-lacks_room) c.ways-n.result
-    c.first_bad-bad.result
-    c.ways-n.ensures.answer.0 c.first_bad-bad.ensures.answer c.if-bad-blocks.false)
+    (last i.Else-lacks_room (is-ready i.Else-not-is_ready) (ways-are i.After-of-edges)
+    ∙ sym (c.in_ok-check_below.ensures.answer (recording (code_in a.t) ds)))
     (sym (length-recording (code_in a.t) ds))
-    (recorded-in a.t c.ways-n.result ds out _ _ c.write_blocks-s.result c.ways-n.ensures.answer.0
-    c.write_blocks-s.ensures.answer.0 c.write_blocks-s.ensures.written
-    c.write_closing.ensures.written) in
+    (recorded-in a.t (edges_in c.of-edges.result) ds out _ c.of-edges.ensures.answer
+    c.write_recording.ensures.written) in
     record { answer = w.0; written = w.1 }

@@ -7,12 +7,9 @@ pub returns : goal.returns
 returns c =
     let a = c.args in
     record {
-      written = put-made a.first.now a.low.now a.high.now a.k a.e a.targets.low a.targets.high
-          (omega (arith, c.requires.0, c.requires.2)) c.requires.3 c.requires.4;
+      written = put-made a.first.now a.sets.now a.k a.e a.targets
+          (omega (arith, c.requires.0, c.requires.2)) c.requires.3;
     }
 
-pub shape_of-low : goal.shape_of-low
-shape_of-low c = length-set c.args.low.now _ _
-
-pub shape_of-high : goal.shape_of-high
-shape_of-high c = length-set c.args.high.now _ _
+pub shape_of-sets : goal.shape_of-sets
+shape_of-sets c = length-set c.args.sets.now _ _

@@ -11,6 +11,7 @@ returns c =
       answer = λ s.
           let a = c.args in
           c.with_if.ensures.answer s
-          ∙ ap (λ b. holds a.out s || (b && eqb (source_at a.first.now a.k) s))
-          (c.meets.ensures.answer ∙ ap (λ g. meeting 128 g a.set) c.targets_at.ensures.answer);
+          ∙ ap (λ k. holds a.out s || (c.meets-leads.result && eqb k s)) c.source.ensures.answer
+          ∙ ap (λ b. holds a.out s || (b && eqb (source_at a.groups.now.first.now a.k) s))
+          (c.meets-leads.ensures.answer ∙ ap (λ g. meeting 128 g a.set) c.targets_at.ensures.answer);
     }

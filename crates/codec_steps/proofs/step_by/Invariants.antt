@@ -1,5 +1,5 @@
 -- The loop goes over the groups of the word, and joins the targets of those whose states are in the set.
-use Rattle.std.proofs.Common.{◌+◌, ◌-◌}
+use Rattle.std.proofs.Common.{◌+◌}
 use Rattle.laws.proofs.All.{get_or}
 use Rattle.codec_groups.specs.Groups.{steps_to}
 use Rattle.codec_steps.proofs.GroupTurns.{Joining}
@@ -7,7 +7,5 @@ use Rattle.codec_steps.proofs.step_by.Given as goal
 
 abbrev pub invariant-loop-k : goal.invariant-loop-k
 invariant-loop-k l =
-    Joining (steps_to l.first l.low l.high l.set) (get_or l.start l.w 0) (get_or l.start (l.w + 1) 0) l.k l.out
-
-abbrev pub decreases-loop-k : goal.decreases-loop-k
-decreases-loop-k l = get_or l.start (l.w + 1) 0 - l.k
+    Joining (steps_to l.groups.first.now l.groups.sets.now l.set) (get_or l.groups.start.now l.w 0)
+    (get_or l.groups.start.now (l.w + 1) 0) l.k l.out

@@ -12,8 +12,8 @@ returns-then-has c =
           let a = c.args in
           c.join.ensures.answer u
           ∙ ap (λ g. holds a.out u || holds g u) c.targets_at.ensures.answer
-          ∙ ap (λ b. holds a.out u || (b && holds (targets_at a.low.now a.high.now a.k) u))
-          (sym (sym c.has.ensures.answer ∙ c.if-has.true));
+          ∙ ap (λ b. holds a.out u || (b && holds (targets_at a.groups.now.sets.now a.k) u))
+          (sym (ap (holds a.set) (sym c.source.ensures.answer) ∙ sym c.has.ensures.answer ∙ c.if-has.true));
     }
 
 pub returns : goal.returns
@@ -21,7 +21,7 @@ returns c =
     record {
       answer = λ u.
           let a = c.args in
-          sym (ap (λ b. holds a.out u || (b && holds (targets_at a.low.now a.high.now a.k) u))
-          (sym c.has.ensures.answer ∙ c.if-has.false)
+          sym (ap (λ b. holds a.out u || (b && holds (targets_at a.groups.now.sets.now a.k) u))
+          (ap (holds a.set) (sym c.source.ensures.answer) ∙ sym c.has.ensures.answer ∙ c.if-has.false)
           ∙ or-false (holds a.out u));
     }

@@ -2,9 +2,12 @@
 use Rattle.std.proofs.Common.{◌≡◌}
 use Rattle.laws.proofs.All.{sym, ap, subst, ◌∙◌, true, arith, T}
 use Rattle.answer.specs.Outcomes.{answer_of}
+use Rattle.answer.specs.FirstBad.{all_below}
+use Rattle.answer.proofs.Outcomes.{handed_on}
 use Rattle.table.specs.Value.{Ready, ready}
 use Rattle.table.proofs.ReadyTables.{ready→}
-use Rattle.codec_verify.proofs.Checked.{verify-7, verify-12, verify-11, verify-done, counted}
+use Rattle.codec_verify.specs.Counting.{come_back}
+use Rattle.codec_verify.proofs.Checked.{verify-7, counted, verify-12, verify-last, verify-done}
 use Rattle.codec_verify.proofs.verify_with.Goals.{Else-not-is_ready}
 use Rattle.codec_verify.proofs.verify_with.Goals as goal
 
@@ -33,32 +36,30 @@ returns-then-words-t c =
 pub power-requires : goal.power-requires
 power-requires c = omega (arith, (ready-table (goal.at.power-requires c).Else-not-is_ready).short)
 
-pub returns-then-bad-words : goal.returns-then-bad-words
-returns-then-bad-words c =
-    let a = c.args in
-    record {
-      answer = sym (ap answer_of (verify-11 a.t a.words.now
-          (is-ready (goal.at.returns-then-bad-words c).Else-not-is_ready) c.if-words-t.false c.power.result
-          c.first_bad-bad.result c.power.ensures.answer c.first_bad-bad.ensures.answer c.if-bad-words.true));
-    }
+pub returns-in_err-check_below : goal.returns-in_err-check_below
+returns-in_err-check_below c =
+    let t = c.args.t in
+    let ws = c.args.words.now in
+    rw (handed_on _ _ c.from_residual.ensures.1)
+    (record {
+      answer = sym (ap answer_of (verify-last t ws
+          (is-ready (goal.at.returns-in_err-check_below c).Else-not-is_ready) c.if-words-t.false
+          ∙ ap (λ n. all_below n ws (counted t ws)) (sym c.power.ensures.answer)
+          ∙ sym (c.in_err-check_below.ensures.answer (counted t ws))));
+    })
 
-pub sizes_of-requires : goal.sizes_of-requires
-sizes_of-requires c = (ready-table (goal.at.sizes_of-requires c).Else-not-is_ready).narrow
-
-pub count_all-requires : goal.count_all-requires
-count_all-requires c =
-    let a = c.args in
-    counted a.t (ready-table (goal.at.count_all-requires c).Else-not-is_ready) c.sizes_of.result
-    c.sizes_of.ensures.answer a.words.now
-    c.if-words-t.false
+pub of-requires : goal.of-requires
+of-requires c = ready-table (goal.at.of-requires c).Else-not-is_ready
 
 pub returns : goal.returns
 returns c =
-    let a = c.args in
+    let t = c.args.t in
+    let ws = c.args.words.now in
     record {
-      answer = verify-done a.t a.words.now (is-ready (goal.at.returns c).Else-not-is_ready) c.if-words-t.false
-          c.power.result
-          c.first_bad-bad.result c.power.ensures.answer c.first_bad-bad.ensures.answer c.if-bad-words.false
-          c.sizes_of.result
-          c.count_all.result c.sizes_of.ensures.answer c.count_all.ensures.answer;
+      answer = verify-done t ws
+          (verify-last t ws (is-ready (goal.at.returns c).Else-not-is_ready) c.if-words-t.false
+          ∙ ap (λ n. all_below n ws (counted t ws)) (sym c.power.ensures.answer)
+          ∙ sym (c.in_ok-check_below.ensures.answer (counted t ws)))
+          c.sizes_of.result c.count_all.result c.sizes_of.ensures.answer
+          (c.count_all.ensures.answer ∙ ap (λ s. come_back s c.sizes_of.result ws) c.of.ensures.answer);
     }

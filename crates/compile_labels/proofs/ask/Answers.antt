@@ -5,7 +5,7 @@ use Rattle.laws.proofs.All.{length-set, first, extend}
 use Rattle.compile_labels.specs.Labels.{free, asked}
 use Rattle.compile_labels.proofs.Homes.{given-home}
 use Rattle.compile_labels.proofs.Passes.{extend-put}
-use Rattle.std.proofs.Common.{◌≡◌, ◌-◌, ◌<◌, rules}
+use Rattle.std.proofs.Common.{◌≡◌, ◌<◌, rules}
 use Rattle.compile_labels.proofs.ask.Goals.{In-loop-k}
 use Rattle.compile_labels.proofs.ask.Goals as goal
 

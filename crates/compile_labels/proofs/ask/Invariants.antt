@@ -1,5 +1,5 @@
 -- `ask` meets its contract. Edge by edge; what the lowest earlier state with the word gave it is read off the columns.
-use Rattle.std.proofs.Common.{◌≡◌, ◌-◌, ◌≤◌}
+use Rattle.std.proofs.Common.{◌≡◌, ◌≤◌}
 use Rattle.laws.proofs.All.{[], length, take}
 use Rattle.laws.proofs.All.{extend}
 use Rattle.table.specs.Rows.{Rows}
@@ -11,6 +11,3 @@ abbrev pub invariant-loop-k : goal.invariant-loop-k
 invariant-loop-k l =
     (l.k ≤ l.n) × (length l.ds ≡ 16)
     × ((t : Rows) → Worded l.n t l.column → Homes t l.home → take l.k l.ds ≡ extend (asked l.n t) [] (take l.k l.words))
-
-abbrev pub decreases-loop-k : goal.decreases-loop-k
-decreases-loop-k l = l.n - l.k

@@ -1,5 +1,4 @@
-use Rattle.std.proofs.Common.{◌-◌}
-use Rattle.laws.proofs.All.{sym, ◌∙◌, false, arith, below_more, take, first-least}
+use Rattle.laws.proofs.All.{sym, ◌∙◌, arith, below_more, take, first-least}
 use Rattle.laws.proofs.All.{first-range-none}
 use Rattle.compile_labels.specs.Labels.{free}
 use Rattle.compile_labels.proofs.lowest_free.Goals as goal

@@ -1,5 +1,4 @@
-use Rattle.std.proofs.Common.{◌-◌}
-use Rattle.laws.proofs.All.{sym, ◌∙◌, false, arith, below_more, take}
+use Rattle.laws.proofs.All.{sym, ◌∙◌, arith, below_more, take}
 use Rattle.compile_labels.proofs.Passes.{given-found, given-none}
 use Rattle.compile_labels.proofs.lowest_given.Goals as goal
 

@@ -1,9 +1,9 @@
-use Rattle.laws.proofs.All.{sym, ap, ◌∙◌, ⊎_elim, arith, length, get_or, take, length-set}
+use Rattle.laws.proofs.All.{sym, ap, ◌∙◌, arith, length, get_or, take, length-set}
 use mir.Syntax.{w8}
 use mir.Val.{Fits}
 use Rattle.compile_labels.specs.Parts.{noted}
 use Rattle.compile_labels.proofs.Homes.{noted-none, note-put, note-skip}
-use Rattle.std.proofs.Common.{◌≡◌, ◌-◌, ◌<◌, rules}
+use Rattle.std.proofs.Common.{◌≡◌, ◌<◌, rules}
 use Rattle.compile_labels.proofs.note.Goals.{In-loop-d}
 use Rattle.compile_labels.proofs.note.Goals as goal
 use Rattle.compile_labels.proofs.note.Goals.{else-r-w, then-r-w}

@@ -1,6 +1,6 @@
 use Rattle.laws.proofs.All.{sym, ◌∙◌, arith, length, take, length-take-le, get_or-take}
 use Rattle.laws.proofs.All.{index-here, index-later, index-end}
-use Rattle.std.proofs.Common.{◌≡◌, ◌-◌, rules}
+use Rattle.std.proofs.Common.{◌≡◌, rules}
 use Rattle.compile_labels.proofs.place_of.Goals as goal
 
 pub loop-i-init : goal.loop-i-init

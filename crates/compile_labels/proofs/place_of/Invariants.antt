@@ -1,5 +1,5 @@
 -- `place_of` meets its contract. The loop's invariant: d is none of those passed.
-use Rattle.std.proofs.Common.{◌≡◌, ◌+◌, ◌-◌, ◌≤◌}
+use Rattle.std.proofs.Common.{◌≡◌, ◌+◌, ◌≤◌}
 use Rattle.laws.proofs.All.{length, take, drop, index_of}
 use Rattle.compile_labels.proofs.place_of.Given as goal
 
@@ -7,6 +7,3 @@ abbrev pub invariant-loop-i : goal.invariant-loop-i
 invariant-loop-i l =
     (l.i ≤ l.k) × (l.k ≤ 16) × (length (take l.k l.list) ≡ l.k)
     × (index_of l.d (take l.k l.list) ≡ l.i + index_of l.d (drop l.i (take l.k l.list)))
-
-abbrev pub decreases-loop-i : goal.decreases-loop-i
-decreases-loop-i l = l.k - l.i

@@ -4,7 +4,7 @@ use Rattle.compile_labels.specs.Labels.{data_of, relabelled}
 use Rattle.compile_labels.specs.Parts.{row_at, noted}
 use Rattle.compile_labels.proofs.Relabelling.{relabels-start, worded-front, state-onto, relabels-more}
 use Rattle.compile_labels.proofs.Relabelling.{relabels-end}
-use Rattle.std.proofs.Common.{◌≡◌, ◌-◌, ◌≤◌, ◌<◌, rules}
+use Rattle.std.proofs.Common.{◌≡◌, ◌<◌, rules}
 use Rattle.compile_labels.proofs.relabel.Goals.{After-data_of-ds}
 use Rattle.compile_labels.proofs.relabel.Goals as goal
 

@@ -2,7 +2,7 @@ use Rattle.laws.proofs.All.{sym, subst, arith, length, get_or, take, set, length
 use Rattle.laws.proofs.All.{index-lt}
 use Rattle.compile_labels.specs.Parts.{Reordered}
 use Rattle.compile_labels.proofs.Columns.{reorder-none, reorder-more}
-use Rattle.std.proofs.Common.{◌≡◌, ◌+◌, ◌*◌, ◌-◌, ◌<◌, rules}
+use Rattle.std.proofs.Common.{◌≡◌, ◌+◌, ◌*◌, ◌<◌, rules}
 use Rattle.compile_labels.proofs.reorder.Goals.{After-place_of-k}
 use Rattle.compile_labels.proofs.reorder.Goals as goal
 

@@ -1,8 +1,8 @@
-use Rattle.laws.proofs.All.{refl, ap, sym, ◌∙◌, ⊎_elim, arith, length, take, drop, length-set}
+use Rattle.laws.proofs.All.{refl, ap, sym, ◌∙◌, arith, length, take, drop, length-set}
 use Rattle.laws.proofs.All.{slice_empty}
 use Rattle.compile_labels.specs.Parts.{served}
 use Rattle.compile_labels.proofs.Passes.{serve-kept, serve-put}
-use Rattle.std.proofs.Common.{◌≡◌, ◌+◌, ◌-◌, rules}
+use Rattle.std.proofs.Common.{◌≡◌, ◌+◌, rules}
 use Rattle.compile_labels.proofs.serve.Goals as goal
 use Rattle.compile_labels.proofs.serve.Goals.{else-wide-n, then-wide-n}
 

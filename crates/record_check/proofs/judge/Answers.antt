@@ -2,7 +2,6 @@
 use Rattle.laws.proofs.All.{sym, ◌∙◌, not-true, not-false}
 use Rattle.table.specs.Value.{code_in}
 use Rattle.table.proofs.ReadyTables.{ready→}
-use Rattle.record.proofs.RecordReading.{good-not}
 use Rattle.record_check.proofs.Follow.{followable, near, judged-disobeys, judged-fails, judged-good}
 use Rattle.laws.proofs.All.{ap, not}
 use Rattle.record_check.proofs.judge.Goals as goal
@@ -13,11 +12,9 @@ obeys-requires c = followable c.args.t c.requires
 pub returns-then-not-obeys : goal.returns-then-not-obeys
 returns-then-not-obeys c =
     record {
-      answer = c.declined.ensures.answer
-          ∙ sym (judged-disobeys (code_in c.args.t)
+      answer = sym (judged-disobeys (code_in c.args.t)
           (sym c.obeys.ensures.answer ∙ not-true c.obeys.result (ap not c.if-not-obeys.true)));
-      kept = λ e. absurd (c.declined.ensures.past e);
-      empty = λ x e. c.declined.ensures.empty;
+      kept = tt;
     }
 
 pub works-requires : goal.works-requires
@@ -27,12 +24,10 @@ works-requires c =
 pub returns-then-not-works : goal.returns-then-not-works
 returns-then-not-works c =
     record {
-      answer = c.declined-then-not-works.ensures.answer
-          ∙ sym (judged-fails (code_in c.args.t)
+      answer = sym (judged-fails (code_in c.args.t)
           (sym c.obeys.ensures.answer ∙ not-false c.obeys.result (ap not c.if-not-obeys.false))
           (sym c.works.ensures.answer ∙ not-true c.works.result (ap not c.if-not-works.true)));
-      kept = λ e. absurd (c.declined-then-not-works.ensures.past e);
-      empty = λ x e. c.declined-then-not-works.ensures.empty;
+      kept = tt;
     }
 
 pub returns : goal.returns
@@ -41,6 +36,5 @@ returns c =
       answer = sym (judged-good (code_in c.args.t)
           (sym c.obeys.ensures.answer ∙ not-false c.obeys.result (ap not c.if-not-obeys.false))
           (sym c.works.ensures.answer ∙ not-false c.works.result (ap not c.if-not-works.false)));
-      kept = λ e. c.requires;
-      empty = good-not;
+      kept = c.requires;
     }

@@ -1,11 +1,7 @@
 -- Each turn puts the place of one datum.
-use Rattle.std.proofs.Common.{◌-◌, ◌≤◌}
 use Rattle.record_queue.specs.Places.{pair_after, Grown}
 use Rattle.record_queue.proofs.put_targets.Given as goal
 
 abbrev pub invariant-loop-d : goal.invariant-loop-d
 invariant-loop-d l =
-    (l.d ≤ l.n) × Grown (pair_after l.word l.next l.power l.x) l.d l.initial.set l.initial.list l.m l.set l.list l.count
-
-abbrev pub decreases-loop-d : goal.decreases-loop-d
-decreases-loop-d l = l.n - l.d
+    Grown (pair_after l.word l.next l.power l.x) l.d l.initial.set l.initial.list l.m l.set l.list l.count

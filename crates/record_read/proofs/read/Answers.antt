@@ -10,7 +10,7 @@ use Rattle.record.specs.Places.{Small}
 use Rattle.record.proofs.Sizes.{small_of}
 use Rattle.record.proofs.RecordRead.{read-ready}
 use Rattle.record.proofs.RecordReading.{ranges_in, checked-short, checked-front, checked-length}
-use Rattle.record.proofs.RecordReading.{checked-rest, checked-good, good-not}
+use Rattle.record.proofs.RecordReading.{checked-rest, checked-good}
 use Rattle.laws.proofs.All.{not}
 use Rattle.record_read.proofs.read.Goals.{Else-bytes-size_of, Else-not-good_front}
 use Rattle.record_read.proofs.read.Goals as goal
@@ -39,22 +39,18 @@ pub returns-then-bytes-lt5 : goal.returns-then-bytes-lt5
 returns-then-bytes-lt5 c =
     let xs = c.args.bytes.now in
     record {
-      answer = c.declined.ensures.answer
-          ∙ sym (checked-short xs (lt-leb header_bytes (length xs) (omega (arith, c.if-bytes-lt5.true))));
-      kept = λ e. absurd (c.declined.ensures.past e);
-      empty = λ x e. c.declined.ensures.empty;
+      answer = sym (checked-short xs (lt-leb header_bytes (length xs) (omega (arith, c.if-bytes-lt5.true))));
+      kept = tt;
     }
 
 pub returns-then-not-good_front : goal.returns-then-not-good_front
 returns-then-not-good_front c =
     let xs = c.args.bytes.now in
     record {
-      answer = c.declined-then-not-good_front.ensures.answer
-          ∙ sym (checked-front xs c.front_of-f.result c.front_of-f.ensures.answer
+      answer = sym (checked-front xs c.front_of-f.result c.front_of-f.ensures.answer
           (le-leb header_bytes (length xs) (omega (arith, c.if-bytes-lt5.false)))
           (sym c.good_front.ensures.answer ∙ not-true c.good_front.result (ap not c.if-not-good_front.true)));
-      kept = λ e. absurd (c.declined-then-not-good_front.ensures.past e);
-      empty = λ x e. c.declined-then-not-good_front.ensures.empty;
+      kept = tt;
     }
 
 pub size_of-requires : goal.size_of-requires
@@ -64,13 +60,11 @@ pub returns-then-bytes-size_of : goal.returns-then-bytes-size_of
 returns-then-bytes-size_of c =
     let xs = c.args.bytes.now in
     record {
-      answer = c.declined-then-bytes-size_of.ensures.answer
-          ∙ sym (checked-length xs c.front_of-f.result c.front_of-f.ensures.answer
+      answer = sym (checked-length xs c.front_of-f.result c.front_of-f.ensures.answer
           (le-leb header_bytes (length xs) (omega (arith, c.if-bytes-lt5.false)))
           (fronted (goal.at.returns-then-bytes-size_of c).Else-not-good_front)
           (ne_eqb _ _ (λ e. c.if-bytes-size_of.true (e ∙ sym c.size_of.ensures.answer))));
-      kept = λ e. absurd (c.declined-then-bytes-size_of.ensures.past e);
-      empty = λ x e. c.declined-then-bytes-size_of.ensures.empty;
+      kept = tt;
     }
 
 pub good_rest-requires : goal.good_rest-requires
@@ -80,14 +74,12 @@ pub returns-then-not-good_rest : goal.returns-then-not-good_rest
 returns-then-not-good_rest c =
     let xs = c.args.bytes.now in
     record {
-      answer = c.declined-then-not-good_rest.ensures.answer
-          ∙ sym (checked-rest xs c.front_of-f.result c.front_of-f.ensures.answer
+      answer = sym (checked-rest xs c.front_of-f.result c.front_of-f.ensures.answer
           (le-leb header_bytes (length xs) (omega (arith, c.if-bytes-lt5.false)))
           (fronted (goal.at.returns-then-not-good_rest c).Else-not-good_front)
           (eq-eqb _ _ (sized (goal.at.returns-then-not-good_rest c).Else-bytes-size_of))
           (sym c.good_rest.ensures.answer ∙ not-true c.good_rest.result (ap not c.if-not-good_rest.true)));
-      kept = λ e. absurd (c.declined-then-not-good_rest.ensures.past e);
-      empty = λ x e. c.declined-then-not-good_rest.ensures.empty;
+      kept = tt;
     }
 
 pub table_of-requires : goal.table_of-requires
@@ -106,4 +98,4 @@ returns c =
     (le-leb header_bytes (length xs) (omega (arith, c.if-bytes-lt5.false)))
     (fronted (goal.at.returns c).Else-not-good_front)
     (eq-eqb _ _ (sized (goal.at.returns c).Else-bytes-size_of)) good) in
-    record { answer = same; kept = λ e. read-ready xs c.table_of.result same; empty = good-not }
+    record { answer = same; kept = read-ready xs c.table_of.result same }

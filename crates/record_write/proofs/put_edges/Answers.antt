@@ -40,7 +40,7 @@ ends c =
     let d = c.args.t.q + 7 in
     let h : c.args.first + c.args.t.states * n * d ≤ 8 * length c.args.out.now = rw (n-is c) c.requires.2 in
     place-le c.args.first (c.args.t.states * n) d d (8 * length c.loop-e.out) c.loop-e.e
-    c.loop-e-test.true (omega (arith, c.loop-e.invariant.1))
+    c.loop-e-test.true (omega (arith, c.loop-e.invariant.0))
 
 -- and its number is small
 small : (c : In-loop-e) → c.loop-e.e * (c.args.t.q + 7)
@@ -63,8 +63,8 @@ target c =
     (div-lt_iff_lt-mul {k = n} {x = e} {y = c.args.t.states} (some c)).1 c.loop-e-test.true in
     c.requires.0.inside (e / n) (e % n) s (rw (← n-is c) (mod-lt e {m = n} (some c)))
 
-pub overflow_mul-edges : goal.overflow_mul-edges
-overflow_mul-edges c =
+pub overflow_mul-e-end : goal.overflow_mul-e-end
+overflow_mul-e-end c =
     let f : c.power-n.result ≤ 16 = rw c.power-n.ensures.answer
     (pow_mono {i = c.args.t.p} {j = 4} c.requires.0.narrow) in
     record { fits = omega (arith, product_le c.args.t.states c.power-n.result 128 16 c.requires.0.few f) }
@@ -72,7 +72,7 @@ overflow_mul-edges c =
 pub loop-e-init : goal.loop-e-init
 loop-e-init c =
     let a = c.args in
-    (omega arith, refl, edges-begin a.t c.power-n.result (bits_of a.out.now) a.first)
+    (refl, edges-begin a.t c.power-n.result (bits_of a.out.now) a.first)
 
 pub nonzero_div-i : goal.nonzero_div-i
 nonzero_div-i c = some c
@@ -124,22 +124,17 @@ pub put_low-requires-in-loop-e : goal.put_low-requires-in-loop-e
 put_low-requires-in-loop-e c =
     (omega arith, omega (arith, c.put_low.ensures.kept, ends (goal.at.put_low-requires-in-loop-e c).In-loop-e))
 
-pub overflow_add-e : goal.overflow_add-e
-overflow_add-e c =
-    record { fits = omega (arith, c.loop-e-test.true, small (goal.at.overflow_add-e c).In-loop-e) }
-
 pub loop-e-preserved : goal.loop-e-preserved
 loop-e-preserved c =
     let a = c.args in
     let o = a.out.now in (
-      omega (arith, c.loop-e-test.true),
-      c.put_low-in-loop-e.ensures.kept ∙ c.put_low.ensures.kept ∙ c.loop-e.invariant.1,
+      c.put_low-in-loop-e.ensures.kept ∙ c.put_low.ensures.kept ∙ c.loop-e.invariant.0,
       edges-next a.t c.power-n.result c.loop-e.e a.first (a.first + c.loop-e.e * (a.t.q + 7))
           (bits_of o)
           (bits_of c.loop-e.out) _ _ refl
-          (omega (arith, ends (goal.at.loop-e-preserved c).In-loop-e, length-bits_of o, c.loop-e.invariant.1))
-          (omega (arith, length-bits_of o, length-bits_of c.loop-e.out, c.loop-e.invariant.1))
-          c.loop-e.invariant.2 c.put_low.ensures.written c.put_low-in-loop-e.ensures.written,
+          (omega (arith, ends (goal.at.loop-e-preserved c).In-loop-e, length-bits_of o, c.loop-e.invariant.0))
+          (omega (arith, length-bits_of o, length-bits_of c.loop-e.out, c.loop-e.invariant.0))
+          c.loop-e.invariant.1 c.put_low.ensures.written c.put_low-in-loop-e.ensures.written,
     )
 
 pub returns : goal.returns
@@ -148,9 +143,9 @@ returns c =
     let n = c.power-n.result in
     let e : c.loop-e.e ≡ a.t.states * n = omega arith in
     record {
-      written = c.loop-e.invariant.2 ∙ ap (λ k. spliced a.first (edges_bits a.t n k) (bits_of a.out.now)) e
+      written = c.loop-e.invariant.1 ∙ ap (λ k. spliced a.first (edges_bits a.t n k) (bits_of a.out.now)) e
           ∙ ap (λ m. spliced a.first (edges_bits a.t m (a.t.states * m)) (bits_of a.out.now))
           c.power-n.ensures.answer
           ∙ ap (λ x. spliced a.first x (bits_of a.out.now)) (edges-all a.t);
-      kept = c.loop-e.invariant.1;
+      kept = c.loop-e.invariant.0;
     }

@@ -25,8 +25,8 @@ pub returns : goal.returns
 returns c =
     record {
       written = front-spliced c.args.f _ _ (bits_of c.args.out.now) _
-          (omega (arith, length-bits_of c.args.out.now, c.requires)) c.less_one.ensures.answer
-          c.less_one-2.ensures.answer (
+          (omega (arith, length-bits_of c.args.out.now, c.requires)) c.saturating_sub.ensures
+          c.saturating_sub-2.ensures (
             _,
             c.put_low.ensures.written,
             (

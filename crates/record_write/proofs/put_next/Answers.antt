@@ -1,23 +1,18 @@
--- `put_next` meets its contract: the five bits of an absent next state are 0, those of a present one begin with 1.
-use Rattle.laws.proofs.All.{◌∙◌}
-use Rattle.bits.specs.Fields.{bits_of}
+-- The five bits of an absent next state are 0, those of a present one begin with 1.
+use Rattle.laws.proofs.All.{ap, ◌∙◌, ℕ}
+use Rattle.bits.specs.Bytes.{spliced}
+use Rattle.bits.specs.Fields.{bits, bits_of}
 use Rattle.record.proofs.RecordParts.{put-absent, put-present}
+use Rattle.record_write.proofs.put_next.Goals.{then-next-eq255, else-next-eq255}
 use Rattle.record_write.proofs.put_next.Goals as goal
 
-pub returns-then-next-eq255 : goal.returns-then-next-eq255
-returns-then-next-eq255 c =
+pub returns-clause-written : goal.returns-clause-written
+returns-clause-written c =
     let a = c.args in
-    record {
-      written = c.put.ensures.written ∙ put-absent (bits_of a.out.now) a.at a.next c.if-next-eq255.true;
-      kept =
-          c.put.ensures.kept;
-    }
-
-pub returns : goal.returns
-returns c =
-    let a = c.args in
-    record {
-      written = c.put-2.ensures.written ∙ put-present (bits_of a.out.now) a.at a.next _ c.if-next-eq255.false
-          c.low_bits.ensures.answer;
-      kept = c.put-2.ensures.kept;
-    }
+    let B = bits_of a.out.now in
+    let field = λ (x : ℕ). spliced a.at (bits 5 x) B in
+    elim c.if-next-eq255.branch [
+      | then-next-eq255 w ↦ c.put.ensures.written ∙ ap field w.field-is ∙ put-absent B a.at a.next w.if-next-eq255.true
+      | else-next-eq255 w ↦ c.put.ensures.written ∙ ap field w.field-is
+          ∙ put-present B a.at a.next _ w.if-next-eq255.false w.low_bits.ensures.answer
+    ]

@@ -12,17 +12,16 @@ use Rattle.record_write.proofs.put_states.Goals as goal
 pub loop-s-init : goal.loop-s-init
 loop-s-init c =
     let a = c.args in
-    (omega arith, refl, states-begin a.constraint (bits_of a.out.now) header_bits)
+    (refl, states-begin a.constraint (bits_of a.out.now) header_bits)
 
 pub loop-s-preserved : goal.loop-s-preserved
 loop-s-preserved c =
     let o = c.args.out.now in (
-      omega arith,
-      c.put_next-in-loop-s.ensures.kept ∙ c.put_next.ensures.kept ∙ c.loop-s.invariant.1,
+      c.put_next-in-loop-s.ensures.kept ∙ c.put_next.ensures.kept ∙ c.loop-s.invariant.0,
       states-next c.args.constraint c.loop-s.s (bits_of o) (bits_of c.loop-s.out) _ _
           (omega (arith, length-bits_of o))
-          (omega (arith, length-bits_of o, length-bits_of c.loop-s.out, c.loop-s.invariant.1))
-          c.loop-s.invariant.2 c.put_next.ensures.written c.put_next-in-loop-s.ensures.written,
+          (omega (arith, length-bits_of o, length-bits_of c.loop-s.out, c.loop-s.invariant.0))
+          c.loop-s.invariant.1 c.put_next.ensures.written c.put_next-in-loop-s.ensures.written,
     )
 
 pub returns : goal.returns
@@ -30,8 +29,8 @@ returns c =
     let a = c.args in
     let e : c.loop-s.s ≡ a.constraint.states = omega arith in
     record {
-      written = c.loop-s.invariant.2
+      written = c.loop-s.invariant.1
           ∙ ap (λ k. spliced header_bits (states_bits (map (next_states_at a.constraint) (range k)))
           (bits_of a.out.now)) e;
-      kept = c.loop-s.invariant.1;
+      kept = c.loop-s.invariant.0;
     }

@@ -1,7 +1,7 @@
 -- `write` meets its contract: refusals 7 and 13 before any byte is written, otherwise the whole record.
+use Rattle.std.proofs.Common.{Ok}
 use Rattle.std.proofs.Common.{◌≡◌}
 use Rattle.laws.proofs.All.{sym, ap, subst, ◌∙◌, true, not-true, not-false, T, length}
-use Rattle.answer.specs.declared.Answer.TheVariants.{Done}
 use Rattle.answer.specs.Outcomes.{answer_of, output_of}
 use Rattle.table.specs.Value.{table_head, ready, Ready}
 use Rattle.table.proofs.ReadyTables.{ready→}
@@ -28,13 +28,13 @@ good c = ready→ c.args.t (subst T (sym (tested c)) tt)
 
 pub size_of-long-requires : goal.size_of-long-requires
 size_of-long-requires c =
-    subst Small (sym c.head_of-f.ensures.answer)
+    subst Small (sym c.head-f.ensures.answer)
     (small-in c.args.t (good (goal.at.size_of-long-requires c).Else-not-is_ready))
 
 -- the length is that of the table's record
 sized : (c : After-size_of-long)
     → c.size_of-long.result ≡ size (table_head c.args.t)
-sized c = c.size_of-long.ensures.answer ∙ ap size c.head_of-f.ensures.answer
+sized c = c.size_of-long.ensures.answer ∙ ap size c.head-f.ensures.answer
 
 pub returns-then-out-long : goal.returns-then-out-long
 returns-then-out-long c =
@@ -48,7 +48,7 @@ returns-then-out-long c =
 pub put_record-requires : goal.put_record-requires
 put_record-requires c = (
   good (goal.at.put_record-requires c).Else-not-is_ready,
-  c.head_of-f.ensures.answer,
+  c.head-f.ensures.answer,
   sized
       (goal.at.put_record-requires c).After-size_of-long,
   c.if-out-long.false,
@@ -61,7 +61,7 @@ returns c =
     (tested (goal.at.returns c).Else-not-is_ready)
     c.if-out-long.false in
     record {
-      answer = ap Done
+      answer = ap Ok
           (pack-long s.t c.size_of-long.result (length s.out.now) (sized (goal.at.returns c).After-size_of-long))
           ∙ ap answer_of (sym k);
       written = c.put_record.ensures.written ∙ ap (λ x. output_of x s.out.now) (sym k);

@@ -1,4 +1,3 @@
-use Rattle.std.proofs.Common.{◌-◌}
 use Rattle.laws.proofs.All.{sym, ◌∙◌, arith}
 use Rattle.set_check.proofs.Walks.{set-empty, walking_start, walking-stop, walking_on}
 use Rattle.set_check.proofs.Walks.{walking-left, walking-end}
@@ -7,48 +6,35 @@ use Rattle.set_check.proofs.check_set.Goals as goal
 pub returns-then-set-eq0 : goal.returns-then-set-eq0
 returns-then-set-eq0 c = record { answer = set-empty c.args.set.now c.if-set-eq0.true }
 
-pub overflow_cast-count : goal.overflow_cast-count
-overflow_cast-count c = omega (arith, c.type_inv.set 0)
-
 pub loop-number-init : goal.loop-number-init
-loop-number-init c =
-    let s = c.args.set.now in
-    (omega arith, omega (arith, c.type_inv.set 0), walking_start s (omega arith))
+loop-number-init c = walking_start c.args.set.now (omega arith)
 
-pub returns-in-Stop : goal.returns-in-Stop
-returns-in-Stop c =
+pub returns-in-Err : goal.returns-in-Err
+returns-in-Err c =
     let s = c.args.set.now in
+    let l = c.loop-number in
     record {
-      answer = walking-stop s _ c.loop-number.number c.loop-number.at _ (omega arith) c.loop-number.invariant.2
-          (sym c.step_at.ensures.answer ∙ c.in-Stop.is);
+      answer = walking-stop s _ l.number l.at _ (omega arith) l.invariant (sym c.step_at.ensures.answer ∙ c.in-Err.is);
     }
-
-pub overflow_add-number : goal.overflow_add-number
-overflow_add-number c = omega arith
-
-pub loop-number-smaller : goal.loop-number-smaller
-loop-number-smaller c = omega arith
 
 pub loop-number-preserved : goal.loop-number-preserved
 loop-number-preserved c =
     let s = c.args.set.now in
-    let w =
-    walking_on s _ c.loop-number.number c.loop-number.at _ (omega arith) c.loop-number.invariant.2
-    (sym c.step_at.ensures.answer ∙ c.in-On.is) in
-    (omega arith, c.loop-number.invariant.1, w.1)
+    let l = c.loop-number in
+    (walking_on s _ l.number l.at _ (omega arith) l.invariant (sym c.step_at.ensures.answer ∙ c.in-Ok.is)).1
 
 pub returns-then-at-set : goal.returns-then-at-set
 returns-then-at-set c =
     let s = c.args.set.now in
+    let l = c.loop-number in
     record {
-      answer = walking-left s _ c.loop-number.number c.loop-number.at c.loop-number.invariant.0 (omega arith)
-          c.loop-number.invariant.2 c.if-at-set.true;
+      answer = walking-left s _ l.number l.at (omega arith) (omega arith) l.invariant c.if-at-set.true;
     }
 
 pub returns : goal.returns
 returns c =
     let s = c.args.set.now in
+    let l = c.loop-number in
     record {
-      answer = walking-end s _ c.loop-number.number c.loop-number.at c.loop-number.invariant.0 (omega arith)
-          c.loop-number.invariant.2 c.if-at-set.false;
+      answer = walking-end s _ l.number l.at (omega arith) (omega arith) l.invariant c.if-at-set.false;
     }

@@ -3,7 +3,7 @@ use Rattle.laws.proofs.All.{sym, ap, ◌∙◌, arith, lt-ltb, le-ltb}
 use Rattle.table.specs.Formed.{Ranges, head}
 use Rattle.table.specs.Value.{ready, code_in}
 use Rattle.table.proofs.Formed.{formed→}
-use Rattle.stream_damage.specs.declared.ReachAnswer.TheVariants.{Blocks}
+use Rattle.std.proofs.Common.{Ok}
 use Rattle.stream_damage.specs.BitReach.{reach_in}
 use Rattle.stream_damage.proofs.quote.Goals.{Start}
 use Rattle.stream_damage.proofs.quote.Goals as goal
@@ -22,7 +22,7 @@ blocks_of-requires c =
 
 pub returns-then-l-t : goal.returns-then-l-t
 unfolding reach_in
-returns-then-l-t c = record { answer = ap Blocks c.blocks_of.ensures.answer ∙ sym (rw (lt-ltb _ _ c.if-l-t.true)) }
+returns-then-l-t c = record { answer = ap Ok c.blocks_of.ensures.answer ∙ sym (rw (lt-ltb _ _ c.if-l-t.true)) }
 
 pub returns : goal.returns
 unfolding reach_in

@@ -1,7 +1,8 @@
 use Rattle.std.proofs.Common.{◌≡◌, ◌++◌, ◌-◌}
 use Rattle.laws.proofs.All.{refl, sym, ap, ◌∙◌, map, min, zero-min, min-eq_left, min-eq_right}
 use Rattle.laws.proofs.All.{arith, drop, range, piece-more}
-use Rattle.table.specs.Edges.{arrays, rows_of}
+use Rattle.table.specs.Edges.{rows_of}
+use Rattle.codec_groups.specs.Lent.{lent_edges}
 use Rattle.codec_steps.specs.Reading.{block}
 use Rattle.codec_steps.specs.BlockParts.{under}
 use Rattle.stream_pack.specs.Streams.{unpacked}
@@ -14,8 +15,8 @@ loop-i-init c =
       omega arith,
       refl,
       sym (ap (λ k. map (let a = c.args in
-          block (under (rows_of (arrays a.states a.n a.word.now a.next.now)) a.m a.a)
-          (unpacked a.q a.count a.stream.now)) (range k) ++ drop k o) (zero-min (c.args.count - c.args.a))),
+          block (under (rows_of (lent_edges a.grouped.now)) a.m a.a)
+          (unpacked a.grouped.now.edges.q a.count a.stream.now)) (range k) ++ drop k o) (zero-min (c.args.count - c.args.a))),
     )
 
 pub read_part-requires : goal.read_part-requires
@@ -27,8 +28,6 @@ read_part-requires c =
       c.requires.1,
       c.requires.2,
       c.requires.3,
-      c.requires.4,
-      c.requires.5,
       l.invariant.0,
       b,
       f,
@@ -46,14 +45,14 @@ loop-i-preserved c =
       omega (arith, l.invariant.0),
       omega (arith, c.out-1.given, l.invariant.1),
       piece-more (let a = c.args in
-          block (under (rows_of (arrays a.states a.n a.word.now a.next.now)) a.m a.a)
-          (unpacked a.q a.count a.stream.now)) l.i c.smaller-end.result o l.out _ b
+          block (under (rows_of (lent_edges a.grouped.now)) a.m a.a)
+          (unpacked a.grouped.now.edges.q a.count a.stream.now)) l.i c.smaller-end.result o l.out _ b
           (l.invariant.2 ∙ ap (λ k. map (let a = c.args in
-          block (under (rows_of (arrays a.states a.n a.word.now a.next.now)) a.m a.a)
-          (unpacked a.q a.count a.stream.now)) (range k) ++ drop k o) whole) c.read_part.ensures.written
+          block (under (rows_of (lent_edges a.grouped.now)) a.m a.a)
+          (unpacked a.grouped.now.edges.q a.count a.stream.now)) (range k) ++ drop k o) whole) c.read_part.ensures.written
           ∙ ap (λ k. map (let a = c.args in
-          block (under (rows_of (arrays a.states a.n a.word.now a.next.now)) a.m a.a)
-          (unpacked a.q a.count a.stream.now)) (range k) ++ drop k o) c.smaller-end.ensures.answer,
+          block (under (rows_of (lent_edges a.grouped.now)) a.m a.a)
+          (unpacked a.grouped.now.edges.q a.count a.stream.now)) (range k) ++ drop k o) c.smaller-end.ensures.answer,
     )
 
 pub shape_of-out : goal.shape_of-out
@@ -65,6 +64,6 @@ returns c =
     let e : min l.i (c.args.count - c.args.a) ≡ c.args.count - c.args.a = min-eq_right (omega arith) in
     record {
       written = l.invariant.2 ∙ ap (λ k. map (let a = c.args in
-          block (under (rows_of (arrays a.states a.n a.word.now a.next.now)) a.m a.a)
-          (unpacked a.q a.count a.stream.now)) (range k) ++ drop k c.args.out.now) e;
+          block (under (rows_of (lent_edges a.grouped.now)) a.m a.a)
+          (unpacked a.grouped.now.edges.q a.count a.stream.now)) (range k) ++ drop k c.args.out.now) e;
     }

@@ -1,43 +1,31 @@
 -- `stream_pack::is_stream` meets its contract: the limit, the length, then the fill.
 use Rattle.std.proofs.Common.{◌≡◌}
-use Rattle.laws.proofs.All.{sym, ◌∙◌, arith, length}
-use Rattle.stream_pack.specs.Streams.{stream_size}
-use Rattle.stream_pack.proofs.Streams.{few_bits}
+use Rattle.laws.proofs.All.{sym, subst, ◌∙◌, arith, T, eqb→eq, eq-eqb, lt-leb, length}
+use Rattle.stream_pack.specs.Streams.{limit, stream_size}
 use Rattle.stream_pack.proofs.Checks.{stream-long, stream-other, stream-fill}
-use Rattle.stream_pack.proofs.is_stream.Goals.{Else-bytes-stream_size}
+use Rattle.stream_pack.proofs.is_stream.Goals.{then-count-le-LIMIT, else-count-le-LIMIT}
 use Rattle.stream_pack.proofs.is_stream.Goals as goal
-
-sized : (c : Else-bytes-stream_size) → let a = c.args in
-    length a.bytes.now ≡ stream_size a.q a.count
-sized c = c.if-bytes-stream_size.false ∙ c.stream_size.ensures.answer
-
-pub returns-then-count-gt-LIMIT : goal.returns-then-count-gt-LIMIT
-returns-then-count-gt-LIMIT c =
-    let a = c.args in
-    record { answer = sym (stream-long a.q a.count a.bytes.now (omega arith)) }
 
 pub returns-then-bytes-stream_size : goal.returns-then-bytes-stream_size
 returns-then-bytes-stream_size c =
     let a = c.args in
-    record {
-      answer = sym (stream-other a.q a.count a.bytes.now (omega arith)
-          (λ e. c.if-bytes-stream_size.true (e ∙ sym c.stream_size.ensures.answer)));
-    }
+    let t = c.if-bytes-stream_size.true in
+    elim c.if-count-le-LIMIT.branch [
+      | then-count-le-LIMIT w ↦
+          let e : length a.bytes.now ≡ stream_size a.q a.count =
+          eqb→eq _ _ (subst T (sym t ∙ w.value-is) tt) ∙ w.stream_size.ensures.answer in
+          record { answer = c.is_filled.ensures.answer ∙ sym (stream-fill a.q a.count a.bytes.now (omega arith) e) }
+      | else-count-le-LIMIT w ↦ absurd (subst T (sym t ∙ w.value-is ∙ lt-leb a.count limit (omega arith)) tt)
+    ]
 
-pub overflow_mul-count : goal.overflow_mul-count
-overflow_mul-count c =
-    omega (arith, few_bits c.args.q c.args.count c.requires c.if-count-gt-LIMIT.false)
-
-pub is_filled-requires : goal.is_filled-requires
-is_filled-requires c =
-    let e = sized c in
-    let f = few_bits c.args.q c.args.count c.requires c.if-count-gt-LIMIT.false in
-    (omega arith, omega arith, omega arith)
-
-pub returns : goal.returns
-returns c =
+pub returns-else-bytes-stream_size : goal.returns-else-bytes-stream_size
+returns-else-bytes-stream_size c =
     let a = c.args in
-    record {
-      answer = c.is_filled.ensures.answer ∙ sym (stream-fill a.q a.count a.bytes.now c.if-count-gt-LIMIT.false
-          (sized (goal.at.returns c).Else-bytes-stream_size));
-    }
+    let f = c.if-bytes-stream_size.false in
+    elim c.if-count-le-LIMIT.branch [
+      | then-count-le-LIMIT w ↦ record {
+        answer = f ∙ sym (stream-other a.q a.count a.bytes.now (omega arith)
+            (λ e. subst T (sym (eq-eqb _ _ (e ∙ sym w.stream_size.ensures.answer)) ∙ sym w.value-is ∙ f) tt));
+      }
+      | else-count-le-LIMIT w ↦ record { answer = f ∙ sym (stream-long a.q a.count a.bytes.now (omega arith)) }
+    ]

@@ -1,13 +1,15 @@
 -- `stream_pack::pack` meets its contract: the checks in their order, then the stream.
-use Rattle.std.proofs.Common.{◌≡◌, ◌++◌, ◌^◌}
+use Rattle.std.proofs.Common.{◌≡◌, ◌++◌, ◌^◌, ◌≤◌}
 use Rattle.laws.proofs.All.{sym, ap, ◌∙◌, true, arith, length, drop}
-use Rattle.answer.specs.declared.Refusal.TheVariants.{Parameters, BadByte, ShortOutput, Stream}
+use Rattle.answer.specs.declared.Refusal.TheVariants.{Parameters, ShortOutput, Stream}
 use Rattle.answer.proofs.Answered.{declined, finished}
-use Rattle.answer.proofs.FirstBad.{all-below}
-use Rattle.stream_pack.specs.Streams.{stream_size, good_width, packed, pack_into}
+use Rattle.answer.specs.FirstBad.{all_below}
+use Rattle.answer.proofs.FirstBad.{all_below→}
+use Rattle.answer.proofs.Outcomes.{handed_on}
+use Rattle.stream_pack.specs.Streams.{limit, stream_size, good_width, packed, pack_into}
 use Rattle.stream_pack.proofs.Streams.{packed-size}
-use Rattle.stream_pack.proofs.Checks.{width→, pack-1, pack-15, pack-13, pack-11, pack-done}
-use Rattle.stream_pack.proofs.pack.Goals.{Else-not-is_width}
+use Rattle.stream_pack.proofs.Checks.{width→, pack-1, pack-15, pack-13, pack-last}
+use Rattle.stream_pack.proofs.pack.Goals.{Else-not-is_width, Else-out-size}
 use Rattle.stream_pack.proofs.pack.Goals as goal
 
 wide : (c : Else-not-is_width) → good_width c.args.q ≡ true
@@ -44,38 +46,49 @@ returns-then-out-size c =
     (omega (arith, c.stream_size-size.ensures.answer, c.if-out-size.true))) in
     record { answer = w.0; written = w.1 }
 
-pub returns-then-bad-words : goal.returns-then-bad-words
-returns-then-bad-words c =
+-- with room enough only the words are left to check
+last : (c : Else-out-size) → let a = c.args in
+    good_width a.q ≡ true → length a.words.now ≤ limit
+    → pack_into a.q (length a.out.now) a.words.now ≡ all_below (2 ^ a.q) a.words.now (packed a.q a.words.now)
+last c g h =
     let a = c.args in
-    let w = declined (pack_into a.q (length a.out.now) a.words.now) (BadByte c.first_bad-bad.result) a.out.now
-    (pack-11 a.q (length a.out.now) a.words.now (wide (goal.at.returns-then-bad-words c).Else-not-is_width)
-    (omega arith)
+    pack-last a.q (length a.out.now) a.words.now g h
     (omega (arith, c.stream_size-size.ensures.answer, c.if-out-size.false))
-    c.power.result c.first_bad-bad.result c.power.ensures.answer c.first_bad-bad.ensures.answer
-    c.if-bad-words.true) in
-    record { answer = w.0; written = w.1 }
+
+pub returns-in_err-check_below : goal.returns-in_err-check_below
+returns-in_err-check_below c =
+    let i = goal.at.returns-in_err-check_below c in
+    let a = c.args in
+    let ws = a.words.now in
+    let w = declined (pack_into a.q (length a.out.now) ws) _ a.out.now
+    (last i.Else-out-size (wide i.Else-not-is_width) (omega arith)
+    ∙ ap (λ n. all_below n ws (packed a.q ws)) (sym c.power.ensures.answer)
+    ∙ sym (c.in_err-check_below.ensures.answer (packed a.q ws))) in
+    rw (handed_on _ _ c.from_residual.ensures.1) (record { answer = w.0; written = w.1 })
 
 pub put_words-requires : goal.put_words-requires
 put_words-requires c =
+    let i = goal.at.put_words-requires c in
     let a = c.args in
     let ws = a.words.now in (
-      width→ a.q (wide (goal.at.put_words-requires c).Else-not-is_width),
+      width→ a.q (wide i.Else-not-is_width),
       omega arith,
-      all-below (2 ^ a.q) ws c.power.result c.first_bad-bad.result c.power.ensures.answer
-          c.first_bad-bad.ensures.answer c.if-bad-words.false,
+      (all_below→ (2 ^ a.q) ws ws ws (ap (λ n. all_below n ws ws) (sym c.power.ensures.answer)
+          ∙ sym (c.in_ok-check_below.ensures.answer ws))).0,
       omega (arith, c.stream_size-size.ensures.answer, c.if-out-size.false),
     )
 
 pub returns : goal.returns
 returns c =
+    let i = goal.at.returns c in
     let a = c.args in
     let ws = a.words.now in
     let out = a.out.now in
     let n : c.stream_size-size.result ≡ stream_size a.q (length ws) = c.stream_size-size.ensures.answer in
     let w = finished (pack_into a.q (length out) ws) (packed a.q ws) out _ c.stream_size-size.result
-    (pack-done a.q (length out) ws (wide (goal.at.returns c).Else-not-is_width) (omega arith)
-    (omega (arith, c.if-out-size.false)) c.power.result c.first_bad-bad.result
-    c.power.ensures.answer c.first_bad-bad.ensures.answer c.if-bad-words.false)
+    (last i.Else-out-size (wide i.Else-not-is_width) (omega arith)
+    ∙ ap (λ n. all_below n ws (packed a.q ws)) (sym c.power.ensures.answer)
+    ∙ sym (c.in_ok-check_below.ensures.answer (packed a.q ws)))
     (n ∙ sym (packed-size a.q ws))
     (c.put_words.ensures.written ∙ ap (λ k. packed a.q ws ++ drop k out) (sym n)) in
     record { answer = w.0; written = w.1 }

@@ -1,10 +1,11 @@
 -- The checks in their order, then the count, part by part.
 use Rattle.std.proofs.Common.{◌≡◌}
-use Rattle.laws.proofs.All.{sym, ap, subst, ◌∙◌, true, T}
+use Rattle.laws.proofs.All.{sym, ap, ap₂, subst, ◌∙◌, true, T}
 use Rattle.answer.specs.Outcomes.{answer_of}
 use Rattle.table.specs.Value.{ready}
 use Rattle.table.proofs.ReadyTables.{ready→}
-use Rattle.stream_pack.specs.Streams.{good_stream}
+use Rattle.stream_pack.specs.Streams.{unpacked, good_stream}
+use Rattle.codec_verify.specs.Counting.{come_back}
 use Rattle.stream_verify.proofs.Checked.{stream-7, stream-15, stream-12, stream-done, streamed}
 use Rattle.stream_verify.proofs.verify_stream_with.Goals.{Else-not-is_ready, Else-not-is_stream}
 use Rattle.stream_verify.proofs.verify_stream_with.Goals as goal
@@ -48,16 +49,15 @@ returns-then-count-t c =
           (is-good (goal.at.returns-then-count-t c).Else-not-is_stream) c.if-count-t.true));
     }
 
-pub sizes_of-requires : goal.sizes_of-requires
-sizes_of-requires c =
-    (ready→ c.args.t (told-ready (goal.at.sizes_of-requires c).Else-not-is_ready)).narrow
+pub of-requires : goal.of-requires
+of-requires c = ready→ c.args.t (told-ready (goal.at.of-requires c).Else-not-is_ready)
 
 pub count_stream-requires : goal.count_stream-requires
 count_stream-requires c =
     let a = c.args in
     streamed a.t (told-ready (goal.at.count_stream-requires c).Else-not-is_ready) a.count a.stream.now
     (subst T (sym (is-good (goal.at.count_stream-requires c).Else-not-is_stream)) tt) c.if-count-t.false
-    c.sizes_of.result c.sizes_of.ensures.answer
+    c.sizes_of.result c.sizes_of.ensures.answer _ c.of.ensures.width
 
 pub returns : goal.returns
 returns c =
@@ -65,5 +65,8 @@ returns c =
     record {
       answer = stream-done a.t a.count a.stream.now (is-ready (goal.at.returns c).Else-not-is_ready)
           (is-good (goal.at.returns c).Else-not-is_stream) c.if-count-t.false c.sizes_of.result
-          c.count_stream.result c.sizes_of.ensures.answer c.count_stream.ensures.answer;
+          c.count_stream.result c.sizes_of.ensures.answer
+          (c.count_stream.ensures.answer
+          ∙ ap₂ (λ s q. come_back s c.sizes_of.result (unpacked q a.count a.stream.now)) c.of.ensures.answer
+          c.of.ensures.width);
     }

@@ -1,96 +1,28 @@
-use Rattle.std.proofs.Common.{◌≡◌, ◌&&◌, ◌||◌, ◌-◌, ◌*◌, ◌<◌}
-use Rattle.laws.proofs.All.{sym, ap, ◌∙◌, true, ℕ, arith, get_or}
-use Rattle.laws.proofs.All.{any}
-use Rattle.table.specs.Edges.{arrays, next_of, bears, last_below}
-use Rattle.table.proofs.Edges.{bears-edge, link-below, on-le, on-bears, on_some}
+use Rattle.std.proofs.Common.{rules, ◌≡◌, ◌||◌, ◌+◌, ◌<◌}
+use Rattle.laws.proofs.All.{sym, ap, subst, ◌∙◌, true, ℕ, arith, any}
+use Rattle.table.specs.Edges.{places, bears, last_below}
+use Rattle.table.specs.Lent.{edges_in}
+use Rattle.table.specs.Chains.{after}
+use Rattle.table.proofs.Edges.{bears-word, on_some, on-edge}
 use Rattle.bitsets.specs.BitSets.{holds, members_of, set_at}
 use Rattle.table_words.specs.Gathered.{holds_in}
 use Rattle.window_pairs.specs.PairSets.{joins}
 use Rattle.window_pairs.proofs.RowMarks.{Left, row-start, row-jump, row_put, row-skip, row_done}
 use Rattle.window_pairs.proofs.Joins.{none-joined, joins-marked, joins-left, joins-only}
-use Rattle.window_pairs.proofs.mark_edges.Goals.{In-loop-cur, Joined-is_taken, Start, then-is_taken, else-is_taken}
+use Rattle.window_pairs.proofs.mark_edges.Goals.{Joined-is_taken, then-is_taken, else-is_taken}
 use Rattle.window_pairs.proofs.mark_edges.Goals as goal
 
--- where the chain starts
-start-on : (s : Start)
-    → get_or s.args.head.now s.args.w 0 ≡ last_below (arrays s.args.states s.args.n s.args.word.now s.args.next.now)
-    s.args.w (s.args.states * 16)
-start-on s = s.requires.0.chained.heads s.args.w s.requires.1
-
--- the edge in hand
-edge_on : (c : In-loop-cur)
-    → bears (arrays c.args.states c.args.n c.args.word.now c.args.next.now) c.args.w (c.loop-cur.cur - 1) ≡ true
-edge_on c = c.loop-cur.invariant.1 c.loop-cur-test.true
-
-next_small : (c : In-loop-cur) → next_of (arrays c.args.states c.args.n c.args.word.now c.args.next.now)
-    (c.loop-cur.cur - 1) < 128
-next_small c =
-    let g = c.requires.0.fits in
-    omega (
-      arith,
-      g.few,
-      g.inside (c.loop-cur.cur - 1) (omega arith)
-          (bears-edge (arrays c.args.states c.args.n c.args.word.now c.args.next.now) _ (c.loop-cur.cur - 1)
-          (edge_on c)),
-    )
-
--- the edge before it
-link_on : (c : In-loop-cur)
-    → get_or c.args.link.now (c.loop-cur.cur - 1) 0
-    ≡ last_below (arrays c.args.states c.args.n c.args.word.now c.args.next.now) c.args.w (c.loop-cur.cur - 1)
-link_on c =
-    link-below (arrays c.args.states c.args.n c.args.word.now c.args.next.now) _ (c.loop-cur.cur - 1) (edge_on c)
-    (c.args.states * 16) c.args.head.now
-    c.args.link.now c.requires.0.chained (omega arith)
-
-pub overflow_cast-cur : goal.overflow_cast-cur
-overflow_cast-cur c =
-    omega (
-      arith,
-      c.requires.0.fits.few,
-      on-le (arrays c.args.states c.args.n c.args.word.now c.args.next.now) _
-          (c.args.states * 16) _ (start-on (goal.at.overflow_cast-cur c).Start),
-    )
-
-pub loop-cur-init : goal.loop-cur-init
-loop-cur-init c =
-    let t = (arrays c.args.states c.args.n c.args.word.now c.args.next.now) in
-    let n = c.args.states * 16 in
+pub loop-at-init : goal.loop-at-init
+loop-at-init c =
+    let t = edges_in c.args.chains.now.edges in
+    let n = places t in
     let w = c.args.w in
-    let e = get_or c.args.head.now w 0 in
     let P = c.args.pairs.now in
     let f = joins t P w c.args.k in (
-      on-le t w n e (start-on (goal.at.loop-cur-init c).Start),
-      on-bears t w n e (start-on (goal.at.loop-cur-init c).Start),
+      c.last-at.ensures.edge,
       (λ u. c.none-joined.ensures.answer u ∙ sym (none-joined _ _ c.none-last.ensures.answer)),
-      row-jump _ f n n _ (row-start c.args.out.now f n) e
-          (λ u v. on_some t w n e (start-on (goal.at.loop-cur-init c).Start) (f u v)
-          (λ i b. joins-only t P w c.args.k u v i b)),
-    )
-
-pub set_at-requires : goal.set_at-requires
-set_at-requires c = omega (arith, c.requires.0.fits.few)
-
-pub put_into-requires : goal.put_into-requires
-put_into-requires c =
-    (next_small (goal.at.put_into-requires c).In-loop-cur, c.loop-cur.invariant.3.long ∙ c.requires.3)
-
-pub overflow_cast-cur-in-loop-cur : goal.overflow_cast-cur-in-loop-cur
-overflow_cast-cur-in-loop-cur c =
-    omega (
-      arith,
-      c.requires.0.fits.few,
-      on-le (arrays c.args.states c.args.n c.args.word.now c.args.next.now) _
-          (c.loop-cur.cur - 1) _ (link_on (goal.at.overflow_cast-cur-in-loop-cur c).In-loop-cur),
-    )
-
-pub loop-cur-smaller : goal.loop-cur-smaller
-loop-cur-smaller c =
-    omega (
-      arith,
-      c.loop-cur-test.true,
-      on-le (arrays c.args.states c.args.n c.args.word.now c.args.next.now) _
-          (c.loop-cur.cur - 1) _ (link_on (goal.at.loop-cur-smaller c).In-loop-cur),
+      row-jump _ f n n _ (row-start c.args.out.now f n) _
+          (λ u v. on_some t w n _ c.last-at.ensures.answer (f u v) (λ i b. joins-only t P w c.args.k u v i b)),
     )
 
 -- the turn has joined what it remembers
@@ -99,66 +31,61 @@ joined-on : (c : Joined-is_taken)
 joined-on c x =
     let A = c.args.targets.now in
     elim c.if-is_taken.branch [
-      | then-is_taken w ↦ ap (λ S. holds S x) w.joined-is ∙ w.union_again-more.ensures.answer x
+      | then-is_taken w ↦ ap (λ S. holds S x) w.joined-is ∙ w.union_again-joined.ensures.answer x
           ∙ sym (ap (λ S. any (holds_in A x) (members_of S)) w.last-is)
-      | else-is_taken w ↦ ap (λ S. holds S x) w.joined-is ∙ c.loop-cur.invariant.2 x
+      | else-is_taken w ↦ ap (λ S. holds S x) w.joined-is ∙ c.loop-at.invariant.1 x
           ∙ sym (ap (λ S. any (holds_in A x) (members_of S)) w.last-is)
     ]
+
+-- the edge in hand
+held : (c : Joined-is_taken) → let t = edges_in c.args.chains.now.edges in
+    (c.in-Some.i < places t) × (bears t c.args.w c.in-Some.i ≡ true)
+held c = search rules
 
 -- the turn has marked where its edge leads
-marked-on : (c : Joined-is_taken)
-    → Left c.args.out.now (joins (arrays c.args.states c.args.n c.args.word.now c.args.next.now) c.args.pairs.now
-    c.args.w
-    c.args.k) (c.args.states * 16) (c.loop-cur.cur - 1) c.if-is_taken.out
+marked-on : (c : Joined-is_taken) → let t = edges_in c.args.chains.now.edges in
+    Left c.args.out.now (joins t c.args.pairs.now c.args.w c.args.k) (places t) c.in-Some.i c.if-is_taken.out
 marked-on c =
     let a = c.args in
-    let l = c.loop-cur in
-    let t = arrays c.args.states c.args.n c.args.word.now c.args.next.now in
+    let l = c.loop-at in
+    let e = a.chains.now.edges in
+    let t = edges_in e in
+    let n = places t in
     let P = a.pairs.now in
     let f = joins t P a.w a.k in
-    let e = l.cur - 1 in
+    let i = c.in-Some.i in
+    let m : Left a.out.now f n (i + 1) l.out =
+    subst (λ o. Left a.out.now f n (after o) l.out) c.in-Some.is l.invariant.2 in
     elim c.if-is_taken.branch [
-      | then-is_taken u ↦ rw u.out-is (row_put _ f (a.states * 16) l.cur l.out l.invariant.3 c.loop-cur-test.true _
-          (u.put_into.ensures.written.0 ∙ sym (l.invariant.3.long ∙ c.requires.3))
+      | then-is_taken u ↦ rw u.out-is (row_put _ f n i l.out m _
+          (u.put_into.ensures.written.0 ∙ sym (m.long ∙ c.requires.2))
           (λ x y h. u.put_into.ensures.written.1 x y ∙ ap (λ b. holds (set_at l.out x) y || b)
-          (sym (joins-marked t c.requires.0.fits.few a.w a.k a.have _ c.requires.2 P x y e _ _
-          (l.invariant.1 c.loop-cur-test.true) (sym c.is_taken.ensures.answer ∙ u.if-is_taken.true)
-          (λ z. u.meet-set.ensures.answer z ∙ ap (λ S. holds S z && holds a.have z) u.set_at.ensures.answer)
-          u.union_again-more.ensures.answer))))
-      | else-is_taken u ↦ rw u.out-is (row-skip _ f (a.states * 16) l.cur l.out l.invariant.3 c.loop-cur-test.true
-          (λ x y. joins-left t P a.w a.k x y e (sym c.is_taken.ensures.answer ∙ u.if-is_taken.false)))
+          (sym (joins-marked t e.fits.few a.w a.k a.have _ c.requires.1 P x y i _ _
+          (held c).1 (sym c.is_taken.ensures.answer ∙ u.if-is_taken.true)
+          u.meet-set.ensures.answer u.union_again-joined.ensures.answer))))
+      | else-is_taken u ↦ rw u.out-is (row-skip _ f n i l.out m
+          (λ x y. joins-left t P a.w a.k x y i (sym c.is_taken.ensures.answer ∙ u.if-is_taken.false)))
     ]
 
-pub loop-cur-preserved : goal.loop-cur-preserved
-loop-cur-preserved c =
-    let a = c.args in
-    let t = (arrays c.args.states c.args.n c.args.word.now c.args.next.now) in
-    let w = a.w in
-    let P = a.pairs.now in
-    let f = joins t P w a.k in
-    let e = c.loop-cur.cur - 1 in
-    let j = get_or a.link.now e 0 in (
-      omega (arith, on-le t w e j (link_on (goal.at.loop-cur-preserved c).In-loop-cur)),
-      on-bears t w e j (link_on (goal.at.loop-cur-preserved c).In-loop-cur),
-      joined-on (goal.at.loop-cur-preserved c).Joined-is_taken,
-      row-jump _ f (a.states * 16) e _ (marked-on (goal.at.loop-cur-preserved c).Joined-is_taken) j
-          (λ u v. on_some t w e j (link_on (goal.at.loop-cur-preserved c).In-loop-cur) (f u v)
-          (λ g b. joins-only t P w a.k u v g b)),
+pub loop-at-preserved : goal.loop-at-preserved
+loop-at-preserved c =
+    let t = edges_in c.args.chains.now.edges in
+    let n = places t in
+    let w = c.args.w in
+    let P = c.args.pairs.now in
+    let f = joins t P w c.args.k in
+    let i = c.in-Some.i in
+    let d = (goal.at.loop-at-preserved c).Joined-is_taken in
+    let h = held d in
+    let q = c.before-at.ensures.answer ∙ ap (λ v. last_below t v i) (bears-word t w i h.1) in (
+      on-edge t w i n _ q (omega arith),
+      joined-on d,
+      row-jump _ f n i _ (marked-on d) _
+          (λ u v. on_some t w i _ q (f u v) (λ g b. joins-only t P w c.args.k u v g b)),
     )
 
 pub returns : goal.returns
 returns c =
-    let l = c.loop-cur in
-    record { written = row_done _ _ _ l.cur _ l.invariant.3 (omega arith) }
-
-pub union_again-more-requires : goal.union_again-more-requires
-union_again-more-requires c = c.loop-cur.invariant.2
-
-pub bounds-next-i : goal.bounds-next-i
-bounds-next-i c = omega (arith, c.requires.0.fits.few)
-
-pub overflow_cast-next : goal.overflow_cast-next
-overflow_cast-next c = omega (arith, next_small (goal.at.overflow_cast-next c).In-loop-cur)
-
-pub bounds-link-i : goal.bounds-link-i
-bounds-link-i c = omega (arith, c.requires.0.fits.few)
+    let l = c.loop-at in
+    let z : after l.at ≡ 0 = search rules in
+    record { written = row_done _ _ _ (after l.at) _ l.invariant.2 z }

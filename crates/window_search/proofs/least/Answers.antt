@@ -1,64 +1,69 @@
-use Rattle.std.proofs.Common.{◌+◌, ◌-◌}
-use Rattle.laws.proofs.All.{sym, subst, ◌∙◌, ℕ, arith, length-replicate}
-use Rattle.table.specs.Edges.{arrays, rows_of}
+use Rattle.std.proofs.Common.{◌≡◌, ◌+◌}
+use Rattle.laws.proofs.All.{refl, sym, ap, ◌∙◌, inl, inr, arith}
+use Rattle.table.specs.Edges.{rows_of}
+use Rattle.table.specs.Lent.{edges_in}
 use Rattle.table.proofs.RowsOf.{length-rows, closed-rows}
+use Rattle.window.specs.Search.{pasts}
+use Rattle.window.specs.Steps.{with_word}
 use Rattle.window_pairs.specs.PairSets.{pairs_in}
-use Rattle.window.specs.Steps.{size, Leading}
 use Rattle.window_test.proofs.SetsOf.{all_of}
-use Rattle.window.proofs.PastSets.{pasts-none}
-use Rattle.window.proofs.Leading.{lead-start, lead-small}
-use Rattle.window.proofs.Turns.{turn}
+use Rattle.window.proofs.PastSets.{pasts-none, pasts-more}
+use Rattle.window.proofs.Leading.{lead-start, lead-done, lead-rest}
+use Rattle.window_search.proofs.least.Goals.{After-extend_memory}
 use Rattle.window_search.proofs.least.Goals as goal
-
-pub fill-requires : goal.fill-requires
-fill-requires c = (c.requires.linked.fits.few, length-replicate {A = ℕ} 256 0)
 
 pub loop-m-init : goal.loop-m-init
 loop-m-init c =
-    let t = (arrays c.args.states c.args.n c.args.word.now c.args.next.now) in (
+    let e = c.args.chains.now.edges in
+    let t = edges_in e in (
       omega arith,
-      omega arith,
-      (λ l. (
-        omega arith,
-        all_of (rows_of t) c.args.states (length-rows t) _ c.fill.ensures.written.1 ∙ sym (pasts-none (rows_of t)),
-        subst (Leading (rows_of t) 0) (sym c.no_window-best.ensures.answer) (lead-start (rows_of t)),
-      )),
-      (λ l. absurd (omega arith)),
+      all_of (rows_of t) e.states (length-rows t) _ c.fill.ensures.written.1 ∙ sym (pasts-none (rows_of t)),
+      lead-start (rows_of t),
       c.fill.ensures.written.0,
-      length-replicate {A = ℕ} 256 0,
-      length-replicate {A = ℕ} 256 0,
+      refl,
+      refl,
     )
 
-pub try_memory-b-requires : goal.try_memory-b-requires
-try_memory-b-requires c =
-    let v = c.loop-m.invariant in
-    let k = v.2 c.loop-m-test.true in
-    (c.requires, omega arith, k.0, k.1, k.2, v.5, v.6)
+-- the pairs of one word of memory more
+next : (c : After-extend_memory) → let e = c.args.chains.now.edges in
+    pairs_in e.states c.extend_memory.new.past ≡ pasts (rows_of (edges_in e)) (c.loop-m.m + 1)
+next c =
+    let e = c.args.chains.now.edges in
+    let t = edges_in e in
+    c.extend_memory.ensures.written ∙ ap (with_word (rows_of t)) c.loop-m.invariant.1
+    ∙ sym (pasts-more (rows_of t) (closed-rows t e.fits) c.loop-m.m)
 
-pub stop_of-requires : goal.stop_of-requires
-stop_of-requires c =
-    lead-small (rows_of (arrays c.args.states c.args.n c.args.word.now c.args.next.now)) (c.loop-m.m + 1) _
-    (omega arith)
-    c.try_memory-b.ensures.answer
+pub returns-then-sum_of-m : goal.returns-then-sum_of-m
+returns-then-sum_of-m c = record {
+  answer = lead-done (rows_of (edges_in c.args.chains.now.edges)) (c.loop-m.m + 1) _ c.try_memory-best.ensures.answer
+      (omega arith) (inr (omega arith));
+}
+
+pub returns-then-extend_memory : goal.returns-then-extend_memory
+returns-then-extend_memory c =
+    let e = c.args.chains.now.edges in
+    let t = edges_in e in
+    record {
+      answer = lead-rest (rows_of t) (closed-rows t e.fits) c.loop-m.m _ c.try_memory-best.ensures.answer (omega arith)
+          (sym (next (goal.at.returns-then-extend_memory c).After-extend_memory)
+          ∙ c.extend_memory.ensures.answer c.if-extend_memory.true ∙ c.loop-m.invariant.1);
+    }
 
 pub loop-m-preserved : goal.loop-m-preserved
-loop-m-preserved c =
-    let l = c.loop-m in
-    let t = (arrays c.args.states c.args.n c.args.word.now c.args.next.now) in
-    let k = l.invariant.2 c.loop-m-test.true in
-    let e = c.stop_of.ensures.answer in
-    let z = size c.try_memory-b.result.memory c.try_memory-b.result.lookahead in
-    let go = turn (rows_of t) (closed-rows t c.requires.linked.fits) l.m z c.stop_of.result c.stop_at-stop.result
-    (pairs_in c.args.states l.past) _ (omega arith) c.try_memory-b.ensures.answer k.1 e.0 e.1 e.2
-    c.stop_at-stop.ensures.written c.stop_at-stop.ensures.answer in (
-      omega arith,
-      go.0,
-      go.1,
-      go.2,
-      c.stop_at-stop.ensures.kept.0,
-      c.try_memory-b.ensures.kept.0,
-      c.stop_at-stop.ensures.kept.1,
-    )
+loop-m-preserved c = (
+  omega arith,
+  next (goal.at.loop-m-preserved c).After-extend_memory,
+  c.try_memory-best.ensures.answer,
+  c.extend_memory.ensures.kept.0,
+  c.try_memory-best.ensures.kept.0,
+  c.extend_memory.ensures.kept.1,
+)
 
 pub returns : goal.returns
-returns c = record { answer = c.loop-m.invariant.3 c.loop-m-test.false }
+returns c =
+    let l = c.loop-m in
+    let e : l.m ≡ 16 = omega arith in
+    record {
+      answer = lead-done (rows_of (edges_in c.args.chains.now.edges)) l.m _ l.invariant.2 (omega arith)
+          (inl (omega arith));
+    }

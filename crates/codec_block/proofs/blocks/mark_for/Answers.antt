@@ -5,21 +5,18 @@ use Rattle.codec_block.proofs.blocks.mark_for.Goals as goal
 
 pub returns-then-has_word : goal.returns-then-has_word
 returns-then-has_word c =
+    let g = c.args.groups.now in
     record {
-      answer = λ t low high g.
-          let a = c.args in
-          mark-is t a.start.now a.first.now low high g a.past a.w (omega arith) true
-          c.has_word.result c.has_word.ensures.answer c.if-has_word.true;
+      answer = λ t h.
+          mark-is t g.start.now g.first.now g.sets.now h c.args.past c.args.w (omega arith) true c.has_word.result
+          c.has_word.ensures.answer c.if-has_word.true;
     }
 
-pub returns : goal.returns
-returns c =
+pub returns-else-has_word : goal.returns-else-has_word
+returns-else-has_word c =
+    let g = c.args.groups.now in
     record {
-      answer = λ t low high g.
-          let a = c.args in
-          mark-is t a.start.now a.first.now low high g a.past a.w (omega arith) false
-          c.has_word.result c.has_word.ensures.answer c.if-has_word.false;
+      answer = λ t h.
+          mark-is t g.start.now g.first.now g.sets.now h c.args.past c.args.w (omega arith) false c.has_word.result
+          c.has_word.ensures.answer c.if-has_word.false;
     }
-
-pub has_word-requires : goal.has_word-requires
-has_word-requires c = c.requires

@@ -1,76 +1,81 @@
 -- The first edge of the group, or the mark.
-use Rattle.std.proofs.Common.{◌<◌}
-use Rattle.laws.proofs.All.{sym, ap, ◌∙◌, arith, get_or}
-use Rattle.table.specs.Edges.{arrays, rows_of}
+use Rattle.std.proofs.Math.Logic.{∥∥₁_elim}
+use Rattle.std.proofs.Props.{props}
+use Rattle.std.proofs.Common.{◌≡◌, ◌<◌, unwrap_or, IfSome}
+use Rattle.laws.proofs.All.{sym, ap, subst, ◌∙◌, [], arith, get_or}
+use Rattle.table.specs.Edges.{rows_of}
 use Rattle.bitsets.specs.BitSets.{yes_no}
-use Rattle.codec_groups.specs.Groups.{Within}
-use Rattle.codec_steps.specs.Reading.{mark_for}
-use Rattle.codec_steps.proofs.GroupTurns.{edge-small}
-use Rattle.codec_block.proofs.GroupReading.{end-small, entry_next, found_within, found-datum, found_none}
-use Rattle.codec_block.proofs.blocks.told.Goals.{Then-k-lt2048}
+use Rattle.codec_groups.specs.Groups.{Grouped}
+use Rattle.codec_groups.specs.Lent.{lent_edges}
+use Rattle.codec_steps.specs.Reading.{readings, mark_for}
+use Rattle.codec_steps.specs.BlockParts.{first_group}
+use Rattle.codec_block.proofs.GroupReading.{end-small, entry_next, found_within, found-datum, entry-found, found_none}
+use Rattle.codec_block.proofs.blocks.told.Goals.{In-Some, in-Some+in_default-first_into, in_default}
 use Rattle.codec_block.proofs.blocks.told.Goals as goal
 
--- a group is found, and it is one of the word
-within : (c : Then-k-lt2048)
-    → Within c.args.start.now c.args.w c.args.k
-within c =
-    let a = c.args in
-    found_within (arrays c.requires.0 c.args.n c.args.word.now c.args.next.now) a.start.now a.first.now c.requires.1
-    c.requires.2 c.requires.3 a.past a.ahead
-    a.w (omega arith) a.k c.requires.4 c.if-k-lt2048.true
+-- the group that was found
+group-is : (c : In-Some) → let g = c.args.grouped.now.groups in
+    c.in-Some.k ≡ first_group g.start.now g.first.now g.sets.now c.args.past c.args.w c.args.ahead
+group-is c = sym (ap (λ o. unwrap_or o 2048) c.in-Some.is) ∙ c.requires.0
 
-edge-inside : (c : Then-k-lt2048) → get_or c.args.first.now c.args.k 0 < 2048
-edge-inside c =
-    let a = c.args in
-    edge-small (arrays c.requires.0 c.args.n c.args.word.now c.args.next.now) a.start.now a.first.now c.requires.1
-    c.requires.2 c.requires.3 a.w _ (within c)
+group-below : (c : In-Some) → c.in-Some.k < 2048
+group-below c = subst (λ o. IfSome o (λ k. k < 2048)) c.in-Some.is c.requires.1
 
 pub first_into-requires : goal.first_into-requires
 first_into-requires c =
-    let a = c.args in (
-      end-small (arrays c.requires.0 c.args.n c.args.word.now c.args.next.now) a.start.now a.first.now c.requires.1
-          c.requires.2 c.requires.3 a.past a.ahead
-          a.w (omega arith) a.k (within (goal.at.first_into-requires c).Then-k-lt2048),
-      entry_next (arrays c.requires.0 c.args.n c.args.word.now c.args.next.now) a.start.now a.first.now c.requires.1
-          c.requires.2 c.requires.3 a.past a.ahead
-          a.w (omega arith) a.k (within (goal.at.first_into-requires c).Then-k-lt2048),
-    )
+    let a = c.args in
+    let g = a.grouped.now.groups in
+    let t = lent_edges a.grouped.now in
+    let k = c.in-Some.k in
+    let w : a.w < 256 = omega arith in
+    let e = group-is (goal.at.first_into-requires c).In-Some in
+    let b = group-below (goal.at.first_into-requires c).In-Some in
+    ∥∥₁_elim a.grouped.now.laid (hlevel props) (λ x.
+    let i = found_within t g.start.now g.first.now g.sets.now x a.past a.ahead a.w w k e b in (
+      end-small t g.start.now g.first.now g.sets.now x a.past a.ahead a.w w k i,
+      entry_next t g.start.now g.first.now g.sets.now x a.past a.ahead a.w w k i,
+    ))
 
-pub returns-then-k-lt2048 : goal.returns-then-k-lt2048
-returns-then-k-lt2048 c =
+pub returns-in-Some-first_into : goal.returns-in-Some-first_into
+returns-in-Some-first_into c =
+    let a = c.args in
+    let g = a.grouped.now.groups in
+    let t = lent_edges a.grouped.now in
+    let k = c.in-Some.k in
+    let w : a.w < 256 = omega arith in
+    let e = group-is (goal.at.returns-in-Some-first_into c).In-Some in
+    let b = group-below (goal.at.returns-in-Some-first_into c).In-Some in
     record {
-      answer = λ states low high g e.
-          let a = c.args in
-          found-datum (arrays states a.n a.word.now a.next.now) a.start.now a.first.now low high g
-          a.past a.ahead a.w (omega arith) a.k e c.if-k-lt2048.true c.first_into.result c.first_into.ensures.answer
-          _;
+      answer = ∥∥₁_elim a.grouped.now.laid (hlevel props) (λ x.
+          found-datum t g.start.now g.first.now g.sets.now x a.past a.ahead a.w w k e b _
+          (sym (ap (λ o. unwrap_or o 2048) c.in-Some-first_into.is) ∙ c.first_into.ensures.answer) _);
     }
 
 pub returns : goal.returns
 returns c =
+    let a = c.args in
+    let g = a.grouped.now.groups in
+    let t = lent_edges a.grouped.now in
+    let w : a.w < 256 = omega arith in
+    let none : (x : Grouped t g.start.now g.first.now g.sets.now)
+    → readings (rows_of t) (yes_no t.states a.past) a.w (yes_no t.states a.ahead) ≡ [] = λ x.
+    elim c.match-group.branch [
+      | in-Some+in_default-first_into v ↦
+          let e : v.in-Some.k ≡ first_group g.start.now g.first.now g.sets.now a.past a.w a.ahead =
+          sym (ap (λ o. unwrap_or o 2048) v.in-Some.is) ∙ c.requires.0 in
+          let b : v.in-Some.k < 2048 = subst (λ o. IfSome o (λ k. k < 2048)) v.in-Some.is c.requires.1 in
+          absurd (omega (
+            arith,
+            ap (λ o. unwrap_or o 2048) v.in_default-first_into.is,
+            v.first_into.ensures.answer,
+            entry-found t g.start.now g.first.now g.sets.now x a.past a.ahead a.w w v.in-Some.k e b,
+          ))
+      | in_default v ↦
+          found_none t g.start.now g.first.now g.sets.now x a.past a.ahead a.w w 2048
+          (sym (ap (λ o. unwrap_or o 2048) v.in_default.is) ∙ c.requires.0) (omega arith)
+    ] in
     record {
-      answer = λ states low high g e.
-          let a = c.args in
-          let t = arrays states a.n a.word.now a.next.now in
-          c.mark_for.ensures.answer t low high g
-          ∙ sym (ap (λ l. get_or l 0 (mark_for (rows_of t) (yes_no states a.past) a.w))
-          (found_none t a.start.now a.first.now low high g a.past a.ahead a.w (omega arith) a.k e
-          c.if-k-lt2048.false));
+      answer = ∥∥₁_elim a.grouped.now.laid (hlevel props) (λ x.
+          c.mark_for.ensures.answer t x
+          ∙ sym (ap (λ l. get_or l 0 (mark_for (rows_of t) (yes_no t.states a.past) a.w)) (none x)));
     }
-
-pub overflow_cast-e : goal.overflow_cast-e
-overflow_cast-e c = omega (arith, edge-inside (goal.at.overflow_cast-e c).Then-k-lt2048)
-
-pub overflow_mul-e : goal.overflow_mul-e
-overflow_mul-e c = omega (arith, edge-inside (goal.at.overflow_mul-e c).Then-k-lt2048)
-
-pub overflow_add-e : goal.overflow_add-e
-overflow_add-e c = omega (arith, edge-inside (goal.at.overflow_add-e c).Then-k-lt2048, c.requires.3.fits.narrow)
-
-pub mark_for-requires : goal.mark_for-requires
-mark_for-requires c = (
-  (arrays c.requires.0 c.args.n c.args.word.now c.args.next.now),
-  c.requires.1,
-  c.requires.2,
-  c.requires.3,
-)

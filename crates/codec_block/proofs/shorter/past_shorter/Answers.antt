@@ -7,7 +7,6 @@ returns c =
     record {
       answer = λ t g.
           let a = c.args in
-          past-set t g.fits a.m 0 a.words.now a.i c.past_start.result c.less.result
-          c.past_start.ensures.answer.0 c.past_start.ensures.answer.1 c.less.ensures.answer _
-          (c.step_all_shorter.ensures.answer t g);
+          past-set t g.fits a.m 0 a.words.now a.i c.past_start.result _ c.past_start.ensures.answer.0
+          c.past_start.ensures.answer.1 c.saturating_sub.ensures _ (c.step_all_shorter.ensures.answer t g);
     }

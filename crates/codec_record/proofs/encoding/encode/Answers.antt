@@ -1,31 +1,29 @@
 -- The refusal of the record, or what encoding under its table comes to.
 use Rattle.laws.proofs.All.{length}
+use Rattle.answer.proofs.Answered.{declined, handed}
+use Rattle.answer.proofs.Outcomes.{handed_on}
 use Rattle.record_check.specs.Parse.{parse}
 use Rattle.codec.specs.Answers.{encoded, encode_under}
 use Rattle.codec.specs.With.{encoded_with}
-use Rattle.answer.proofs.Answered.{declined, handed}
 use Rattle.codec.proofs.Loaded.{under-bad, encode-read}
 use Rattle.codec_record.proofs.encoding.encode.Goals as goal
 
-pub returns-in-Bad : goal.returns-in-Bad
+pub returns-in_err-load : goal.returns-in_err-load
 unfolding encode_under
-returns-in-Bad c =
+returns-in_err-load c =
     let a = c.args in
     let room = length a.out.now in
     let w = declined (encode_under a.bytes.now room a.blocks.now) _ a.out.now
-    (under-bad (parse a.bytes.now) c.load-r.result c.load-r.ensures.answer
-    (λ k. encoded k room a.blocks.now) _ c.in-Bad.is) in
-    record { answer = w.0; written = w.1 }
+    (under-bad (parse a.bytes.now) (λ k. encoded k room a.blocks.now) _ c.in_err-load.ensures.answer) in
+    rw (handed_on _ _ c.from_residual.ensures.1) (record { answer = w.0; written = w.1 })
 
-pub returns-in-Good : goal.returns-in-Good
+pub returns : goal.returns
 unfolding encode_under
-returns-in-Good c =
+returns c =
     let a = c.args in
-    let x = c.load-r.result in
     let room = length a.out.now in
-    let w = handed (encoded_with x.table room a.blocks.now) (encode_under a.bytes.now room a.blocks.now) _
-    a.out.now _
-    (encode-read (parse a.bytes.now) x c.load-r.ensures.answer room a.blocks.now c.in-Good.is
-    (c.load-r.ensures.kept c.in-Good.is))
+    let t = c.in_ok-load.ensures in
+    let w = handed (encoded_with _ room a.blocks.now) (encode_under a.bytes.now room a.blocks.now) _ a.out.now _
+    (encode-read (parse a.bytes.now) _ t.answer t.kept room a.blocks.now)
     c.encode_with.ensures.answer c.encode_with.ensures.written in
     record { answer = w.0; written = w.1 }

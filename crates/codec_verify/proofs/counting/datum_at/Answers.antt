@@ -1,7 +1,7 @@
 -- Block i by the reader of one block, or the tail datum.
 use Rattle.laws.proofs.All.{sym, ◌∙◌}
 use Rattle.table.specs.Edges.{rows_of}
-use Rattle.codec_verify.specs.Counting.{arrays_of}
+use Rattle.codec_groups.specs.Lent.{lent_edges}
 use Rattle.codec_verify.proofs.Steps.{followed-block, followed-tail}
 use Rattle.codec_verify.proofs.counting.datum_at.Goals as goal
 
@@ -9,8 +9,8 @@ pub returns-then-words-k : goal.returns-then-words-k
 returns-then-words-k c =
     let a = c.args in
     record {
-      answer = sym (followed-tail (rows_of (arrays_of a.k a.word.now a.next.now)) a.k.memory a.k.lookahead
-          a.k.tail a.words.now c.requires.1 a.i c.if-words-k.true c.requires.2);
+      answer = sym (followed-tail (rows_of (lent_edges a.grouped.now)) a.k.memory a.k.lookahead
+          a.k.tail a.words.now c.requires.0 a.i c.if-words-k.true c.requires.1);
     }
 
 pub returns : goal.returns
@@ -18,6 +18,6 @@ returns c =
     let a = c.args in
     record {
       answer = c.wide.ensures.answer.0 ∙ c.block_at.ensures.answer
-          ∙ sym (followed-block (rows_of (arrays_of a.k a.word.now a.next.now)) a.k.memory a.k.lookahead
-          a.k.tail a.words.now c.requires.1 a.i c.if-words-k.false);
+          ∙ sym (followed-block (rows_of (lent_edges a.grouped.now)) a.k.memory a.k.lookahead
+          a.k.tail a.words.now c.requires.0 a.i c.if-words-k.false);
     }

@@ -1,24 +1,18 @@
 -- `digit` meets its contract, by cases on the byte.
-use Rattle.std.proofs.Common.{◌-◌, ◌≤◌}
-use Rattle.laws.proofs.All.{min-eq_left, min-eq_right, arith, lt-ltb, le-ltb}
+use Rattle.std.proofs.Common.{rules, ◌-◌, ◌≤◌, ◌<◌}
+use Rattle.laws.proofs.All.{min-eq_left, arith, le-ltb, lt-ltb}
 use Rattle.command_arguments.specs.Parsing.{digit_of}
 use Rattle.command_arguments.proofs.numbers.digit.Goals as goal
 
-pub returns-then-c-lt48 : goal.returns-then-c-lt48
+pub returns-then-is_ascii_digit-clause-answer : goal.returns-then-is_ascii_digit-clause-answer
 unfolding digit_of
-returns-then-c-lt48 c =
-    record { answer = simp (lt-ltb _ _ c.if-c-lt48.true); past = omega arith }
+returns-then-is_ascii_digit-clause-answer c =
+    let x = c.args.byte in
+    let (k, m) : (48 ≤ x) × (x ≤ 57) = search rules in
+    let l : x - 48 < 10 = omega arith in
+    let h : x - 48 ≤ 10 = omega arith in
+    simp (le-ltb _ _ k, min-eq_left h, lt-ltb _ _ l)
 
-pub returns-then-c-lt58 : goal.returns-then-c-lt58
+pub returns-else-is_ascii_digit-clause-answer : goal.returns-else-is_ascii_digit-clause-answer
 unfolding digit_of
-returns-then-c-lt58 c =
-    let x = c.args.c in
-    let l : x - 48 ≤ 10 = omega arith in
-    record { answer = simp (le-ltb _ _ c.if-c-lt48.false, min-eq_left l); past = omega arith }
-
-pub returns : goal.returns
-unfolding digit_of
-returns c =
-    let x = c.args.c in
-    let l : 10 ≤ x - 48 = omega arith in
-    record { answer = simp (le-ltb _ _ c.if-c-lt48.false, min-eq_right l); past = omega arith }
+returns-else-is_ascii_digit-clause-answer c = search rules

@@ -7,8 +7,7 @@ use Rattle.command_inputs.proofs.jobs.weights_said.Goals as goal
 pub loop-i-preserved : goal.loop-i-preserved
 loop-i-preserved g c =
     let l = c.loop-i in
-    let v = c.number_at-n.result.value in (
-      omega arith,
-      l.invariant.1 ∙ sym (length-set l.job (5 + l.i) v),
-      take-set-le 5 l.job (5 + l.i) v (omega arith) ∙ l.invariant.2,
+    let v = c.in_ok-n.n.value in (
+      l.invariant.0 ∙ sym (length-set l.job (5 + l.i) v),
+      take-set-le 5 l.job (5 + l.i) v (omega arith) ∙ l.invariant.1,
     )

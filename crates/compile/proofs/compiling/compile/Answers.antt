@@ -1,36 +1,42 @@
 -- `compile` meets its contract: the refusal of the component by its weight and its edges, or what splitting comes to.
-use Rattle.laws.proofs.All.{sym, ◌∙◌}
-use Rattle.answer.proofs.Outcomes.{said-good, said-bad}
+use Rattle.std.proofs.Common.{◌≡◌, ◌≤◌, ◌<◌}
+use Rattle.laws.proofs.All.{sym, ap, ◌∙◌, Bool, true, false, not, sum}
+use Rattle.answer.proofs.Outcomes.{handed_on}
 use Rattle.compile_job.specs.JobValues.{job_in}
-use Rattle.compile.proofs.CompileSteps.{weighed-bad, weighed-good}
+use Rattle.compile.specs.Compile.{component_of}
+use Rattle.compile.proofs.CompileSteps.{weighed-bad, weighed-good, found-begun}
+use Rattle.compile.proofs.compiling.compile.Goals.{In_ok-weigh}
 use Rattle.compile.proofs.compiling.compile.Goals as goal
+
+none-is : (s b : Bool) → s ≡ not b → b ≡ not s
+none-is s true e = sym (ap not e)
+none-is s false e = sym (ap not e)
+
+-- the component can be split
+good : (c : In_ok-weigh) → let j = job_in c.args.j in (0 < sum (component_of j).weights)
+    × (sum (component_of j).weights ≤ 128) × (c.is_none.result ≡ false)
+good c =
+    let f = c.requires.1 in
+    weighed-good (job_in c.args.j) _ _ f.total (none-is _ _ c.is_none.ensures ∙ f.crowds)
+    (sym c.in_ok-weigh.ensures.answer)
+
+pub returns-in_err-weigh : goal.returns-in_err-weigh
+returns-in_err-weigh c =
+    let f = c.requires.1 in
+    rw (handed_on _ _ c.from_residual.ensures.1)
+    (record {
+      answer = sym (weighed-bad (job_in c.args.j) _ _ f.total (none-is _ _ c.is_none.ensures ∙ f.crowds) _
+          (sym c.in_err-weigh.ensures.answer));
+      kept = tt;
+    })
+
+pub unwrap-requires : goal.unwrap-requires
+unwrap-requires c = c.is_none.ensures ∙ ap not (good (goal.at.unwrap-requires c).In_ok-weigh).2
 
 pub split_and_window-requires : goal.split_and_window-requires
 split_and_window-requires c =
-    let f = c.requires.1 in
-    let (some, light, room) = weighed-good (job_in c.args.j) _ _ f.total f.crowds
-    (said-good _ _ _ c.weigh.ensures.answer c.in-Good.is) in (
-      c.requires.0,
-      record {
-        count = c.ways-n.ensures.answer.0;
-        work = f.work room;
-        fits = f.fits room;
-        first = f.start;
-        some = some;
-        light = light;
-      },
-    )
+    let (some, light, _) = good (goal.at.split_and_window-requires c).In_ok-weigh in
+    (c.requires.0, found-begun _ _ _ _ c.requires.1 c.unwrap.ensures c.ways.ensures.answer.0 some light)
 
-pub returns-in-Bad : goal.returns-in-Bad
-returns-in-Bad c =
-    let f = c.requires.1 in
-    let j = job_in c.args.j in
-    record {
-      answer = c.declined.ensures.answer
-          ∙ sym (weighed-bad j _ _ f.total f.crowds _
-          (said-bad _ _ _ c.weigh.ensures.answer _ c.in-Bad.is));
-      kept = λ e. absurd (c.declined.ensures.past e);
-    }
-
-pub ways-n-requires : goal.ways-n-requires
-ways-n-requires c = c.requires.0.allowed.p₂
+pub ways-requires : goal.ways-requires
+ways-requires c = c.requires.0.allowed.p₂

@@ -7,58 +7,48 @@ use Rattle.compile.proofs.CompileSteps.{compile-crowded, begun-splits, begun-cro
 use Rattle.compile.proofs.CompileTable.{table-ready, table-code}
 use Rattle.compile.proofs.compiling.split_and_window.Goals as goal
 
-pub split_all-all-requires : goal.split_all-all-requires
-split_all-all-requires c =
+pub split_all-requires : goal.split_all-requires
+split_all-requires c =
     let a = c.args in
     begun-splits (job_in a.j) c.requires.0.allowed a.n a.g a.start c.requires.1
 
-pub returns-then-all : goal.returns-then-all
-returns-then-all c =
+pub returns-in_default : goal.returns-in_default
+returns-in_default c =
     let a = c.args in
-    let s = c.split_all-all in
     record {
-      answer = c.declined.ensures.answer
-          ∙ sym (compile-crowded (job_in a.j) c.requires.1.some c.requires.1.light
-          (begun-crowded (job_in a.j) c.requires.0.allowed a.n a.g a.start c.requires.1 s.result
-          s.ensures.answer c.if-all.true));
-      kept = λ e. absurd (c.declined.ensures.past e);
+      answer = sym (compile-crowded (job_in a.j) c.requires.1.some c.requires.1.light
+          (begun-crowded (job_in a.j) c.requires.0.allowed a.n a.g a.start c.requires.1 c.in_default.ensures.answer));
+      kept = tt;
     }
 
 pub finish_table-requires : goal.finish_table-requires
 finish_table-requires c =
     let a = c.args in
-    let s = c.split_all-all in
-    begun-finished (job_in a.j) c.requires.0.allowed a.n a.g a.start c.requires.1 s.result s.ensures.answer
-    c.if-all.false
+    begun-finished (job_in a.j) c.requires.0.allowed a.n a.g a.start c.requires.1 c.in-Some.h c.in-Some.ensures.answer
 
 pub relabel-rows-requires : goal.relabel-rows-requires
 relabel-rows-requires c =
     let a = c.args in
-    let s = c.split_all-all in
     let few : a.n ≤ 16 = (begun-finished (job_in a.j) c.requires.0.allowed a.n a.g a.start c.requires.1
-    s.result s.ensures.answer c.if-all.false).few in
+    c.in-Some.h c.in-Some.ensures.answer).few in
     (omega arith, c.finish_table.ensures.answer.few)
 
 pub with_window-requires : goal.with_window-requires
 with_window-requires c =
     let a = c.args in
-    let s = c.split_all-all in
     let f = c.finish_table in
     let l = c.relabel-rows in
-    table-ready a.j c.requires.0 a.n a.g a.start c.requires.1 s.result s.ensures.answer
-    c.if-all.false
+    table-ready a.j c.requires.0 a.n a.g a.start c.requires.1 c.in-Some.h c.in-Some.ensures.answer
     f.result f.ensures.answer l.result l.ensures.answer
 
 pub returns : goal.returns
 returns c =
     let a = c.args in
-    let s = c.split_all-all in
     let f = c.finish_table in
     let l = c.relabel-rows in
     record {
       answer = c.with_window.ensures.answer
-          ∙ table-code a.j c.requires.0 a.n a.g a.start c.requires.1 s.result s.ensures.answer
-          c.if-all.false
+          ∙ table-code a.j c.requires.0 a.n a.g a.start c.requires.1 c.in-Some.h c.in-Some.ensures.answer
           f.result f.ensures.answer l.result l.ensures.answer;
       kept = c.with_window.ensures.kept;
     }

@@ -1,6 +1,6 @@
 -- Where s is not in the component, nothing is added.
-use Rattle.std.proofs.Common.{if◌then◌else◌}
-use Rattle.laws.proofs.All.{sym, subst, [], false, le-ltb, lt-ltb, get_or}
+use Rattle.std.proofs.Common.{if◌then◌else◌, Some}
+use Rattle.laws.proofs.All.{sym, subst, [], le-ltb, lt-ltb, get_or}
 use Rattle.compile_component.specs.ComponentParts.{row_arcs, Added}
 use Rattle.compile_component.proofs.AppendedRows.{added_none}
 use Rattle.compile_component.proofs.component_graph.add_state.Goals as goal
@@ -14,11 +14,11 @@ returns-then-index-s-lt16 c =
           (sym (lt-ltb (get_or p.index p.s 0) 16 c.if-index-s-lt16.true)) c.add_words.ensures.answer;
     }
 
-pub returns : goal.returns
-returns c =
+pub returns-else-index-s-lt16 : goal.returns-else-index-s-lt16
+returns-else-index-s-lt16 c =
     let p = c.args in
     record {
       answer = subst (λ b. Added p.g (if b then row_arcs p.power.now p.index p.s p.words else [])
-          (record { crowded = false; graph = p.g }))
+          (Some p.g))
           (sym (le-ltb (get_or p.index p.s 0) 16 c.if-index-s-lt16.false)) (added_none p.g c.requires.3);
     }

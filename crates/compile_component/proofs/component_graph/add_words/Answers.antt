@@ -1,7 +1,7 @@
-use Rattle.laws.proofs.All.{refl, subst, ⊎_elim, arith, length}
+use Rattle.laws.proofs.All.{refl, subst, arith, length}
 use Rattle.compile_component.proofs.AppendedRows.{Rowed, rowed-yes, rowed-no, rowed-over, rowed-end}
 use Rattle.compile_graph.proofs.Values.{appended-none}
-use Rattle.std.proofs.Common.{◌≡◌, ◌-◌, rules}
+use Rattle.std.proofs.Common.{◌≡◌, rules}
 use Rattle.compile_component.proofs.component_graph.add_words.Goals as goal
 use Rattle.compile_component.proofs.component_graph.add_words.Goals.{else-t-lt16, then-t-lt16+else-m-ge2048}
 
@@ -10,14 +10,14 @@ loop-w-init c =
     let a : length c.args.g.source ≡ 2048 = search rules in
     let b : length c.args.g.word ≡ 2048 = search rules in
     let d : length c.args.g.target ≡ 2048 = search rules in
-    (omega arith, omega arith, refl, appended-none _ a b d)
+    (omega arith, refl, appended-none _ a b d)
 
 pub returns-then-m-ge2048 : goal.returns-then-m-ge2048
 returns-then-m-ge2048 c =
     let l = c.loop-w in
     let p = c.args in
     record {
-      answer = rowed-over p.power.now p.index p.s p.g l.h l.m l.w l.invariant.3 p.words (omega arith)
+      answer = rowed-over p.power.now p.index p.s p.g l.h l.m l.w l.invariant.2 p.words (omega arith)
           c.if-m-ge2048.true
           (omega (arith, c.place_of-t.ensures.answer, c.if-t-lt16.true));
     }
@@ -29,20 +29,18 @@ loop-w-preserved c =
     let e = c.place_of-t.ensures.answer in
     elim c.if-t-lt16.branch [
       | then-t-lt16+else-m-ge2048 u ↦ (
-        omega arith,
         omega (arith, u.if-m-ge2048.false, u.m-is),
         refl,
         rw (u.h-is, u.m-is)
-            (rowed-yes p.power.now p.index p.s p.g l.h l.m l.w l.invariant.3
+            (rowed-yes p.power.now p.index p.s p.g l.h l.m l.w l.invariant.2
             c.place_of-t.result e
             (omega (arith, u.if-m-ge2048.false)) u.if-t-lt16.true),
       )
       | else-t-lt16 u ↦ (
-        omega arith,
         omega (arith, u.m-is),
         refl,
         rw (u.h-is, u.m-is)
-            (rowed-no p.power.now p.index p.s p.g l.h l.m l.w l.invariant.3
+            (rowed-no p.power.now p.index p.s p.g l.h l.m l.w l.invariant.2
             (omega (arith, u.if-t-lt16.false))),
       )
     ]
@@ -54,5 +52,5 @@ returns c =
     let e : l.w ≡ p.words = omega arith in
     record {
       answer = rowed-end p.power.now p.index p.s p.g l.h l.m p.words
-          (subst (Rowed p.power.now p.index p.s p.g l.h l.m) e l.invariant.3) l.invariant.1;
+          (subst (Rowed p.power.now p.index p.s p.g l.h l.m) e l.invariant.2) l.invariant.0;
     }

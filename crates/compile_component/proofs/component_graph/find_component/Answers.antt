@@ -1,8 +1,9 @@
 -- The parts in their order; the law `found_in` puts them together.
-use Rattle.laws.proofs.All.{length, take}
+use Rattle.laws.proofs.All.{◌∙◌, length, take}
 use Rattle.compile_graph.specs.Component.{within, live, reachings}
 use Rattle.compile_weights.specs.PowerTable.{tabled}
 use Rattle.compile_reach.specs.ReachSets.{rows_of}
+use Rattle.compile_reach.proofs.ComponentMembers.{found-lt}
 use Rattle.compile_component.proofs.LiveArcs.{linked-is}
 use Rattle.compile_component.proofs.ComponentValue.{state-low, found_in}
 use Rattle.std.proofs.Common.{◌≡◌, rules}
@@ -36,15 +37,15 @@ reach-is c =
     (λ x h. (c.word_counts-count.ensures.answer x h).0)
     c.live_edges-edge.ensures.answer)
 
-pub first_returning-s-requires : goal.first_returning-s-requires
-first_returning-s-requires c = (search rules, c.requires.0.states)
+pub first_returning-requires : goal.first_returning-requires
+first_returning-requires c = (search rules, c.requires.0.states)
 
 pub list_members-list-requires : goal.list_members-list-requires
 list_members-list-requires c = (
   search rules,
   c.requires.0.states,
-  c.first_returning-s.ensures.answer.1
-      c.requires.1,
+  rw c.unwrap_or-s.ensures
+      (found-lt c.first_returning.result c.args.k c.first_returning.ensures.there c.requires.1),
 )
 
 pub with_weights-g-requires : goal.with_weights-g-requires
@@ -59,23 +60,23 @@ with_weights-g-requires c =
           c.requires.0
           c.args.v a
           c.requires.2
-          c.reach_all-m.result c.first_returning-s.result e
-          c.first_returning-s.ensures.answer.0
+          c.reach_all-m.result c.unwrap_or-s.result e
+          (c.unwrap_or-s.ensures ∙ c.first_returning.ensures.answer)
           c.list_members-list.result b c.list_members-list.ensures.answer,
     )
 
-pub total_weight-total-requires : goal.total_weight-total-requires
-total_weight-total-requires c =
-    let a = weights-long (goal.at.total_weight-total-requires c).After-list_members-list in
-    let b = states-long (goal.at.total_weight-total-requires c).After-list_members-list in
-    let e = reach-is (goal.at.total_weight-total-requires c).After-list_members-list in (
+pub total_weight-requires : goal.total_weight-requires
+total_weight-requires c =
+    let a = weights-long (goal.at.total_weight-requires c).After-list_members-list in
+    let b = states-long (goal.at.total_weight-requires c).After-list_members-list in
+    let e = reach-is (goal.at.total_weight-requires c).After-list_members-list in (
       c.list_members-list.ensures.answer.few,
       state-low c.args.power.now c.args.words c.args.k
           c.requires.0 c.args.v a
           c.requires.2
           c.reach_all-m.result
-          c.first_returning-s.result e
-          c.first_returning-s.ensures.answer.0
+          c.unwrap_or-s.result e
+          (c.unwrap_or-s.ensures ∙ c.first_returning.ensures.answer)
           c.list_members-list.result b c.list_members-list.ensures.answer,
     )
 
@@ -91,17 +92,17 @@ returns c =
           c.args.v a
           c.requires.2
           c.reach_all-m.result
-          c.first_returning-s.result e
-          c.first_returning-s.ensures.answer.0
+          c.unwrap_or-s.result e
+          (c.unwrap_or-s.ensures ∙ c.first_returning.ensures.answer)
           c.list_members-list.result b
           c.list_members-list.ensures.answer
           c.with_weights-g.result
           c.with_weights-g.ensures.answer.0
           c.with_weights-g.ensures.answer.1
           c.with_weights-g.ensures.answer.2
-          c.add_states-r.result c.add_states-r.ensures.answer
-          c.total_weight-total.result c.first_state-start.result
-          c.total_weight-total.ensures.answer c.first_state-start.ensures.answer;
+          c.add_states.result c.add_states.ensures.answer
+          c.total_weight.result c.first_state.result
+          c.total_weight.ensures.answer c.first_state.ensures.answer;
     }
 
 pub live_edges-edge-requires : goal.live_edges-edge-requires

@@ -1,6 +1,6 @@
-use Rattle.laws.proofs.All.{refl, ap, ◌∙◌, map, arith, length, get_or, take, sum, tot-take-more}
+use Rattle.laws.proofs.All.{ap, ◌∙◌, map, arith, length, get_or, take, sum, tot-take-more}
 use Rattle.laws.proofs.All.{}
-use Rattle.std.proofs.Common.{◌≡◌, ◌-◌, rules}
+use Rattle.std.proofs.Common.{◌≡◌, rules}
 use Rattle.compile_component.proofs.component_graph.total_weight.Goals as goal
 
 pub offset_bounds-v-list : goal.offset_bounds-v-list
@@ -18,9 +18,6 @@ loop-i-preserved c =
     let l = c.loop-i in
     let p = c.args in
     let a : length p.list.state ≡ 16 = search rules in (
-      omega arith,
-      refl,
-      omega arith,
       omega (arith, (c.requires.1 l.i (omega arith)).1),
       omega (arith, tot-take-more 0 (λ t. get_or p.v t 0) p.list.state l.i (omega arith)),
     )
@@ -30,4 +27,4 @@ returns c =
     let l = c.loop-i in
     let p = c.args in
     let e : l.i ≡ p.list.count = omega arith in
-    record { answer = l.invariant.4 ∙ ap (λ k. sum (map (λ t. get_or p.v t 0) (take k p.list.state))) e }
+    record { answer = l.invariant.1 ∙ ap (λ k. sum (map (λ t. get_or p.v t 0) (take k p.list.state))) e }

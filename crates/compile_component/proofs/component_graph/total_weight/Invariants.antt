@@ -1,12 +1,9 @@
 -- The weights are summed one by one.
-use Rattle.std.proofs.Common.{◌≡◌, ◌-◌, ◌*◌, ◌≤◌}
+use Rattle.std.proofs.Common.{◌≡◌, ◌*◌, ◌≤◌}
 use Rattle.laws.proofs.All.{map, get_or, take, sum}
 use Rattle.compile_component.proofs.component_graph.total_weight.Given as goal
 
 abbrev pub invariant-loop-i : goal.invariant-loop-i
 invariant-loop-i l =
-    (l.i ≤ l.n) × (l.n ≡ l.list.count) × (l.n ≤ 16) × (l.total ≤ 128 * l.i)
+    (l.total ≤ 128 * l.i)
     × (l.total ≡ sum (map (λ t. get_or l.v t 0) (take l.i l.list.state)))
-
-abbrev pub decreases-loop-i : goal.decreases-loop-i
-decreases-loop-i l = l.n - l.i

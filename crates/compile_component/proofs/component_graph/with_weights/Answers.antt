@@ -1,6 +1,6 @@
 use Rattle.laws.proofs.All.{refl, subst, arith, length, get_or, Filled, fill_more}
 use Rattle.compile_component.proofs.ComponentWeights.{weights-filled}
-use Rattle.std.proofs.Common.{◌≡◌, ◌-◌, rules}
+use Rattle.std.proofs.Common.{◌≡◌, rules}
 use Rattle.compile_component.proofs.component_graph.with_weights.Goals as goal
 
 pub offset_bounds-v-list : goal.offset_bounds-v-list
@@ -16,13 +16,8 @@ overflow_cast-weight c =
 pub loop-i-preserved : goal.loop-i-preserved
 loop-i-preserved c =
     let l = c.loop-i in
-    let p = c.args in (
-      omega arith,
-      refl,
-      omega arith,
-      fill_more 0 (λ x. get_or p.v (get_or p.list.state x 0) 0) 128 l.i l.weight _ (omega arith) refl
-          l.invariant.3,
-    )
+    let p = c.args in
+    fill_more 0 (λ x. get_or p.v (get_or p.list.state x 0) 0) 128 l.i l.weight _ (omega arith) refl l.invariant
 
 pub returns : goal.returns
 returns c =
@@ -33,7 +28,7 @@ returns c =
     record {
       answer = (
         weights-filled p.v p.list.state p.list.count l.weight (omega arith)
-            (subst (λ k. Filled 0 (λ x. get_or p.v (get_or p.list.state x 0) 0) 128 k l.weight) e l.invariant.3),
+            (subst (λ k. Filled 0 (λ x. get_or p.v (get_or p.list.state x 0) 0) 128 k l.weight) e l.invariant),
         refl,
         refl,
       );

@@ -1,4 +1,4 @@
-use Rattle.std.proofs.Common.{◌+◌, ◌-◌}
+use Rattle.std.proofs.Common.{◌+◌}
 use Rattle.laws.proofs.All.{refl, sym, ◌∙◌, arith, get_or, drop, length-drop, get_or-drop}
 use Rattle.laws.proofs.All.{fill_more, take_same}
 use Rattle.compile_job.proofs.bringing.weights_at.Goals as goal
@@ -10,11 +10,8 @@ overflow_cast-weight c =
 pub loop-s-preserved : goal.loop-s-preserved
 loop-s-preserved c =
     let l = c.loop-s in
-    let a = c.args in (
-      omega arith,
-      fill_more 0 (λ x. get_or a.bytes.now (a.start + x) 0) 16 l.s l.weight _ (omega arith) refl
-          l.invariant.1,
-    )
+    let a = c.args in
+    fill_more 0 (λ x. get_or a.bytes.now (a.start + x) 0) 16 l.s l.weight _ (omega arith) refl l.invariant
 
 pub returns : goal.returns
 returns c =
@@ -22,6 +19,6 @@ returns c =
     let a = c.args in
     record {
       answer = take_same l.weight (drop a.start a.bytes.now) a.count
-          (length-drop a.start a.bytes.now ∙ omega (arith, c.requires.2)) (let e = l.invariant.1.long in omega arith)
-          (λ i h. l.invariant.1.holds i (omega arith) ∙ sym (get_or-drop a.start a.bytes.now i 0));
+          (length-drop a.start a.bytes.now ∙ omega (arith, c.requires.2)) (let e = l.invariant.long in omega arith)
+          (λ i h. l.invariant.holds i (omega arith) ∙ sym (get_or-drop a.start a.bytes.now i 0));
     }

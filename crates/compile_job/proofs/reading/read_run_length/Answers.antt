@@ -1,19 +1,16 @@
 -- `read_run_length` meets its contract: what the bytes hold, with its weights checked.
 use Rattle.laws.proofs.All.{ap, ◌∙◌}
 use Rattle.answer.specs.Outcomes.{onward}
+use Rattle.answer.proofs.Outcomes.{handed_on}
 use Rattle.compile_job.specs.Jobs.{fitted, read_run_length}
-use Rattle.compile_job.proofs.Jobs.{read_run_length-allowed}
-use Rattle.compile_job.proofs.JobSteps.{ready-kept}
 use Rattle.compile_job.proofs.reading.read_run_length.Goals as goal
 
-pub returns : goal.returns
+pub returns-in_err-hold_run_length-clause-answer : goal.returns-in_err-hold_run_length-clause-answer
 unfolding read_run_length
-returns c =
-    let xs = c.args.bytes.now in
-    let w = ready-kept c.fit_read.result (read_run_length xs)
-    (c.fit_read.ensures.answer ∙ ap (λ o. onward o fitted) c.hold_run_length.ensures.answer)
-    (read_run_length-allowed xs) in
-    record { answer = w.0; kept = w.1 }
+returns-in_err-hold_run_length-clause-answer c =
+    rw (handed_on _ _ c.from_residual.ensures.1) (ap (λ o. onward o fitted) c.in_err-hold_run_length.ensures.answer)
 
-pub fit_read-requires : goal.fit_read-requires
-fit_read-requires c = c.hold_run_length.ensures.kept
+pub returns-clause-answer : goal.returns-clause-answer
+unfolding read_run_length
+returns-clause-answer c =
+    c.fit_read.ensures.answer ∙ ap (λ o. onward o fitted) c.in_ok-hold_run_length.ensures.answer

@@ -1,5 +1,4 @@
-use Rattle.std.proofs.Common.{◌-◌}
-use Rattle.laws.proofs.All.{sym, subst, ◌∙◌, true, arith, below_more, not-true, not-false}
+use Rattle.laws.proofs.All.{sym, subst, ◌∙◌, arith, below_more, not-true, not-false}
 use Rattle.laws.proofs.All.{T}
 use Rattle.table.proofs.LoopTests.{all-passed, all-failed}
 use Rattle.compile_job.specs.JobValues.{good_state_at}
@@ -17,11 +16,8 @@ returns-then-not-good_next c =
 
 pub loop-s-preserved : goal.loop-s-preserved
 loop-s-preserved c =
-    let g = c.good_next in (
-      omega arith,
-      below_more _ _ c.loop-s.invariant.1
-          (sym g.ensures.answer ∙ not-false g.result (ap not c.if-not-good_next.false)),
-    )
+    let g = c.good_next in
+    below_more _ _ c.loop-s.invariant (sym g.ensures.answer ∙ not-false g.result (ap not c.if-not-good_next.false))
 
 pub returns : goal.returns
 returns c =
@@ -29,8 +25,8 @@ returns c =
     let a = c.args in
     record {
       answer = all-passed (good_state_at a.bytes.now a.count) a.count l.s (omega arith)
-          (λ k h. subst T (sym (l.invariant.1 k h)) tt);
+          (λ k h. subst T (sym (l.invariant k h)) tt);
     }
 
 pub loop-s-init : goal.loop-s-init
-loop-s-init c = (omega arith, λ k h. absurd (omega arith))
+loop-s-init c = λ k h. absurd (omega arith)

@@ -1,8 +1,8 @@
 -- `read_constraint` meets its contract: each return follows the checks before it, in the documents' order.
-use Rattle.std.proofs.Common.{◌≡◌, ◌&&◌, ◌+◌, ◌*◌, ◌≤◌}
+use Rattle.std.proofs.Common.{Ok, Err, ◌≡◌, ◌&&◌, ◌+◌, ◌*◌, ◌≤◌}
 use Rattle.laws.proofs.All.{sym, ◌∙◌, true, arith, not-true, not-false}
 use Rattle.laws.proofs.All.{le-leb, lt-leb, leb, length, get_or}
-use Rattle.answer.specs.declared.Verdict.TheVariants.{Good}
+use Rattle.answer.specs.declared.Refusal.TheVariants.{Length, States}
 use Rattle.compile_job.specs.JobValues.{sized}
 use Rattle.compile_job.proofs.JobSteps.{in-range, sized-fits, missing-count, bad-count, bad-size, bad-states}
 use Rattle.compile_job.proofs.JobSteps.{good-constraint, lawful-kept}
@@ -34,9 +34,8 @@ pub returns-then-bytes-lt1 : goal.returns-then-bytes-lt1
 returns-then-bytes-lt1 c =
     let a = c.args in
     let ys = a.bytes.now in
-    let w = lawful-kept (sized a.whole a.weights) ys c.no_constraint.result
-    (c.no_constraint.ensures.answer
-    ∙ sym (missing-count (sized a.whole a.weights) ys (lt-leb 1 _ c.if-bytes-lt1.true))) in
+    let w = lawful-kept (sized a.whole a.weights) ys (Err Length)
+    (sym (missing-count (sized a.whole a.weights) ys (lt-leb 1 _ c.if-bytes-lt1.true))) in
     record { answer = w.0; kept = w.1 }
 
 pub overflow_cast-count : goal.overflow_cast-count
@@ -45,18 +44,16 @@ overflow_cast-count c = omega (arith, c.type_inv.bytes 0)
 pub returns-then-not-between : goal.returns-then-not-between
 returns-then-not-between c =
     let f = sized c.args.whole c.args.weights in
-    let w = lawful-kept f c.args.bytes.now c.no_constraint-then-not-between.result
-    (c.no_constraint-then-not-between.ensures.answer
-    ∙ sym (bad-count f c.args.bytes.now (found (goal.at.returns-then-not-between c).Else-bytes-lt1)
+    let w = lawful-kept f c.args.bytes.now (Err States)
+    (sym (bad-count f c.args.bytes.now (found (goal.at.returns-then-not-between c).Else-bytes-lt1)
     (sym c.between.ensures.answer ∙ not-true c.between.result (ap not c.if-not-between.true)))) in
     record { answer = w.0; kept = w.1 }
 
 pub returns-then-not-is_sized : goal.returns-then-not-is_sized
 returns-then-not-is_sized c =
     let w = lawful-kept (let a = c.args in sized a.whole a.weights) c.args.bytes.now
-    c.no_constraint-then-not-is_sized.result
-    (c.no_constraint-then-not-is_sized.ensures.answer
-    ∙ sym (bad-size (let a = c.args in sized a.whole a.weights) c.args.bytes.now
+    (Err Length)
+    (sym (bad-size (let a = c.args in sized a.whole a.weights) c.args.bytes.now
     (found (goal.at.returns-then-not-is_sized c).Else-bytes-lt1)
     (counted (goal.at.returns-then-not-is_sized c).Else-not-between)
     (sym c.is_sized.ensures.answer ∙ not-true c.is_sized.result (ap not c.if-not-is_sized.true)))) in
@@ -65,9 +62,8 @@ returns-then-not-is_sized c =
 pub returns-then-not-good_states : goal.returns-then-not-good_states
 returns-then-not-good_states c =
     let w = lawful-kept (let a = c.args in sized a.whole a.weights) c.args.bytes.now
-    c.no_constraint-then-not-good_states.result
-    (c.no_constraint-then-not-good_states.ensures.answer
-    ∙ sym (bad-states (let a = c.args in sized a.whole a.weights) c.args.bytes.now
+    (Err States)
+    (sym (bad-states (let a = c.args in sized a.whole a.weights) c.args.bytes.now
     (found (goal.at.returns-then-not-good_states c).Else-bytes-lt1)
     (counted (goal.at.returns-then-not-good_states c).Else-not-between)
     (fitted (goal.at.returns-then-not-good_states c).Else-not-is_sized)
@@ -77,7 +73,7 @@ returns-then-not-good_states c =
 pub returns : goal.returns
 returns c =
     let w = lawful-kept (let a = c.args in sized a.whole a.weights) c.args.bytes.now
-    (record { verdict = Good; constraint = c.states_of.result })
+    (Ok c.states_of.result)
     (sym (good-constraint (let a = c.args in sized a.whole a.weights) c.args.bytes.now
     (found (goal.at.returns c).Else-bytes-lt1) (counted (goal.at.returns c).Else-not-between)
     (fitted (goal.at.returns c).Else-not-is_sized)

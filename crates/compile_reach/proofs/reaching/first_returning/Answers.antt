@@ -1,10 +1,10 @@
-use Rattle.laws.proofs.All.{sym, ◌∙◌, false, arith, below_more, length}
+use Rattle.laws.proofs.All.{sym, ◌∙◌, arith, below_more, length}
 use Rattle.compile_reach.proofs.ComponentMembers.{lowest-at, lowest-none}
-use Rattle.std.proofs.Common.{◌≡◌, ◌-◌, rules}
+use Rattle.std.proofs.Common.{◌≡◌, rules}
 use Rattle.compile_reach.proofs.reaching.first_returning.Goals as goal
 
 pub loop-s-init : goal.loop-s-init
-loop-s-init c = (λ j h. absurd (omega arith), omega arith)
+loop-s-init c = λ j h. absurd (omega arith)
 
 pub is_returning-requires : goal.is_returning-requires
 is_returning-requires c = (c.requires.0, c.requires.1, c.loop-s-test.true)
@@ -14,30 +14,20 @@ returns-then-is_returning c =
     let p = c.args in
     let a : length p.v ≡ 16 = search rules in
     record {
-      answer = (
-        lowest-at p.m.now p.v p.k c.requires.1 a
-            c.loop-s.s c.loop-s-test.true
-            c.loop-s.invariant.0
-            (sym c.is_returning.ensures.answer ∙ c.if-is_returning.true),
-        λ h. c.loop-s-test.true,
-      );
+      answer = lowest-at p.m.now p.v p.k c.requires.1 a c.loop-s.s c.loop-s-test.true c.loop-s.invariant
+          (sym c.is_returning.ensures.answer ∙ c.if-is_returning.true);
+      there = c.loop-s-test.true;
     }
 
 pub loop-s-preserved : goal.loop-s-preserved
-loop-s-preserved c = (
-  below_more _ _ c.loop-s.invariant.0
-      (sym c.is_returning.ensures.answer ∙ c.if-is_returning.false),
-  omega arith,
-)
+loop-s-preserved c =
+    below_more _ _ c.loop-s.invariant (sym c.is_returning.ensures.answer ∙ c.if-is_returning.false)
 
 pub returns : goal.returns
 returns c =
     let p = c.args in
     let a : length p.v ≡ 16 = search rules in
     record {
-      answer = (
-        lowest-none p.m.now p.v p.k c.requires.1 a
-            (λ j h. c.loop-s.invariant.0 j (omega arith)),
-        λ h. h,
-      );
+      answer = lowest-none p.m.now p.v p.k c.requires.1 a (λ j h. c.loop-s.invariant j (omega arith));
+      there = tt;
     }

@@ -1,5 +1,5 @@
 -- The states are tried from the lowest on.
-use Rattle.std.proofs.Common.{◌≡◌, ◌&&◌, ◌-◌, ◌≤◌, ◌<◌}
+use Rattle.std.proofs.Common.{◌≡◌, ◌&&◌, ◌<◌}
 use Rattle.laws.proofs.All.{false, ℕ, take}
 use Rattle.compile_graph.specs.Component.{returning, weighs, live}
 use Rattle.compile_reach.specs.ReachSets.{rows_of}
@@ -7,8 +7,4 @@ use Rattle.compile_reach.proofs.reaching.first_returning.Given as goal
 
 abbrev pub invariant-loop-s : goal.invariant-loop-s
 invariant-loop-s l =
-    ((j : ℕ) → j < l.s → (weighs (take l.k l.v) j && returning (rows_of l.m l.k) (live (take l.k l.v)) j) ≡ false)
-    × (l.s ≤ l.k)
-
-abbrev pub decreases-loop-s : goal.decreases-loop-s
-decreases-loop-s l = l.k - l.s
+    (j : ℕ) → j < l.s → (weighs (take l.k l.v) j && returning (rows_of l.m l.k) (live (take l.k l.v)) j) ≡ false

@@ -1,6 +1,6 @@
-use Rattle.laws.proofs.All.{sym, ◌∙◌, false, arith, below_more, length}
+use Rattle.laws.proofs.All.{sym, ◌∙◌, arith, below_more, length}
 use Rattle.compile_reach.proofs.ReturnTests.{fails-yes, fails-no}
-use Rattle.std.proofs.Common.{◌≡◌, ◌-◌, rules}
+use Rattle.std.proofs.Common.{◌≡◌, rules}
 use Rattle.compile_reach.proofs.reaching.returns_all.Goals as goal
 
 pub returns-then-no_return : goal.returns-then-no_return
@@ -16,11 +16,7 @@ returns-then-no_return c =
     }
 
 pub loop-t-preserved : goal.loop-t-preserved
-loop-t-preserved c = (
-  omega arith,
-  below_more _ _ c.loop-t.invariant.1
-      (sym c.no_return.ensures.answer ∙ c.if-no_return.false),
-)
+loop-t-preserved c = below_more _ _ c.loop-t.invariant (sym c.no_return.ensures.answer ∙ c.if-no_return.false)
 
 pub returns : goal.returns
 returns c =
@@ -28,8 +24,8 @@ returns c =
     let a : length p.v ≡ 16 = search rules in
     record {
       answer = sym (fails-yes p.m.now p.v p.k c.requires.1 a p.s c.requires.2
-          (λ t h. c.loop-t.invariant.1 t (omega arith)));
+          (λ t h. c.loop-t.invariant t (omega arith)));
     }
 
 pub loop-t-init : goal.loop-t-init
-loop-t-init c = (omega arith, λ j h. absurd (omega arith))
+loop-t-init c = λ j h. absurd (omega arith)

@@ -12,12 +12,12 @@ returns-then-g-enter_count-gt2048 c =
     record {
       answer = crowded-into c.args.n
           c.args.g c.choose-s.result
-          c.choose-s.ensures.answer.0 c.args.g
+          c.choose-s.ensures.answer.0
           (omega (arith, c.enter_count.ensures.answer.0, c.if-g-enter_count-gt2048.true));
     }
 
-pub part_state-h-requires : goal.part_state-h-requires
-part_state-h-requires c =
+pub part_state-requires : goal.part_state-requires
+part_state-requires c =
     let p = c.args in
     let s = c.choose-s in
     let m = c.greatest_weight-m in (
@@ -40,7 +40,7 @@ returns c =
       answer = parted-into c.args.n
           c.args.g
           c.choose-s.result
-          c.choose-s.ensures.answer.0 c.part_state-h.result
+          c.choose-s.ensures.answer.0 c.part_state.result
           (omega (arith, c.enter_count.ensures.answer.0, c.if-g-enter_count-gt2048.false))
-          c.part_state-h.ensures.answer;
+          c.part_state.ensures.answer;
     }

@@ -1,5 +1,5 @@
-use Rattle.std.proofs.Common.{◌≡◌, ◌-◌}
-use Rattle.laws.proofs.All.{refl, subst, ⊎_elim, ℕ, arith, length-replicate}
+use Rattle.std.proofs.Common.{◌≡◌}
+use Rattle.laws.proofs.All.{subst, ℕ, arith, length-replicate}
 use Rattle.compile_table.proofs.Ranks.{rank-small}
 use Rattle.compile_table.proofs.Tables.{Laid, laid_none, laid-yes, laid-no, laid_end}
 use Rattle.compile_table.proofs.finish_table.finish_table.Goals as goal
@@ -11,20 +11,18 @@ loop-t-init c =
       c.requires,
       c.reach_rows-set.ensures.answer,
       c.ranks-index.ensures.answer,
-      omega arith,
-      refl,
       laid_none p.n p.g c.requires _ c.reach_rows-set.ensures.answer _ c.ranks-index.ensures.answer _
           (length-replicate {A = ℕ} 2048 0) (length-replicate {A = ℕ} 2048 0),
     )
 
-pub add_row-r-requires : goal.add_row-r-requires
-add_row-r-requires c =
+pub add_row-rows-requires : goal.add_row-rows-requires
+add_row-rows-requires c =
     let l = c.loop-t in (
       c.requires,
       c.loop-t-test.true,
       omega (
         arith,
-        l.invariant.5.counted,
+        l.invariant.3.counted,
         rank-small c.reach_rows-set.result
             l.t,
         c.requires.fits.few,
@@ -43,7 +41,7 @@ overflow_add-count c =
     let l = c.loop-t in
     omega (
       arith,
-      l.invariant.5.counted,
+      l.invariant.3.counted,
       rank-small c.reach_rows-set.result
           l.t,
       c.requires.fits.few,
@@ -60,21 +58,17 @@ loop-t-preserved c =
         l.invariant.0,
         l.invariant.1,
         l.invariant.2,
-        omega arith,
-        refl,
         rw (w.rows-is, w.count-is)
-            (laid-yes p.n p.g l.invariant.0 S l.invariant.1 I l.invariant.2 l.t l.count l.rows l.invariant.5
+            (laid-yes p.n p.g l.invariant.0 S l.invariant.1 I l.invariant.2 l.t l.count l.rows l.invariant.3
             w.if-set-t.true
-            w.add_row-r.result w.add_row-r.ensures.answer),
+            w.add_row-rows.result w.add_row-rows.ensures.answer),
       )
       | else-set-t w ↦ (
         l.invariant.0,
         l.invariant.1,
         l.invariant.2,
-        omega arith,
-        refl,
         rw (w.rows-is, w.count-is)
-            (laid-no p.n p.g l.invariant.0 S l.invariant.1 I l.invariant.2 l.t l.count l.rows l.invariant.5
+            (laid-no p.n p.g l.invariant.0 S l.invariant.1 I l.invariant.2 l.t l.count l.rows l.invariant.3
             w.if-set-t.false),
       )
     ]
@@ -88,5 +82,5 @@ returns c =
     let e : l.t ≡ p.g.states = omega arith in
     record {
       answer = laid_end p.n p.g l.invariant.0 S l.invariant.1 I l.invariant.2 l.count l.rows
-          (subst (λ t. Laid p.n p.g l.invariant.0 S l.invariant.1 I l.invariant.2 t l.count l.rows) e l.invariant.5);
+          (subst (λ t. Laid p.n p.g l.invariant.0 S l.invariant.1 I l.invariant.2 t l.count l.rows) e l.invariant.3);
     }

@@ -1,5 +1,5 @@
 -- Row after row, in rising order of the states that are reached.
-use Rattle.std.proofs.Common.{◌≡◌, ◌-◌, ◌≤◌, ◌<◌}
+use Rattle.std.proofs.Common.{◌≡◌, ◌<◌}
 use Rattle.laws.proofs.All.{ℕ, get_or, member}
 use Rattle.compile_graph.specs.Component.{reachings, reaches}
 use Rattle.compile_table.specs.TableOf.{first_edges}
@@ -13,8 +13,5 @@ invariant-loop-t l =
     (f : Finished l.n l.g)
     × (reach : (x : ℕ) → x < l.g.states → member l.set x ≡ reaches
     (reachings l.g.states (first_edges l.n (work_in l.g))) 0 x)
-    × (ranked : (x : ℕ) → x < l.g.states → get_or l.index x 0 ≡ rank l.set x) × (l.t ≤ l.k) × (l.k ≡ l.g.states)
+    × (ranked : (x : ℕ) → x < l.g.states → get_or l.index x 0 ≡ rank l.set x)
     × Laid l.n l.g f l.set reach l.index ranked l.t l.count l.rows
-
-abbrev pub decreases-loop-t : goal.decreases-loop-t
-decreases-loop-t l = l.k - l.t

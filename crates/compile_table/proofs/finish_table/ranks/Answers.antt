@@ -1,34 +1,20 @@
-use Rattle.std.proofs.Common.{◌-◌}
-use Rattle.laws.proofs.All.{sym, ⊎_elim, arith, fill_none, fill_more}
+use Rattle.laws.proofs.All.{sym, arith, fill_none, fill_more}
 use Rattle.compile_table.specs.Finishing.{rank}
 use Rattle.compile_table.proofs.Ranks.{rank-none, rank-yes, rank-no}
 use Rattle.compile_table.proofs.finish_table.ranks.Goals as goal
 use Rattle.compile_table.proofs.finish_table.ranks.Goals.{else-set-t, then-set-t}
 
+pub loop-t-init : goal.loop-t-init
+loop-t-init c = (omega arith, sym (rank-none _), fill_none 0 _ 128 0)
+
 pub loop-t-preserved : goal.loop-t-preserved
 loop-t-preserved c =
     let l = c.loop-t in
     let p = c.args in
-    let f = fill_more 0 (rank p.set) 128 l.t l.r l.count (omega arith) l.invariant.2 l.invariant.3 in
+    let f = fill_more 0 (rank p.set) 128 l.t l.ranks l.count (omega arith) l.invariant.1 l.invariant.2 in
     elim c.if-set-t.branch [
-      | then-set-t w ↦ (
-        omega arith,
-        omega (arith, w.count-is),
-        omega
-            (arith, w.count-is, rank-yes p.set l.t w.if-set-t.true),
-        f,
-      )
-      | else-set-t w ↦ (
-        omega arith,
-        omega (arith, w.count-is),
-        omega
-            (arith, w.count-is, rank-no p.set l.t w.if-set-t.false),
-        f,
-      )
+      | then-set-t w ↦
+          (omega (arith, w.count-is), omega (arith, w.count-is, rank-yes p.set l.t w.if-set-t.true), f)
+      | else-set-t w ↦
+          (omega (arith, w.count-is), omega (arith, w.count-is, rank-no p.set l.t w.if-set-t.false), f)
     ]
-
-pub loop-t-init : goal.loop-t-init
-loop-t-init c = (omega arith, omega arith, sym (rank-none _), fill_none 0 _ 128 0)
-
-pub returns : goal.returns
-returns c = record { answer = λ t h. c.loop-t.invariant.3.holds t (omega arith) }

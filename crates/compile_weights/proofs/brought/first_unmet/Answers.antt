@@ -1,5 +1,5 @@
-use Rattle.std.proofs.Common.{◌≡◌, ◌-◌}
-use Rattle.laws.proofs.All.{sym, ◌∙◌, false, arith, below_more, ltb, le-ltb, lt-ltb}
+use Rattle.std.proofs.Common.{◌≡◌}
+use Rattle.laws.proofs.All.{sym, ◌∙◌, arith, below_more, ltb, le-ltb, lt-ltb}
 use Rattle.laws.proofs.All.{get_or, first-least, first-range-none}
 use Rattle.compile_weights.specs.Failures.{unmet_by}
 use Rattle.compile_weights.proofs.brought.first_unmet.Goals.{After-lower_weight}
@@ -14,17 +14,16 @@ pub returns-then-lower_weight-v : goal.returns-then-lower_weight-v
 returns-then-lower_weight-v c =
     let a = c.args in
     record {
-      answer = sym (first-least (unmet_by a.count.now a.v a.k a.n) a.k a.k c.loop-s.s c.loop-s.invariant.1
+      answer = sym (first-least (unmet_by a.count.now a.v a.k a.n) a.k a.k c.loop-s.s c.loop-s.invariant
           c.loop-s-test.true (tested (goal.at.returns-then-lower_weight-v c).After-lower_weight ∙ lt-ltb _ _
           c.if-lower_weight-v.true));
+      there = omega arith;
     }
 
 pub loop-s-preserved : goal.loop-s-preserved
-loop-s-preserved c = (
-  omega arith,
-  below_more _ _ c.loop-s.invariant.1 (tested (goal.at.loop-s-preserved c).After-lower_weight ∙ le-ltb _ _
-      c.if-lower_weight-v.false),
-)
+loop-s-preserved c =
+    below_more _ _ c.loop-s.invariant
+    (tested (goal.at.loop-s-preserved c).After-lower_weight ∙ le-ltb _ _ c.if-lower_weight-v.false)
 
 pub returns : goal.returns
 returns c =
@@ -32,8 +31,9 @@ returns c =
     let a = c.args in
     record {
       answer = sym (first-range-none (unmet_by a.count.now a.v a.k a.n) a.k a.k
-          (λ j h. l.invariant.1 j (omega arith)));
+          (λ j h. l.invariant j (omega arith)));
+      there = tt;
     }
 
 pub loop-s-init : goal.loop-s-init
-loop-s-init c = (omega arith, λ j h. absurd (omega arith))
+loop-s-init c = λ j h. absurd (omega arith)

@@ -1,5 +1,5 @@
-use Rattle.std.proofs.Common.{◌≡◌, ◌-◌}
-use Rattle.laws.proofs.All.{sym, ap, ◌∙◌, false, arith, range, any, le-ltb, lt→ltb, T→true}
+use Rattle.std.proofs.Common.{◌≡◌}
+use Rattle.laws.proofs.All.{sym, ap, ◌∙◌, arith, range, any, le-ltb, lt→ltb, T→true}
 use Rattle.laws.proofs.All.{any-range-no, →any-below}
 use Rattle.compile_graph.specs.Weights.{weighty}
 use Rattle.compile_weights.proofs.brought.is_some.Goals as goal
@@ -14,14 +14,11 @@ returns-then-v-s-gt0 c =
 
 pub loop-s-preserved : goal.loop-s-preserved
 loop-s-preserved c =
-    let l = c.loop-s in (
-      omega arith,
-      any-range-no (weighty c.args.v) l.s l.invariant.1 (le-ltb 0 _ c.if-v-s-gt0.false),
-    )
+    let l = c.loop-s in any-range-no (weighty c.args.v) l.s l.invariant (le-ltb 0 _ c.if-v-s-gt0.false)
 
 pub returns : goal.returns
 returns c =
     let l = c.loop-s in
     let a = c.args in
     let e : l.s ≡ a.k = omega arith in
-    record { answer = sym (ap (λ k. any (weighty a.v) (range k)) (sym e) ∙ l.invariant.1) }
+    record { answer = sym (ap (λ k. any (weighty a.v) (range k)) (sym e) ∙ l.invariant) }

@@ -1,44 +1,33 @@
--- `weights_pass` meets its contract: each return follows the first of the three tests that fails, or the last of them.
-use Rattle.laws.proofs.All.{sym, ap, ap₂, ◌∙◌, true, eq-eqb, ne_eqb, not-true, not-false}
-use Rattle.laws.proofs.All.{length, range, all, any, take}
+-- Each return follows the first of the three tests that fails, or the last of them.
+use Rattle.std.proofs.Common.{is_some, not, ◌≡◌, ◌&&◌, rules}
+use Rattle.laws.proofs.All.{refl, sym, ap, ap₂, ◌∙◌, Bool, true, false, length, range, all, any, take}
 use Rattle.compile_graph.specs.Weights.{low, weighty, meets}
 use Rattle.compile_weights.specs.PowerTable.{tabled}
-use Rattle.compile_weights.proofs.Passing.{passing-parts, low-found, low_small, met-found}
-use Rattle.std.proofs.Common.{◌≡◌, ◌&&◌, rules}
-use Rattle.laws.proofs.All.{not}
-use Rattle.compile_weights.proofs.brought.weights_pass.Goals.{Else-first_over-k, Start}
+use Rattle.compile_weights.proofs.Passing.{passing-parts, low-by, low_small, met-by}
+use Rattle.compile_weights.proofs.brought.weights_pass.Goals.{After-first_over, Start}
 use Rattle.compile_weights.proofs.brought.weights_pass.Goals as goal
 
 wide : (c : Start) → length c.args.v ≡ 16
 wide c = search rules
 
--- the weights are at most cap
-lows : (c : Else-first_over-k) → let a = c.args in all (low a.cap a.v) (range a.k) ≡ true
+not_not : (b : Bool) → not (not b) ≡ b
+not_not true = refl
+not_not false = refl
+
+-- the weights are at most cap where none over it is found
+lows : (c : After-first_over) → let a = c.args in all (low a.cap a.v) (range a.k) ≡ not (is_some c.first_over.result)
 lows c =
-    let a = c.args in
-    low-found a.cap a.k a.v _ c.first_over.ensures.answer ∙ eq-eqb _ _ c.if-first_over-k.false
+    let a = c.args in low-by a.cap a.k a.v c.first_over.result c.first_over.ensures.answer c.first_over.ensures.there
 
-pub returns-then-first_over-k : goal.returns-then-first_over-k
-returns-then-first_over-k c =
+pub returns-then-is_some : goal.returns-then-is_some
+returns-then-is_some c =
     let a = c.args in
+    let m = all (meets a.n (tabled a.power.now a.words a.k) (take a.k a.v)) (range a.k) in
     record {
-      answer = sym (passing-parts a.n a.cap a.k (tabled c.args.power.now c.args.words c.args.k) a.v
-          c.requires.0.states (wide (goal.at.returns-then-first_over-k c).Start)
-          ∙ ap (λ b. b && (any (weighty a.v) (range a.k) && all
-          (meets a.n (tabled c.args.power.now c.args.words c.args.k) (take a.k a.v))
-          (range a.k)))
-          (low-found a.cap a.k a.v _ c.first_over.ensures.answer ∙ ne_eqb _ _ c.if-first_over-k.true));
-    }
-
-pub returns-then-not-is_some : goal.returns-then-not-is_some
-returns-then-not-is_some c =
-    let a = c.args in
-    record {
-      answer = sym (passing-parts a.n a.cap a.k (tabled c.args.power.now c.args.words c.args.k) a.v
-          c.requires.0.states (wide (goal.at.returns-then-not-is_some c).Start)
-          ∙ ap₂ (λ b d. b && (d && all (meets a.n (tabled c.args.power.now c.args.words c.args.k) (take a.k a.v))
-          (range a.k))) (lows (goal.at.returns-then-not-is_some c).Else-first_over-k)
-          (sym c.is_some.ensures.answer ∙ not-true c.is_some.result (ap not c.if-not-is_some.true)));
+      answer = sym (passing-parts a.n a.cap a.k (tabled a.power.now a.words a.k) a.v c.requires.0.states
+          (wide (goal.at.returns-then-is_some c).Start)
+          ∙ ap (λ b. b && (any (weighty a.v) (range a.k) && m))
+          (lows (goal.at.returns-then-is_some c).After-first_over ∙ ap not (sym c.is_some.ensures ∙ c.if-is_some.true)));
     }
 
 pub first_unmet-requires : goal.first_unmet-requires
@@ -48,19 +37,36 @@ first_unmet-requires c =
       c.requires.0.states,
       c.requires.1,
       λ x h. (c.word_counts-count.ensures.answer x h).1,
-      low_small a.cap a.k a.v (lows (goal.at.first_unmet-requires c).Else-first_over-k) c.requires.2,
+      low_small a.cap a.k a.v
+          (lows (goal.at.first_unmet-requires c).After-first_over ∙ ap not (sym c.is_some.ensures ∙ c.if-is_some.false))
+          c.requires.2,
     )
 
-pub returns : goal.returns
-returns c =
+pub returns-then-is_some-2 : goal.returns-then-is_some-2
+returns-then-is_some-2 c =
     let a = c.args in
+    let m = all (meets a.n (tabled a.power.now a.words a.k) (take a.k a.v)) (range a.k) in
+    let e = met-by a.power.now c.word_counts-count.result a.words a.k a.n c.requires.0.states c.requires.1
+    (λ x h. (c.word_counts-count.ensures.answer x h).0) a.v (wide (goal.at.returns-then-is_some-2 c).Start)
+    c.first_unmet.result c.first_unmet.ensures.answer c.first_unmet.ensures.there in
     record {
-      answer = sym (passing-parts a.n a.cap a.k (tabled c.args.power.now c.args.words c.args.k) a.v
-          c.requires.0.states (wide (goal.at.returns c).Start)
-          ∙ ap₂ (λ b d. b && (d && all (meets a.n (tabled c.args.power.now c.args.words c.args.k) (take a.k a.v))
-          (range a.k))) (lows (goal.at.returns c).Else-first_over-k)
-          (sym c.is_some.ensures.answer ∙ not-false c.is_some.result (ap not c.if-not-is_some.false))
-          ∙ met-found a.power.now c.word_counts-count.result a.words a.k a.n c.requires.0.states c.requires.1
-          (λ x h. (c.word_counts-count.ensures.answer x h).0) a.v (wide (goal.at.returns c).Start) _
-          c.first_unmet.ensures.answer);
+      answer = sym (passing-parts a.n a.cap a.k (tabled a.power.now a.words a.k) a.v c.requires.0.states
+          (wide (goal.at.returns-then-is_some-2 c).Start)
+          ∙ ap₂ (λ b d. b && (d && m))
+          (lows (goal.at.returns-then-is_some-2 c).After-first_over
+          ∙ ap not (sym c.is_some.ensures ∙ c.if-is_some.false))
+          (sym c.is_some-2.ensures.answer ∙ c.if-is_some-2.true) ∙ e ∙ ap not c.is_none.ensures ∙ not_not c.is_none.result);
+    }
+
+pub returns-else-is_some-2 : goal.returns-else-is_some-2
+returns-else-is_some-2 c =
+    let a = c.args in
+    let m = all (meets a.n (tabled a.power.now a.words a.k) (take a.k a.v)) (range a.k) in
+    record {
+      answer = c.if-is_some-2.false ∙ sym (passing-parts a.n a.cap a.k (tabled a.power.now a.words a.k) a.v
+          c.requires.0.states (wide (goal.at.returns-else-is_some-2 c).Start)
+          ∙ ap₂ (λ b d. b && (d && m))
+          (lows (goal.at.returns-else-is_some-2 c).After-first_over
+          ∙ ap not (sym c.is_some.ensures ∙ c.if-is_some.false))
+          (sym c.is_some-2.ensures.answer ∙ c.if-is_some-2.false));
     }

@@ -1,4 +1,4 @@
-use Rattle.std.proofs.Common.{◌≡◌, ◌+◌, ◌-◌, ◌*◌, ◌≤◌}
+use Rattle.std.proofs.Common.{◌≡◌, ◌+◌, ◌*◌, ◌≤◌}
 use Rattle.laws.proofs.All.{ap, ◌∙◌, arith, range, tot, tot-more}
 use Rattle.compile_weights.specs.PowerTable.{term_by, sum_by}
 use Rattle.compile_weights.proofs.WeightRounds.{term-small}
@@ -21,7 +21,6 @@ pub loop-t-preserved : goal.loop-t-preserved
 loop-t-preserved c =
     let l = c.loop-t in
     let p = c.args in (
-      omega arith,
       omega (arith, small (goal.at.loop-t-preserved c).In-loop-t),
       omega (arith, tot-more (term_by p.count.now p.v p.s) l.t),
     )
@@ -32,4 +31,4 @@ returns c =
     let l = c.loop-t in
     let p = c.args in
     let e : l.t ≡ p.k = omega arith in
-    record { answer = l.invariant.2 ∙ ap (λ k. tot (term_by p.count.now p.v p.s) (range k)) e }
+    record { answer = l.invariant.1 ∙ ap (λ k. tot (term_by p.count.now p.v p.s) (range k)) e }

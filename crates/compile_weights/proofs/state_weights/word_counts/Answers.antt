@@ -1,4 +1,4 @@
-use Rattle.std.proofs.Common.{◌-◌, ◌/◌, ◌%◌}
+use Rattle.std.proofs.Common.{◌/◌, ◌%◌}
 use Rattle.laws.proofs.All.{arith, fill_more}
 use Rattle.compile_weights.specs.PowerTable.{word_count}
 use Rattle.compile_weights.proofs.WeightRounds.{count-le}
@@ -7,12 +7,9 @@ use Rattle.compile_weights.proofs.state_weights.word_counts.Goals as goal
 pub loop-x-preserved : goal.loop-x-preserved
 loop-x-preserved c =
     let l = c.loop-x in
-    let p = c.args in (
-      omega arith,
-      omega arith,
-      fill_more 0 (λ y. word_count p.power.now p.words (y / 16) (y % 16)) 256 l.x l.r _ (omega arith)
-          c.words_between.ensures.answer.0 l.invariant.2,
-    )
+    let p = c.args in
+    fill_more 0 (λ y. word_count p.power.now p.words (y / 16) (y % 16)) 256 l.x l.r _ (omega arith)
+    c.words_between.ensures.answer.0 l.invariant
 
 pub returns : goal.returns
 returns c =
@@ -20,10 +17,10 @@ returns c =
     let p = c.args in
     record {
       answer = λ x h. (
-        l.invariant.2.holds x (omega arith),
+        l.invariant.holds x (omega arith),
         omega (
           arith,
-          l.invariant.2.holds x (omega arith),
+          l.invariant.holds x (omega arith),
           c.requires.1,
           count-le p.power.now p.words
               (x / 16) (x % 16),

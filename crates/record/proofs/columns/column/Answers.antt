@@ -7,7 +7,7 @@ use Rattle.record.proofs.columns.column.Goals.{In-loop-e}
 use Rattle.record.proofs.columns.column.Goals as goal
 
 pub loop-e-init : goal.loop-e-init
-loop-e-init c = (omega arith, record { whole = length-replicate {A = ℕ} 2048 0; filled = λ k h. absurd (omega arith) })
+loop-e-init c = record { whole = length-replicate {A = ℕ} 2048 0; filled = λ k h. absurd (omega arith) }
 
 -- the edge's place in the array
 within : (c : In-loop-e) → spot c.args.n c.loop-e.e < 2048
@@ -36,12 +36,10 @@ get-requires c =
 
 pub loop-e-preserved : goal.loop-e-preserved
 loop-e-preserved c =
-    let a = c.args in (
-      omega arith,
-      column-more (8 * length a.bytes.now) a.n a.edges a.first a.step a.width c.loop-e.e
-          c.requires c.loop-e-test.true (bits_of a.bytes.now) c.loop-e.a c.get.result
-          c.get.ensures.answer c.loop-e.invariant.1,
-    )
+    let a = c.args in
+    column-more (8 * length a.bytes.now) a.n a.edges a.first a.step a.width c.loop-e.e
+    c.requires c.loop-e-test.true (bits_of a.bytes.now) c.loop-e.a c.get.result
+    c.get.ensures.answer c.loop-e.invariant
 
 pub returns : goal.returns
 returns c =
@@ -49,7 +47,7 @@ returns c =
     let e : c.loop-e.e ≡ a.edges = omega arith in
     record {
       answer = subst (λ k. Column (bits_of a.bytes.now) a.n k a.first a.step a.width c.loop-e.a) e
-          c.loop-e.invariant.1;
+          c.loop-e.invariant;
     }
 
 pub overflow_mul-e : goal.overflow_mul-e

@@ -1,17 +1,10 @@
--- `good_rest` meets its contract: each return follows the first of the three checks that fails, or the last check.
-use Rattle.laws.proofs.All.{arith, length}
+-- The three checks, one after the other.
+use Rattle.laws.proofs.All.{arith, length, sym, ◌∙◌}
 use Rattle.bits.specs.Fields.{bits_of}
 use Rattle.record.proofs.Sizes.{edge-count-le, reach-nexts}
 use Rattle.record.proofs.RecordChecks.{states-fail, targets-fail, targets-pass}
+use Rattle.record_read.proofs.ranges.good_rest.Goals.{then-good_states, else-good_states}
 use Rattle.record_read.proofs.ranges.good_rest.Goals as goal
-
-pub returns-then-not-good_states : goal.returns-then-not-good_states
-returns-then-not-good_states c =
-    let a = c.args in
-    record {
-      answer = states-fail a.f (bits_of a.bytes.now) c.good_states.result c.good_states.ensures.answer
-          (c.if-not-good_states.true);
-    }
 
 pub overflow_mul-edges : goal.overflow_mul-edges
 overflow_mul-edges c =
@@ -30,21 +23,31 @@ good_targets-requires c =
     c.requires.1 in
     (edge-count-le h c.power.result c.requires.0 c.power.ensures.answer, r.first, r.apart, r.last)
 
-pub returns-then-not-good_targets : goal.returns-then-not-good_targets
-returns-then-not-good_targets c =
+pub returns-then-good_targets : goal.returns-then-good_targets
+returns-then-good_targets c =
     let a = c.args in
-    record {
-      answer = targets-fail a.f (bits_of a.bytes.now) c.power.result c.good_states.result
-          c.good_targets.result c.power.ensures.answer c.good_states.ensures.answer c.good_targets.ensures.answer
-          c.if-not-good_states.false
-          (c.if-not-good_targets.true);
-    }
+    let q = c.if-good_targets.true in
+    elim c.if-good_states.branch [
+      | then-good_states w ↦ record {
+        answer = targets-pass a.f (bits_of a.bytes.now) c.power.result c.good_states.result w.good_targets.result
+            c.power.ensures.answer c.good_states.ensures.answer w.good_targets.ensures.answer c.good_fill.result
+            w.if-good_states.true (sym w.value-is ∙ q) c.good_fill.ensures.answer;
+      }
+      | else-good_states w ↦ let f = w.if-good_states.false in let v = w.value-is in (cc)
+    ]
 
-pub returns : goal.returns
-returns c =
+pub returns-else-good_targets : goal.returns-else-good_targets
+returns-else-good_targets c =
     let a = c.args in
-    record {
-      answer = targets-pass a.f (bits_of a.bytes.now) c.power.result c.good_states.result c.good_targets.result
-          c.power.ensures.answer c.good_states.ensures.answer c.good_targets.ensures.answer c.good_fill.result
-          c.if-not-good_states.false c.if-not-good_targets.false c.good_fill.ensures.answer;
-    }
+    let q = c.if-good_targets.false in
+    elim c.if-good_states.branch [
+      | then-good_states w ↦ record {
+        answer = q ∙ targets-fail a.f (bits_of a.bytes.now) c.power.result c.good_states.result w.good_targets.result
+            c.power.ensures.answer c.good_states.ensures.answer w.good_targets.ensures.answer w.if-good_states.true
+            (sym w.value-is ∙ q);
+      }
+      | else-good_states w ↦ record {
+        answer = q ∙ states-fail a.f (bits_of a.bytes.now) c.good_states.result c.good_states.ensures.answer
+            w.if-good_states.false;
+      }
+    ]

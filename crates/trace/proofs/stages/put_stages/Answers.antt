@@ -9,11 +9,11 @@ returns-then-found-eq0 c = record { written = search stages-none }
 pub returns-then-found-gt128 : goal.returns-then-found-gt128
 returns-then-found-gt128 c = record { written = search stages-heavy }
 
-pub returns-then-found : goal.returns-then-found
-returns-then-found c = record { written = search stages-crowded }
+pub returns-in-None : goal.returns-in-None
+returns-in-None c = record { written = search stages-crowded }
 
 pub put_splitting-requires : goal.put_splitting-requires
 put_splitting-requires c = search splits-ready
 
-pub returns : goal.returns
-returns c = record { written = search stages-all }
+pub returns-in-Some : goal.returns-in-Some
+returns-in-Some c = record { written = search stages-all }

@@ -17,40 +17,30 @@ test-is c =
 pub returns-then-is_same : goal.returns-then-is_same
 returns-then-is_same c =
     record {
-      answer = run-least c.args.c c.loop-d.d c.loop-d.invariant.2
+      answer = run-least c.args.c c.loop-d.d c.loop-d.invariant
           c.loop-d-test.true (sym (test-is (goal.at.returns-then-is_same c).After-is_same) ∙ c.if-is_same.true);
     }
 
-pub overflow_add-d : goal.overflow_add-d
-overflow_add-d c =
-    omega (arith, c.loop-d-test.true, c.loop-d.invariant.1)
-
-pub loop-d-smaller : goal.loop-d-smaller
-loop-d-smaller c = omega (arith, c.loop-d-test.true)
-
 pub loop-d-preserved : goal.loop-d-preserved
 loop-d-preserved c =
-    let l = c.loop-d in (
-      omega (arith, c.loop-d-test.true),
-      l.invariant.1,
-      below_more (λ j. is_runs (constraint_of c.args.c) j ≡ false) l.d l.invariant.2
-          (sym (test-is (goal.at.loop-d-preserved c).After-is_same) ∙ c.if-is_same.false),
-    )
+    let l = c.loop-d in
+    below_more (λ j. is_runs (constraint_of c.args.c) j ≡ false) l.d l.invariant
+    (sym (test-is (goal.at.loop-d-preserved c).After-is_same) ∙ c.if-is_same.false)
 
 pub returns : goal.returns
 returns c =
     let l = c.loop-d in
     let k = c.args.c in
-    record { answer = run_none k (λ j h. l.invariant.2 j (omega (arith, c.loop-d-test.false))) }
+    record { answer = run_none k (λ j h. l.invariant j (omega (arith, c.loop-d-test.false))) }
 
 pub loop-d-init : goal.loop-d-init
-loop-d-init c = (omega arith, omega arith, λ j h. absurd (not-suc-le-zero h))
+loop-d-init c = λ j h. absurd (not-suc-le-zero h)
 
-pub overflow_sub-count : goal.overflow_sub-count
-overflow_sub-count c = omega (arith, c.loop-d-test.true)
+pub overflow_sub-c : goal.overflow_sub-c
+overflow_sub-c c = omega (arith, c.loop-d-test.true)
 
 pub run_length-requires : goal.run_length-requires
-run_length-requires c = omega (arith, c.loop-d-test.true, c.loop-d.invariant.1)
+run_length-requires c = omega (arith, c.loop-d-test.true, c.requires)
 
 pub is_same-requires : goal.is_same-requires
-is_same-requires c = c.loop-d.invariant.1
+is_same-requires c = c.requires

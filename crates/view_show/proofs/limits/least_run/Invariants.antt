@@ -1,5 +1,5 @@
--- `least_run` meets its contract: with no d passed is the constraint (d, k); the first with which it is ends the loop.
-use Rattle.std.proofs.Common.{◌≡◌, ◌-◌, ◌≤◌, ◌<◌}
+-- With no d passed is the constraint (d, k); the first with which it is ends the loop.
+use Rattle.std.proofs.Common.{◌≡◌, ◌<◌}
 use Rattle.laws.proofs.All.{false, ℕ}
 use Rattle.constraint.specs.Value.{constraint_of}
 use Rattle.view_show.specs.Limits.{is_runs}
@@ -7,7 +7,4 @@ use Rattle.view_show.proofs.limits.least_run.Given as goal
 
 abbrev pub invariant-loop-d : goal.invariant-loop-d
 invariant-loop-d l =
-    (l.d ≤ l.c.states) × (l.c.states ≤ 16) × ((j : ℕ) → j < l.d → is_runs (constraint_of l.c) j ≡ false)
-
-abbrev pub decreases-loop-d : goal.decreases-loop-d
-decreases-loop-d l = l.c.states - l.d
+    (j : ℕ) → j < l.d → is_runs (constraint_of l.c) j ≡ false

@@ -1,20 +1,19 @@
--- Where the sets hold the same, nothing is copied.
-use Rattle.laws.proofs.All.{sym, ◌∙◌}
-use Rattle.window_pairs.proofs.SetLaws.{same-pairs}
+-- Where the rows are the same, nothing is copied.
+use Rattle.std.proofs.Common.{true, false, refl}
+use Rattle.bitsets.proofs.Sets.{same-sets}
+use Rattle.window_pairs.proofs.SetLaws.{copied}
 use Rattle.window_pairs.proofs.sets.replace.Goals as goal
 
-pub returns-then-same_pairs : goal.returns-then-same_pairs
-returns-then-same_pairs c =
-    let a = c.args in
-    record {
-      answer = sym c.if-same_pairs.true ∙ c.same_pairs.ensures.answer;
-      written = (
-        c.requires.1,
-        sym (same-pairs a.states a.set.now a.out.now
-            (sym c.same_pairs.ensures.answer ∙ c.if-same_pairs.true)),
-      );
-    }
+pub returns-then-eq-clause-answer : goal.returns-then-eq-clause-answer
+returns-then-eq-clause-answer c = same-sets _ _ true c.if-eq.ensures
 
-pub returns : goal.returns
-returns c =
-    record { answer = sym c.if-same_pairs.false ∙ c.same_pairs.ensures.answer; written = c.copy.ensures.written }
+pub returns-then-eq-clause-written : goal.returns-then-eq-clause-written
+returns-then-eq-clause-written c =
+    (c.requires.1, copied c.args.states c.args.out.now c.args.set.now ((same-sets _ _ true c.if-eq.ensures).0 refl))
+
+pub returns-clause-answer : goal.returns-clause-answer
+returns-clause-answer c = same-sets _ _ false c.if-eq.ensures
+
+pub returns-clause-written : goal.returns-clause-written
+returns-clause-written c =
+    (c.copy.ensures.written.0, copied c.args.states _ c.args.set.now c.copy.ensures.written.1)

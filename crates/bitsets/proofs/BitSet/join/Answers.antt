@@ -1,0 +1,19 @@
+-- `join` meets its contract.
+use Rattle.std.proofs.Common.{◌^◌, ◌<◌}
+use Rattle.laws.proofs.All.{sym, ap, ◌∙◌, arith}
+use lib.Bits.{or_block}
+use Rattle.bitsets.specs.BitSets.{bit_at, value_of}
+use Rattle.bitsets.proofs.Digits.{or-bit}
+use Rattle.bitsets.proofs.BitSet.join.Goals as goal
+
+pub returns : goal.returns
+returns c =
+    record {
+      answer = λ j.
+          let a = c.args.self in
+          let b = c.args.other in
+          let p : a.low < 2 ^ 64 = omega arith in
+          let q : b.low < 2 ^ 64 = omega arith in
+          ap (λ x. bit_at x j) (sym (or_block 64 a.high b.high a.low b.low p q))
+          ∙ or-bit (value_of a) (value_of b) j;
+    }
