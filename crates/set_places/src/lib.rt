@@ -38,7 +38,7 @@ pub fn find(set: &[u8], i: usize) -> Option<Place>
     if count <= i {
         return None;
     }
-    let mut reader = Reader::new(set);
+    let mut reader = Reader::new(set, 1);
     for passed in 0..i {
         reader.next()?;
     }

@@ -5,18 +5,18 @@ ghost use Rattle.set_places.specs.Offsets.{place_at, next_at};
 use crate::{Place, place_at};
 
 // A set's bytes and the offset of the next record's length in them.
-#[derive(Drop)]
+#[derive(Clone, Copy)]
 pub struct Reader<'a> {
     pub set: &'a [u8],
     pub at: usize,
 }
 
 impl<'a> Reader<'a> {
-    // A reader of a set from its first record on.
-    pub fn new(set: &'a [u8]) -> Reader<'a>
-        ensures answer { (result.set ≡ set.entry) × (result.at ≡ 1) }
+    // A reader of a set from an offset on; the first record's is 1.
+    pub fn new(set: &'a [u8], at: usize) -> Reader<'a>
+        ensures answer { (result.set ≡ set.entry) × (result.at ≡ at) }
     {
-        Reader { set, at: 1 }
+        Reader { set, at }
     }
 
     // The next record, which the reader goes past. Where none is whole it stays.
