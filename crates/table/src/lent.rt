@@ -19,6 +19,12 @@ pub struct Edges<'a> {
     pub ghost reading: { (e : ℕ) → e < states * 16 → e % 16 < ways → get_or word.now e 0 < 2 ^ q },
 }
 
+// What the type of the words says of each.
+fn are_bytes(word: [u8; 2048])
+    ensures answer { (e : ℕ) → get_or word e 0 < 256 }
+{
+}
+
 impl<'a> Edges<'a> {
     ghost use Rattle.std.specs.Prelude.{◌≡◌};
     ghost use Rattle.table.specs.Value.{Ready};
@@ -37,6 +43,22 @@ impl<'a> Edges<'a> {
             q: t.q,
             word: &t.word,
             next: &t.next,
+        }
+    }
+
+    // The edges in any arrays that fit: their words are bytes, so of 8 bits.
+    pub fn from_arrays(states: usize, ways: usize, word: &'a [u8; 2048], next: &'a [u8; 2048]) -> Edges<'a>
+        requires { Fits (borrowed states ways word next) }
+        ensures answer { edges_in result ≡ borrowed states ways word.entry next.entry }
+        ensures width { result.q ≡ 8 }
+    {
+        are_bytes(*word);
+        Edges {
+            states,
+            ways,
+            q: 8,
+            word,
+            next,
         }
     }
 }
