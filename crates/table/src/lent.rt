@@ -22,8 +22,7 @@ pub struct Edges<'a> {
 // What the type of the words says of each.
 fn are_bytes(word: [u8; 2048])
     ensures answer { (e : ℕ) → get_or word e 0 < 256 }
-{
-}
+{}
 
 impl<'a> Edges<'a> {
     ghost use Rattle.std.specs.Prelude.{◌≡◌};
@@ -47,7 +46,12 @@ impl<'a> Edges<'a> {
     }
 
     // The edges in any arrays that fit: their words are bytes, so of 8 bits.
-    pub fn from_arrays(states: usize, ways: usize, word: &'a [u8; 2048], next: &'a [u8; 2048]) -> Edges<'a>
+    pub fn from_arrays(
+        states: usize,
+        ways: usize,
+        word: &'a [u8; 2048],
+        next: &'a [u8; 2048],
+    ) -> Edges<'a>
         requires { Fits (borrowed states ways word next) }
         ensures answer { edges_in result ≡ borrowed states ways word.entry next.entry }
         ensures width { result.q ≡ 8 }

@@ -12,8 +12,8 @@ use crate::lent::Edges;
 #[derive(Drop)]
 pub struct Chains<'a> {
     pub edges: Edges<'a>,
-    head: [u16; 256],
-    link: [u16; 2048],
+    pub head: [u16; 256],
+    pub link: [u16; 2048],
     pub ghost linked: { Linked (edges_in edges) head link },
 }
 
