@@ -28,6 +28,7 @@ pub fn first_group(groups: &Groups, past: BitSet, w: u8, ahead: BitSet) -> Optio
     ensures answer { unwrap_or result 2048
         ≡ first_group groups.now.start.now groups.now.first.now groups.now.sets.now past w ahead }
     ensures below { IfSome result (λ k. k < 2048) }
+    ensures byte { w < 256 }
 {
     for k in groups.start[w as usize] as usize..groups.start[w as usize + 1] as usize {
         if joins(groups, past, ahead, k) {

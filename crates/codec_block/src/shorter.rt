@@ -50,6 +50,7 @@ pub fn first_shorter(groups: &Groups, past: BitSet, w: u8, ahead: BitSet) -> Opt
     ensures answer { unwrap_or result 2048
         ≡ first_group groups.now.start.now groups.now.first.now groups.now.sets.now past w ahead }
     ensures below { IfSome result (λ k. k < 2048) }
+    ensures byte { w < 256 }
 {
     let at = groups.start[w as usize] as usize;
     let end = groups.start[w as usize + 1] as usize;

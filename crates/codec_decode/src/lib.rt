@@ -32,7 +32,7 @@ fn read_with<const N: usize>(edges: Edges, words: &[u8], m: usize, a: usize, out
     let mut first = [0u16; 2048];
     let mut sets = [BitSet { low: 0, high: 0 }; N];
     let grouped = GroupedEdges::of(edges, &mut start, &mut first, &mut sets);
-    read_blocks(&grouped, words, 0, m, a, out);
+    read_blocks(&grouped, words, 0, m, a, out.len(), out);
 }
 
 // The same in FEW places for fewer than 128 blocks, and otherwise in MANY.
@@ -95,6 +95,7 @@ fn decode_in<const FEW: usize, const MANY: usize>(
 
 // The blocks of the words under a table of at most 16 states, in the output. Declines with 7 for a value of the struct
 // that no record gives, then 12, 13, 11. It stands apart from the one for any table so that it takes little stack.
+#[inline(never)]
 pub fn decode_few(t: Table, words: &[u8], out: &mut [u8]) -> Result<usize, Refusal>
     requires { t.states ≤ 16 }
     ensures answer { result ≡ answer_of (decoded_with t (length out.old) words.now) }
@@ -106,6 +107,7 @@ pub fn decode_few(t: Table, words: &[u8], out: &mut [u8]) -> Result<usize, Refus
 
 // The same under a table of any size. Keeping the states by word, after the sets of all groups, pays from some hundred
 // blocks on.
+#[inline(never)]
 pub fn decode_many(t: Table, words: &[u8], out: &mut [u8]) -> Result<usize, Refusal>
     ensures answer { result ≡ answer_of (decoded_with t (length out.old) words.now) }
     ensures written { out.new

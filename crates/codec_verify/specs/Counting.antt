@@ -23,6 +23,7 @@ agreed t n s ds ws = length (same_front (spells t s (before_bad n ds)) ws)
 -- the numbers of a table
 abbrev pub sizes_of : Table → Sizes
 sizes_of t = record {
+  q = t.q;
   memory = t.memory;
   lookahead = t.lookahead;
   tail = t.tail;

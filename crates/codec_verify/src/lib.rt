@@ -16,9 +16,11 @@ use table::ready::is_ready;
 
 pub mod counting;
 
-// The numbers of a code by which its words are counted beside its edges: the window, and the tail datum.
+// The numbers of a code by which its words are counted beside its edges: the width of a word, the window, and the tail
+// datum.
 #[derive(Clone, Copy)]
 pub struct Sizes {
+    pub q: usize,
     pub memory: usize,
     pub lookahead: usize,
     pub tail: usize,
@@ -29,6 +31,7 @@ pub fn sizes_of(t: Table) -> Sizes
     ensures answer { result ≡ sizes_of t }
 {
     Sizes {
+        q: t.q,
         memory: t.memory,
         lookahead: t.lookahead,
         tail: t.tail,

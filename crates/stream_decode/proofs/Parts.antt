@@ -3,10 +3,10 @@
 -- In order: skip-in, part-holds, part-reach; part-read; part_end.
 -- Assumes nothing.
 use Rattle.std.proofs.Common.{◌≡◌, ◌⊎◌, ◌++◌, ◌+◌, ◌-◌, ◌*◌, ◌/◌, ◌%◌, ◌≤◌, ◌<◌}
-use Rattle.laws.proofs.All.{sym, ap, ap₂, ◌∙◌, inl, inr, List, map, append_assoc, ℕ}
+use Rattle.laws.proofs.All.{sym, ap, ap₂, ◌∙◌, inl, inr, List, [], map, append_assoc, append-nil, ℕ}
 use Rattle.laws.proofs.All.{min, min-le_left, min-le_right, le-min}
-use Rattle.laws.proofs.All.{mul-le-mul_right, arith, dec_le, length, take, drop, length-drop}
-use Rattle.laws.proofs.All.{length-take-le, take_at, drop-drop, from, map-from-same}
+use Rattle.laws.proofs.All.{mul-le-mul_right, arith, dec_le, length, take, drop, drop_of_length-le, length-drop}
+use Rattle.laws.proofs.All.{length-take-le, take_at, drop-drop, from, map-from-same, take_rest}
 use Rattle.table.specs.Rows.{Code}
 use Rattle.codec_steps.specs.Reading.{block}
 use Rattle.codec.proofs.Local.{block-part}
@@ -64,17 +64,19 @@ module _ (c : Code) (q count base k i end : ℕ) (xs M P rest : List ℕ) (b : b
       ∙ ap (block c M) y))
 
   -- the output with the part's blocks in it
-  pub part-read : (out ys : List ℕ) → end ≤ length out
-      → ys ≡ map (block c M) (from (i - base) (length (take (end - i) (drop i out))))
-      → take i out ++ (ys ++ drop (end - i) (drop i out))
+  pub part-read : (out ys : List ℕ) → i ≤ length out
+      → ys ≡ map (block c M) (from (i - base) (end - i)) ++ drop (end - i) (take (length out - i) (drop i out))
+      → take i out ++ (ys ++ drop (length out - i) (drop i out))
       ≡ (take i out ++ map (block c (unpacked q count xs)) (from i (end - i))) ++ drop end out
   part-read out ys l f =
       let B = map (block c (unpacked q count xs)) (from i (end - i)) in
       let m : i + (end - i) ≡ end = omega arith in
-      let n : length (take (end - i) (drop i out)) ≡ end - i =
-      length-take-le (end - i) (drop i out) (rw (length-drop i out) (omega arith)) in
-      let g : ys ≡ B = f ∙ ap (λ k. map (block c M) (from (i - base) k)) n ∙ part-blocks in
-      ap₂ (λ x y. take i out ++ (x ++ y)) g (drop-drop (end - i) i out ∙ ap (λ k. drop k out) m)
+      let g : ys ≡ B ++ drop end out =
+      f ∙ ap₂ (λ x y. x ++ drop (end - i) y) part-blocks (take_rest i out)
+      ∙ ap (λ y. B ++ y) (drop-drop (end - i) i out ∙ ap (λ n. drop n out) m) in
+      let none : drop (length out - i) (drop i out) ≡ [] =
+      drop_of_length-le (drop i out) {i = length out - i} (rw (length-drop i out) (omega arith)) in
+      ap₂ (λ x y. take i out ++ (x ++ y)) g none ∙ ap (λ x. take i out ++ x) (append-nil (B ++ drop end out))
       ∙ sym (append_assoc (take i out) B (drop end out))
 
 -- where a part ends

@@ -55,7 +55,7 @@ fn read_part(
     let skip = base / 8 * q;
     let mut words = [0u8; 1055];
     get_words(&stream[skip..], q, smaller(count - base, 1055), &mut words);
-    read_blocks(grouped, &words, i - base, m, a, &mut out[i..end]);
+    read_blocks(grouped, &words, i - base, m, a, end - i, &mut out[i..]);
 }
 
 // The first `blocks` blocks of the words of a stream in the output, part by part.

@@ -43,21 +43,22 @@ module _ (t : Table) (count : ℕ) (xs : List ℕ) where
       last h = rw (r, g, le-leb t.lookahead count h)
 
       pub stream-done : t.lookahead ≤ count → (z : Sizes) (v : ℕ) → z ≡ sizes_of t
-          → v ≡ come_back (lent t) z (unpacked t.q count xs)
+          → v ≡ come_back (lent t) z (unpacked z.q count xs)
           → Ok v ≡ answer_of (verified_stream_with t count xs)
       unfolding followed agreed
       stream-done h z v f q = ap Ok (rw f at q) ∙ sym (ap answer_of (last h))
 
 -- a good stream can be counted in, under a table that is ready
 pub streamed : (t : Table) → T (ready t) → (count : ℕ) (xs : List ℕ) → T (good_stream t.q count xs)
-    → t.lookahead ≤ count → (k : Sizes) → k ≡ sizes_of t → (q : ℕ) → q ≡ t.q
-    → (count ≤ limit) × (count * q ≤ 8 * length xs) × (k.memory ≤ 15) × (k.lookahead ≤ 15) × (k.lookahead ≤ count)
-streamed t y count xs g h k e q w =
+    → t.lookahead ≤ count → (k : Sizes) → k ≡ sizes_of t
+    → (k.q ≤ 8) × (count ≤ limit) × (count * k.q ≤ 8 * length xs) × (k.memory ≤ 15) × (k.lookahead ≤ 15)
+    × (k.lookahead ≤ count)
+streamed t y count xs g h k e =
     let f = (ready-formed t y).range in
     let s = good-stream→ t.q count xs g in
     let m : t.memory ≤ 15 = omega (arith, f.m) in
     let a : t.lookahead ≤ 15 = omega (arith, f.a) in
-    rw (e, w) (s.few, s.holds, m, a, h)
+    rw e (f.q₂, s.few, s.holds, m, a, h)
 
 -- under a record that was loaded
 pub stream-read : (o : Outcome Code) (t : Table) → done (code_in t) ≡ o → T (ready t) → (count : ℕ) (xs : List ℕ)

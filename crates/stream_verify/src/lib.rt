@@ -26,9 +26,9 @@ pub mod parts;
 
 // How many words of the `count` words of a stream come back, with the groups of the table's edges laid.
 fn count_stream(k: Sizes, edges: Edges, stream: &[u8], count: usize) -> usize
-    requires { (count ≤ limit) × (count * edges.q ≤ 8 * length stream.now) × (k.memory ≤ 15) × (k.lookahead ≤ 15)
-        × (k.lookahead ≤ count) }
-    ensures answer { result ≡ come_back (edges_in edges.entry) k (unpacked edges.entry.q count stream.now) }
+    requires { (k.q ≤ 8) × (count ≤ limit) × (count * k.q ≤ 8 * length stream.now) × (k.memory ≤ 15)
+        × (k.lookahead ≤ 15) × (k.lookahead ≤ count) }
+    ensures answer { result ≡ come_back (edges_in edges.entry) k (unpacked k.q count stream.now) }
 {
     let mut start = [0u16; 257];
     let mut first = [0u16; 2048];

@@ -14,20 +14,19 @@ use stream_pack::reading::get_words;
 // How far the words of a part of at most 1,024 words come back. It is unpacked with 16 words before it, which no memory
 // exceeds and where a byte starts, or from the first word of all, and with 15 ahead of it, which no lookahead exceeds.
 fn count_part(k: Sizes, grouped: &GroupedEdges, stream: &[u8], part: Part) -> Reached
-    requires { (part.count ≤ limit) × (part.count * grouped.now.edges.q ≤ 8 * length stream.now)
+    requires { (k.q ≤ 8) × (part.count ≤ limit) × (part.count * k.q ≤ 8 * length stream.now)
         × (k.memory ≤ 15) × (k.lookahead ≤ 15) × (k.lookahead ≤ part.count)
         × (part.from % 8 ≡ 0) × (part.from ≤ part.end) × (part.end ≤ part.from + 1024)
         × (part.end ≤ part.count) × (part.state < grouped.now.edges.states) × (part.base ≡ part.from - 16) }
     ensures answer { Reaches (lent_edges grouped.now)
-        (due_in (lent_edges grouped.now) k (unpacked grouped.now.edges.q part.count stream.now))
-        (unpacked grouped.now.edges.q part.count stream.now) part result }
+        (due_in (lent_edges grouped.now) k (unpacked k.q part.count stream.now))
+        (unpacked k.q part.count stream.now) part result }
 {
-    let q = grouped.edges.q;
-    let skip = part.base / 8 * q;
+    let skip = part.base / 8 * k.q;
     let mut words = [0u8; 1055];
     get_words(
         &stream[skip..],
-        q,
+        k.q,
         smaller(part.count - part.base, 1055),
         &mut words,
     );
@@ -36,9 +35,9 @@ fn count_part(k: Sizes, grouped: &GroupedEdges, stream: &[u8], part: Part) -> Re
 
 // How many of the `count` words of a stream come back.
 pub fn count_parts(k: Sizes, grouped: &GroupedEdges, stream: &[u8], count: usize) -> usize
-    requires { (count ≤ limit) × (count * grouped.now.edges.q ≤ 8 * length stream.now)
+    requires { (k.q ≤ 8) × (count ≤ limit) × (count * k.q ≤ 8 * length stream.now)
         × (k.memory ≤ 15) × (k.lookahead ≤ 15) × (k.lookahead ≤ count) }
-    ensures answer { result ≡ come_back (lent_edges grouped.now) k (unpacked grouped.now.edges.q count stream.now) }
+    ensures answer { result ≡ come_back (lent_edges grouped.now) k (unpacked k.q count stream.now) }
 {
     let mut s = 0;
     let mut i = 0;

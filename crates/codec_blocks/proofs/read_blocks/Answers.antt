@@ -1,5 +1,5 @@
 use Rattle.std.proofs.Common.{◌≡◌, ◌++◌}
-use Rattle.laws.proofs.All.{ap, ◌∙◌, map, arith, length, drop, drop-length, append-nil, length-set}
+use Rattle.laws.proofs.All.{ap, ◌∙◌, map, arith, length, drop, length-set}
 use Rattle.laws.proofs.All.{from, map_more}
 use Rattle.table.specs.Edges.{rows_of}
 use Rattle.codec_groups.specs.Lent.{lent_edges}
@@ -21,8 +21,5 @@ returns c =
     let l = c.loop-i in
     let a = c.args in
     let f = block (under (rows_of (lent_edges a.grouped.now)) a.m a.a) a.words.now in
-    let e : l.i ≡ length a.out.now = omega (arith, l.invariant.0) in
-    record {
-      written = l.invariant.1 ∙ ap (λ k. map f (from a.begin k) ++ drop k a.out.now) e
-          ∙ ap (λ x. map f (from a.begin (length a.out.now)) ++ x) (drop-length a.out.now) ∙ append-nil _;
-    }
+    let e : l.i ≡ a.count = omega arith in
+    record { written = l.invariant.1 ∙ ap (λ k. map f (from a.begin k) ++ drop k a.out.now) e }

@@ -56,10 +56,10 @@ get_words-requires c =
 pub read_blocks-requires : goal.read_blocks-requires
 read_blocks-requires c =
     let a = c.args in
-    let b : c.saturating_sub-base.result ≡ a.i - 16 = c.saturating_sub-base.ensures in
-    let n : length (take (a.end - a.i) (drop a.i a.out.now)) ≡ a.end - a.i =
-    length-take-le (a.end - a.i) (drop a.i a.out.now) (rw (length-drop a.i a.out.now) (omega (arith, c.requires.8))) in
-    omega (arith, n, c.words-2-1.given)
+    let b : c.saturating_sub-base.result ≡ a.i - 16 = c.saturating_sub-base.ensures in (
+      omega (arith, c.words-2-1.given),
+      omega (arith, ap length (take_rest a.i a.out.now), length-drop a.i a.out.now),
+    )
 
 pub returns : goal.returns
 returns c =

@@ -1,6 +1,6 @@
 -- The checks in their order, then the count, part by part.
 use Rattle.std.proofs.Common.{◌≡◌}
-use Rattle.laws.proofs.All.{sym, ap, ap₂, subst, ◌∙◌, true, T}
+use Rattle.laws.proofs.All.{sym, ap, subst, ◌∙◌, true, T}
 use Rattle.answer.specs.Outcomes.{answer_of}
 use Rattle.table.specs.Value.{ready}
 use Rattle.table.proofs.ReadyTables.{ready→}
@@ -57,7 +57,7 @@ count_stream-requires c =
     let a = c.args in
     streamed a.t (told-ready (goal.at.count_stream-requires c).Else-not-is_ready) a.count a.stream.now
     (subst T (sym (is-good (goal.at.count_stream-requires c).Else-not-is_stream)) tt) c.if-count-t.false
-    c.sizes_of.result c.sizes_of.ensures.answer _ c.of.ensures.width
+    c.sizes_of.result c.sizes_of.ensures.answer
 
 pub returns : goal.returns
 returns c =
@@ -67,6 +67,6 @@ returns c =
           (is-good (goal.at.returns c).Else-not-is_stream) c.if-count-t.false c.sizes_of.result
           c.count_stream.result c.sizes_of.ensures.answer
           (c.count_stream.ensures.answer
-          ∙ ap₂ (λ s q. come_back s c.sizes_of.result (unpacked q a.count a.stream.now)) c.of.ensures.answer
-          c.of.ensures.width);
+          ∙ ap (λ s. come_back s c.sizes_of.result (unpacked c.sizes_of.result.q a.count a.stream.now))
+          c.of.ensures.answer);
     }

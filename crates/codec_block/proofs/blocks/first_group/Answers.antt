@@ -20,6 +20,7 @@ returns-then-joins c =
           ∙ scan-yes _ no_place _ _ c.loop-k-test.true _ c.joins.ensures.answer c.if-joins.true);
       below = (room-held g.start.now g.first.now g.sets.now g.grouped c.args.w c.loop-k.k
           (omega arith, omega arith, c.loop-k-test.true)).0;
+      byte = omega arith;
     }
 
 pub loop-k-preserved : goal.loop-k-preserved
@@ -34,4 +35,5 @@ returns c =
       answer = sym (group-scan _ _ _ a.past a.w a.ahead ∙ c.loop-k.invariant
           ∙ scan-end _ no_place _ _ ends);
       below = tt;
+      byte = omega arith;
     }

@@ -11,10 +11,10 @@ use Rattle.stream_verify.proofs.parts.count_part.Goals.{After-smaller, Start}
 use Rattle.stream_verify.proofs.parts.count_part.Goals as goal
 
 in_words : (s : Start) → s.args.part.base ≤ s.args.part.count
-in_words s = omega (arith, s.requires.10, s.requires.6, s.requires.8)
+in_words s = omega (arith, s.requires.11, s.requires.7, s.requires.9)
 
-skip : (s : Start) → s.args.part.base / 8 * s.args.grouped.now.edges.q ≤ length (s.args.stream.now)
-skip s = skip-in s.args.grouped.now.edges.q s.args.part.count s.args.part.base (length (s.args.stream.now)) (in_words s) s.requires.1
+skip : (s : Start) → s.args.part.base / 8 * s.args.k.q ≤ length (s.args.stream.now)
+skip s = skip-in s.args.k.q s.args.part.count s.args.part.base (length (s.args.stream.now)) (in_words s) s.requires.2
 
 pub overflow_mul-skip : goal.overflow_mul-skip
 overflow_mul-skip c = omega (arith, skip (goal.at.overflow_mul-skip c).Start)
@@ -34,60 +34,60 @@ words-in c =
     omega (
       arith,
       c.smaller.ensures.answer,
-      c.requires.10,
-      c.requires.6,
-      c.requires.8,
+      c.requires.11,
+      c.requires.7,
+      c.requires.9,
       min-le_left (c.args.part.count - c.args.part.base) 1055,
     )
 
 pub get_words-requires : goal.get_words-requires
 get_words-requires c =
-    let q = c.args.grouped.now.edges.q in
+    let q = c.args.k.q in
     let part = c.args.part in
     let few : c.smaller.result ≤ 1055 =
     omega (arith, c.smaller.ensures.answer, min-le_right (part.count - part.base) 1055) in (
-      c.args.grouped.now.edges.narrow,
-      omega (arith, words-in (goal.at.get_words-requires c).After-smaller, c.requires.0),
+      c.requires.0,
+      omega (arith, words-in (goal.at.get_words-requires c).After-smaller, c.requires.1),
       omega (
         arith,
         ap length (take_rest (part.base / 8 * q) (c.args.stream.now)),
         length-drop (part.base / 8 * q) (c.args.stream.now),
         part-holds q part.count part.base c.smaller.result (length (c.args.stream.now))
-            (omega (arith, c.requires.5, c.requires.10)) (words-in (goal.at.get_words-requires c).After-smaller)
-            c.requires.1,
+            (omega (arith, c.requires.6, c.requires.11)) (words-in (goal.at.get_words-requires c).After-smaller)
+            c.requires.2,
       ),
       few,
     )
 
 -- the words unpacked hold those of the part
 held : (c : After-smaller) → (M P rest : List ℕ)
-    → P ≡ drop (c.args.part.base / 8 * c.args.grouped.now.edges.q) (c.args.stream.now)
-    → M ≡ unpacked c.args.grouped.now.edges.q c.smaller.result P ++ rest
+    → P ≡ drop (c.args.part.base / 8 * c.args.k.q) (c.args.stream.now)
+    → M ≡ unpacked c.args.k.q c.smaller.result P ++ rest
     → Held (read_by (lent_edges c.args.grouped.now) c.args.k)
-    (unpacked c.args.grouped.now.edges.q c.args.part.count (c.args.stream.now)) M c.args.part
+    (unpacked c.args.k.q c.args.part.count (c.args.stream.now)) M c.args.part
 held c M P rest p e =
-    part_held (read_by (lent_edges c.args.grouped.now) c.args.k) c.args.grouped.now.edges.q c.smaller.result
-    c.args.part (c.args.stream.now) M P rest c.requires.10 c.requires.5 c.requires.2 c.requires.3
-    c.smaller.ensures.answer c.requires.6
-    c.requires.7 c.requires.8 p e
+    part_held (read_by (lent_edges c.args.grouped.now) c.args.k) c.args.k.q c.smaller.result
+    c.args.part (c.args.stream.now) M P rest c.requires.11 c.requires.6 c.requires.3 c.requires.4
+    c.smaller.ensures.answer c.requires.7
+    c.requires.8 c.requires.9 p e
 
 pub count_in-requires : goal.count_in-requires
 count_in-requires c = (
   (
-    unpacked c.args.grouped.now.edges.q c.args.part.count (c.args.stream.now),
+    unpacked c.args.k.q c.args.part.count (c.args.stream.now),
     held (goal.at.count_in-requires c).After-smaller _ _ _
-        (take_rest (c.args.part.base / 8 * c.args.grouped.now.edges.q) (c.args.stream.now)) c.get_words.ensures.written,
+        (take_rest (c.args.part.base / 8 * c.args.k.q) (c.args.stream.now)) c.get_words.ensures.written,
   ),
-  c.requires.4,
-  c.requires.6,
-  c.requires.8,
+  c.requires.5,
+  c.requires.7,
   c.requires.9,
+  c.requires.10,
 )
 
 pub returns : goal.returns
 returns c =
     record {
-      answer = c.count_in.ensures.answer (unpacked c.args.grouped.now.edges.q c.args.part.count (c.args.stream.now))
+      answer = c.count_in.ensures.answer (unpacked c.args.k.q c.args.part.count (c.args.stream.now))
           (held (goal.at.returns c).After-smaller _ _ _
-          (take_rest (c.args.part.base / 8 * c.args.grouped.now.edges.q) (c.args.stream.now)) c.get_words.ensures.written);
+          (take_rest (c.args.part.base / 8 * c.args.k.q) (c.args.stream.now)) c.get_words.ensures.written);
     }

@@ -17,8 +17,8 @@ loop-i-init c =
       c.args.grouped.now.edges.fits.some,
       sym (ap (λ j. j + agreed (rows_of (lent_edges c.args.grouped.now)) c.args.grouped.now.edges.ways 0
           (drop j (due_in (lent_edges c.args.grouped.now) c.args.k
-          (unpacked c.args.grouped.now.edges.q c.args.count c.args.stream.now)))
-          (drop j (unpacked c.args.grouped.now.edges.q c.args.count c.args.stream.now))) z
+          (unpacked c.args.k.q c.args.count c.args.stream.now)))
+          (drop j (unpacked c.args.k.q c.args.count c.args.stream.now))) z
           ∙ zero-add _),
     )
 
@@ -33,6 +33,7 @@ count_part-r-requires c =
       c.requires.2,
       c.requires.3,
       c.requires.4,
+      c.requires.5,
       l.invariant.0,
       omega arith,
       omega (arith, min-le_left (l.i + 1024) c.args.count),
@@ -46,8 +47,8 @@ returns-then-place-end c =
     let l = c.loop-i in
     record {
       answer = part-stops (lent_edges c.args.grouped.now)
-          (due_in (lent_edges c.args.grouped.now) c.args.k (unpacked c.args.grouped.now.edges.q c.args.count c.args.stream.now))
-          (unpacked c.args.grouped.now.edges.q c.args.count c.args.stream.now) l.s l.i c.args.count l.invariant.2 _
+          (due_in (lent_edges c.args.grouped.now) c.args.k (unpacked c.args.k.q c.args.count c.args.stream.now))
+          (unpacked c.args.k.q c.args.count c.args.stream.now) l.s l.i c.args.count l.invariant.2 _
           c.count_part-r.result
           c.count_part-r.ensures.answer c.loop-i-test.true refl refl c.if-place-end.true;
     }
@@ -58,8 +59,8 @@ loop-i-preserved c =
       omega (arith, l.invariant.0),
       c.count_part-r.ensures.answer.inside,
       part-passes (lent_edges c.args.grouped.now)
-          (due_in (lent_edges c.args.grouped.now) c.args.k (unpacked c.args.grouped.now.edges.q c.args.count c.args.stream.now))
-          (unpacked c.args.grouped.now.edges.q c.args.count c.args.stream.now) l.s l.i c.args.count l.invariant.2 _
+          (due_in (lent_edges c.args.grouped.now) c.args.k (unpacked c.args.k.q c.args.count c.args.stream.now))
+          (unpacked c.args.k.q c.args.count c.args.stream.now) l.s l.i c.args.count l.invariant.2 _
           c.count_part-r.result
           c.count_part-r.ensures.answer c.loop-i-test.true refl refl c.if-place-end.false c.smaller-end.ensures.answer,
     )
@@ -68,12 +69,12 @@ pub returns : goal.returns
 returns c =
     let l = c.loop-i in
     let k = c.args.k in
-    let w = length-unpacked c.args.grouped.now.edges.q c.args.count c.args.stream.now in
+    let w = length-unpacked c.args.k.q c.args.count c.args.stream.now in
     record {
       answer = all-passed (lent_edges c.args.grouped.now)
-          (due_in (lent_edges c.args.grouped.now) c.args.k (unpacked c.args.grouped.now.edges.q c.args.count c.args.stream.now))
-          (unpacked c.args.grouped.now.edges.q c.args.count c.args.stream.now) l.s l.i c.args.count l.invariant.2 c.loop-i-test.false
+          (due_in (lent_edges c.args.grouped.now) c.args.k (unpacked c.args.k.q c.args.count c.args.stream.now))
+          (unpacked c.args.k.q c.args.count c.args.stream.now) l.s l.i c.args.count l.invariant.2 c.loop-i-test.false
           (length-followed (rows_of (lent_edges c.args.grouped.now)) k.memory k.lookahead k.tail
-          (unpacked c.args.grouped.now.edges.q c.args.count c.args.stream.now) (omega (arith, w, c.requires.4)))
+          (unpacked c.args.k.q c.args.count c.args.stream.now) (omega (arith, w, c.requires.5)))
           (sym w);
     }

@@ -10,7 +10,7 @@ use Rattle.stream_verify.proofs.parts.count_parts.Given as goal
 
 abbrev pub invariant-loop-i : goal.invariant-loop-i
 invariant-loop-i l =
-    let ws = unpacked l.grouped.edges.q l.count l.stream in
+    let ws = unpacked l.k.q l.count l.stream in
     let ds = due_in (lent_edges l.grouped) l.k ws in
     (l.i % 8 ≡ 0) × (l.s < l.grouped.edges.states)
     × (come_back (lent_edges l.grouped) l.k ws ≡ min l.i l.count
