@@ -1,14 +1,14 @@
 -- Laws of a list of pairs, and of its walks.
--- In order: turned, suc-one, found-elem, place-index, placed, index-le; leads-small; walked_on, walked_end, pairs_start,
--- the walks of all pairs.
+-- In order: adjoin-old, adjoin-new; turned, suc-one, found-elem, place-index, placed, index-le; leads-small; walked_on,
+-- walked_end, pairs_start, the walks of all pairs.
 -- Assumes nothing.
-use Rattle.std.proofs.Common.{◌≡◌, ◌∷◌, ◌+◌, ◌-◌, ◌/◌, ◌%◌, ◌≤◌, ◌<◌, if◌then◌else◌}
+use Rattle.std.proofs.Common.{◌≡◌, ◌∷◌, ◌++◌, ◌+◌, ◌-◌, ◌/◌, ◌%◌, ◌≤◌, ◌<◌, if◌then◌else◌}
 use Rattle.laws.proofs.All.{refl, sym, ap, subst, ◌∙◌, Bool, true, false, not, List, [], ℕ}
 use Rattle.laws.proofs.All.{suc, add-one, arith, ltb-false, T, eqb}
 use Rattle.laws.proofs.All.{length, elem}
-use Rattle.laws.proofs.All.{index_of}
+use Rattle.laws.proofs.All.{index_of, index-elem, index-lt}
 use Rattle.constraint.specs.Walking.{Constraint, after}
-use Rattle.joining.specs.Joined.{allowed, walked, walked_from, pairs}
+use Rattle.joining.specs.Joined.{allowed, adjoin, walked, walked_from, pairs}
 use Rattle.std.proofs.Common.{nat_eq, ◌||◌}
 use Rattle.std.specs.List.{list_any, position, position_or_len}
 use Rattle.std.proofs.lemmas.List.Recursion.{is_position_or_len}
@@ -17,6 +17,18 @@ use Rattle.std.proofs.lemmas.List.Sums.{prefix_len-le-length}
 use Rattle.std.proofs.Common.{nat_lt, unwrap_or, cond, Some, None}
 use Rattle.joining.specs.Small.{Small}
 use Rattle.joining.proofs.Pairs.{allowed-both}
+
+-- ---- a number adjoined
+module _ (z : ℕ) (l : List ℕ) where
+  pub adjoin-old : index_of z l < length l → adjoin z l ≡ l
+  adjoin-old h = rw (index-elem z l h)
+
+  pub adjoin-new : length l ≤ index_of z l → adjoin z l ≡ l ++ z ∷ []
+  adjoin-new h = go (elem z l) refl
+    where
+      go : (b : Bool) → elem z l ≡ b → (if b then l else l ++ z ∷ []) ≡ l ++ z ∷ []
+      go true e = absurd (omega (arith, index-lt z l (subst T (sym e) tt)))
+      go false e = refl
 
 -- ---- what is found in a list
 turned : (x y : ℕ) → nat_eq x y ≡ eqb y x

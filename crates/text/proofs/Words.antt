@@ -1,5 +1,5 @@
 -- Words in binary digit by digit, and when two texts are the same.
--- In order: bit-none, bit-one; binary-more; length-binary; same_refl, same→; same_pointwise.
+-- In order: bit-none, bit-one; binary-more; length-binary; same_refl, same→, same-is; same_pointwise.
 -- Assumes nothing.
 use Rattle.std.proofs.Common.{◌≡◌, ◌∷◌, ◌++◌, ◌-◌, ◌/◌, ◌%◌, ◌^◌, ◌<◌, ◌&&◌, if◌then◌else◌}
 use Rattle.laws.proofs.All.{refl, sym, ap, ap₂, subst, ◌∙◌, Bool, true, false, List, []}
@@ -44,6 +44,15 @@ same→ (x ∷ xs) (y ∷ ys) e = go (eqb x y) refl e (same→ xs ys)
         → x ∷ xs ≡ y ∷ ys
     go true q e f = ap₂ ◌∷◌ (eqb-true x y q) (f e)
     go false q e f = absurd (subst T (sym e) tt)
+
+-- THEOREM: an answer that is true exactly of the same text
+pub same-is : (r : Bool) (xs ys : List ℕ) → (r ≡ true → xs ≡ ys) → (xs ≡ ys → r ≡ true) → r ≡ same xs ys
+same-is true xs ys f g = sym (ap (same xs) (sym (f refl)) ∙ same_refl xs)
+same-is false xs ys f g = go (same xs ys) refl
+  where
+    go : (b : Bool) → same xs ys ≡ b → false ≡ b
+    go true e = absurd (subst T (sym (g (same→ xs ys e))) tt)
+    go false e = refl
 
 -- a test byte by byte
 pub same_pointwise : (xs ys : List ℕ) → pointwise eqb xs ys ≡ same xs ys
