@@ -1,7 +1,7 @@
 // Sets of pairs of states, for each first state a set of second states, and where two edges with one word lead them.
 #![tactic(auto)]
 
-ghost use Rattle.std.specs.Prelude.{◌≡◌, true, ◌&&◌, ◌||◌, ℕ, ◌<◌, eqb};
+ghost use Rattle.std.specs.Prelude.{Some, None, ◌≡◌, true, ◌&&◌, ◌||◌, ℕ, ◌<◌, eqb};
 ghost use Rattle.laws.specs.Lists.{any};
 ghost use Rattle.table.specs.Marks.{some};
 ghost use Rattle.table.specs.Edges.{places};
@@ -77,17 +77,23 @@ fn mark_edges(
     }
 }
 
-// Marks where two edges with one word lead from the pairs, of which one carries the datum k and the other does not;
-// where there is no datum, any two.
-fn mark_pairs(chains: &Chains, pairs: &[BitSet; 128], k: Option<usize>, out: &mut [BitSet; 128])
-    requires { Long out.old }
-    ensures written { Marked out.old (joins_by (edges_in chains.now.edges) pairs.now k) 256 out.new }
+// Marks where two edges with the word w lead from the pairs, of which one carries the datum k and the other does not;
+// where there is no datum, any two. The sets in `targets` are written over.
+fn mark_word(
+    chains: &Chains,
+    pairs: &[BitSet; 128],
+    w: usize,
+    k: Option<usize>,
+    targets: &mut [BitSet; 128],
+    out: &mut [BitSet; 128],
+)
+    requires { (w < 256) × Long targets.old × Long out.old }
+    ensures written { Marked out.old (joins (edges_in chains.now.edges) pairs.now w k)
+        (places (edges_in chains.now.edges)) out.new }
+    ensures kept { Long targets.new }
 {
-    let mut targets = [BitSet::none(); 128];
-    for w in 0..256 {
-        let have = gather(chains, w, k, &mut targets);
-        mark_edges(chains, pairs, w, k, have, &targets, out);
-    }
+    let have = gather(chains, w, k, targets);
+    mark_edges(chains, pairs, w, k, have, targets, out);
 }
 
 // Puts into `out` where two edges with one word lead from the pairs.
@@ -97,17 +103,40 @@ pub fn step_pairs(chains: &Chains, pairs: &[BitSet; 128], out: &mut [BitSet; 128
         ≡ some (joins_by (edges_in chains.now.edges) pairs.now None u v) 256) }
 {
     clear(chains.edges.states, out);
-    mark_pairs(chains, pairs, None, out);
+    let mut targets = [BitSet::none(); 128];
+    for w in 0..256 {
+        mark_word(chains, pairs, w, None, &mut targets, out);
+    }
 }
 
-// Puts into `out` where two edges with one word and different data lead from the pairs.
+// Marks where two edges with the word w and different data lead from the pairs.
+fn mark_clashes(
+    chains: &Chains,
+    pairs: &[BitSet; 128],
+    w: usize,
+    targets: &mut [BitSet; 128],
+    out: &mut [BitSet; 128],
+)
+    requires { (w < 256) × Long targets.old × Long out.old }
+    ensures written { Marked out.old (λ u v d. joins_by (edges_in chains.now.edges) pairs.now (Some d) u v w)
+        chains.now.edges.ways out.new }
+    ensures kept { Long targets.new }
+{
+    for datum in 0..chains.edges.ways {
+        mark_word(chains, pairs, w, Some(datum), targets, out);
+    }
+}
+
+// Puts into `out` where two edges with one word and different data lead from the pairs. The edges with one word are met
+// for all data in a row.
 pub fn clash_pairs(chains: &Chains, pairs: &[BitSet; 128], out: &mut [BitSet; 128])
     requires { Long out.old }
     ensures written { Long out.new × ((u v : ℕ) → u < chains.now.edges.states → holds (set_at out.new u) v
         ≡ some (clashes_by (edges_in chains.now.edges) pairs.now u v) 256) }
 {
     clear(chains.edges.states, out);
-    for datum in 0..chains.edges.ways {
-        mark_pairs(chains, pairs, Some(datum), out);
+    let mut targets = [BitSet::none(); 128];
+    for w in 0..256 {
+        mark_clashes(chains, pairs, w, &mut targets, out);
     }
 }
