@@ -51,7 +51,9 @@ fn copy(states: usize, set: &[BitSet; 128], out: &mut [BitSet; 128])
     requires { (states ≤ 128) × Long out.old }
     ensures written { Long out.new × (take states out.new ≡ take states set.now) }
 {
-    out[..states].copy_from_slice(&set[..states]);
+    for x in 0..states {
+        out[x] = set[x];
+    }
 }
 
 // Makes the set `out` hold the pairs of `set`; whether it had the same rows before.
