@@ -4,10 +4,10 @@ ghost use Rattle.laws.specs.Lists.{any, range};
 ghost use Rattle.compile_graph.specs.Arcs.{out};
 ghost use Rattle.compile_graph.specs.Splitting.{greatest, splittable, chosen, lighter, candidates, sort};
 ghost use Rattle.compile_graph.specs.Value.{weights_in, arcs_in, Fits};
-ghost use Rattle.compile_order.specs.EdgeKeys.{arc_of};
+ghost use Rattle.compile_order.specs.EdgeKeys.{keys_in, arc_of};
 
 use compile_graph::Graph;
-use compile_order::keys::{Keys, first_edges};
+use compile_order::keys::{Keys, first_edges, in_front};
 
 // The greatest weight.
 pub fn greatest_weight(g: Graph) -> u8
@@ -41,12 +41,11 @@ pub fn choose(g: Graph, m: u8) -> usize
 // "its first edge to a lighter state, then its first n − 1 other edges".
 pub fn candidate_keys(g: Graph, s: usize, m: u8, n: usize) -> Keys
     requires { Fits g × (0 < n) × (n ≤ 16) × T (any (lighter (weights_in g) m) (out (arcs_in g) s)) }
-    ensures answer { (map (arc_of s) result.items ≡ candidates n (weights_in g) m (sort (out (arcs_in g) s)))
-        × (length result.items ≤ n) }
+    ensures answer { (map (arc_of s) (keys_in result) ≡ candidates n (weights_in g) m (sort (out (arcs_in g) s)))
+        × (result.count ≤ n) }
 {
     let light = first_edges(g, s, m as usize, 65535, 1);
-    let first = light[0];
-    let mut keys = first_edges(g, s, 256, first, n - 1);
-    keys.insert(0, first);
-    keys
+    let first = light.key[0];
+    let others = first_edges(g, s, 256, first, n - 1);
+    in_front(others, first)
 }

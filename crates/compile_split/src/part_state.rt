@@ -37,10 +37,10 @@ pub fn part_state(g: Graph, s: usize, m: u8, n: usize) -> Graph
     ensures answer { PartedInto n g s result }
 {
     let list = candidate_keys(g, s, m, n);
-    let weights = key_weights(g, &list);
-    let run = first_run(&weights, n);
+    let weights = key_weights(g, list.as_slice());
+    let run = first_run(weights.as_slice(), n);
     let share = (run.total / n) as u8;
-    let moved = move_edges(g, s, &list[run.from..run.from + run.count]);
+    let moved = move_edges(g, s, &list.as_slice()[run.from..run.from + run.count]);
     let grown = double_edges(moved, s);
     weigh(grown, s, share)
 }

@@ -58,7 +58,7 @@ fn reach_rows(g: Graph, n: usize) -> [bool; 128]
     let mut done = [false; 128];
     while let Some(s) = next_open(set, done, g.states) {
         let list = first_edges(g, s, 256, 65535, n);
-        set = mark_targets(&list, set);
+        set = mark_targets(list.as_slice(), set);
         done[s] = true;
     }
     set
@@ -107,7 +107,7 @@ fn add_row(
     ensures answer { RowPut rows (first_keys g t 256 65535 n) index i n result }
 {
     let list = first_edges(g, t, 256, 65535, n);
-    put_row(rows, &list, index, i)
+    put_row(rows, list.as_slice(), index, i)
 }
 
 // The table of a graph that is split to the end.

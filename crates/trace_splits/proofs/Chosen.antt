@@ -1,16 +1,16 @@
 -- The choice that the code finds is the rule's.
 -- In order: chosen-in; chosen-line.
 -- Assumes nothing.
-use Rattle.std.proofs.Common.{◌≡◌, ◌+◌, ◌/◌, ◌≤◌}
-use Rattle.laws.proofs.All.{sym, ap, ap₂, ◌∙◌, List, map, ℕ, length, get_or, length-map-range}
+use Rattle.std.proofs.Common.{◌≡◌, ◌/◌}
+use Rattle.laws.proofs.All.{sym, ap, ap₂, ◌∙◌, List, map, ℕ, get_or, length-map-range}
 use Rattle.compile_graph.specs.declared.Graph.{Graph}
-use Rattle.arrayvec.specs.ArrayVec.{ArrayVec}
+use Rattle.compile_order.specs.declared.list.Keys.{Keys}
 use Rattle.compile_choice.specs.declared.find_run.Run.{Run}
 use Rattle.compile_graph.specs.Arcs.{Work}
 use Rattle.compile_graph.specs.Weights.{total}
 use Rattle.compile_graph.specs.Splitting.{chosen, kept}
 use Rattle.compile_graph.specs.Value.{weight_at, weights_in, arcs_in, work_in}
-use Rattle.compile_order.specs.EdgeKeys.{key_weight}
+use Rattle.compile_order.specs.EdgeKeys.{keys_in, key_weight}
 use Rattle.compile_choice.specs.ChoiceParts.{FirstRun}
 use Rattle.compile_split.proofs.SplitState.{Keyed, inside-run, kept-is, kept-total, share-le}
 use Rattle.text.specs.Texts.{Added}
@@ -20,11 +20,8 @@ use Rattle.trace_splits.specs.SplitText.{part_line, split_line}
 use Rattle.trace_splits.specs.ChoiceParts.{ChosenIn}
 use Rattle.compile_split.specs.SplitParts.{kept_arcs}
 
-module _ {n : ℕ} {g : Graph} {s M : ℕ} {list : ArrayVec ℕ} (k : Keyed n g s M list.items) (w : List ℕ)
-    (w-is : w ≡ map (key_weight g) list.items) (run : Run) (run_is : FirstRun n w run) where
-  within : run.from + run.count ≤ length list.items
-  within = inside-run k w w-is run run_is
-
+module _ {n : ℕ} {g : Graph} {s M : ℕ} {list : Keys} (k : Keyed n g s M (keys_in list)) (w : List ℕ)
+    (w-is : w ≡ map (key_weight g) (keys_in list)) (run : Run) (run_is : FirstRun n w run) where
   -- THEOREM: state, weight, run and shares are those of the rule
   pub chosen-in : s ≡ chosen (weights_in g) (arcs_in g) → ChosenIn n (work_in g) (record {
     state = s;
@@ -40,13 +37,13 @@ module _ {n : ℕ} {g : Graph} {s M : ℕ} {list : ArrayVec ℕ} (k : Keyed n g 
     edges = kept-is k w w-is run run_is;
     share = ap (λ t. t / n) (sym (kept-total k w w-is run run_is));
     fresh = sym (length-map-range (weight_at g) g.states);
-    inside = within;
+    inside = inside-run k w w-is run run_is;
     less = share-le k w w-is run run_is;
   }
 
 -- THEOREM: so its line is that of the split
 pub chosen-line : (q : ℕ) {n : ℕ} {x : Work} {c : Choice} → ChosenIn n x c → {at r : ℕ} {B C : List ℕ}
-    → Added (part_line q c.state c.weight (kept_arcs c.state c.keys.items c.run) c.share
+    → Added (part_line q c.state c.weight (kept_arcs c.state (keys_in c.keys) c.run) c.share
     c.fresh) at B C r
     → Added (split_line q n x) at B C r
 unfolding split_line

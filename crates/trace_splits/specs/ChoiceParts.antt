@@ -9,6 +9,7 @@ use Rattle.compile_graph.specs.Arcs.{Work}
 use Rattle.compile_graph.specs.Weights.{total}
 use Rattle.compile_graph.specs.Splitting.{splittable, chosen, kept}
 use Rattle.compile_graph.specs.Value.{weights_in, arcs_in, Fits}
+use Rattle.compile_order.specs.EdgeKeys.{keys_in}
 use Rattle.compile_split.specs.SplitParts.{Splits, kept_arcs}
 use Rattle.trace_splits.specs.declared.choices.Choice.{Choice}
 use Rattle.trace_splits.specs.SplitText.{edge_text}
@@ -34,8 +35,8 @@ Ripe n g =
 pub record ChosenIn (n : ℕ) (x : Work) (c : Choice) : Type 0 where
   pub state : c.state ≡ chosen x.weights x.arcs
   pub weight : c.weight ≡ get_or x.weights c.state 0
-  pub edges : kept_arcs c.state c.keys.items c.run ≡ kept n x.weights x.arcs c.state
+  pub edges : kept_arcs c.state (keys_in c.keys) c.run ≡ kept n x.weights x.arcs c.state
   pub share : c.share ≡ total x.weights (kept n x.weights x.arcs c.state) / n
   pub fresh : c.fresh ≡ length x.weights
-  pub inside : c.run.from + c.run.count ≤ length c.keys.items
+  pub inside : c.run.from + c.run.count ≤ length (keys_in c.keys)
   pub less : c.share ≤ c.weight

@@ -9,7 +9,7 @@ use compile_order::keys::{Keys, key_weights};
 
 // The state to split and its weight, the weight that it keeps, the number of the new state, and the run of keys of the
 // edges that it keeps.
-#[derive(Drop)]
+#[derive(Clone, Copy)]
 pub struct Choice {
     pub state: usize,
     pub weight: usize,
@@ -27,8 +27,8 @@ pub fn next_choice(g: Graph, n: usize) -> Choice
     let m = greatest_weight(g);
     let s = choose(g, m);
     let keys = candidate_keys(g, s, m, n);
-    let weights = key_weights(g, &keys);
-    let run = first_run(&weights, n);
+    let weights = key_weights(g, keys.as_slice());
+    let run = first_run(weights.as_slice(), n);
     Choice {
         state: s,
         weight: m as usize,

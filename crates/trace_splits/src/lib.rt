@@ -54,7 +54,7 @@ fn write_split(to: &mut Writer, g: Graph, n: usize, q: usize)
     ensures written { Added (split_line q n (work_in g)) to.old.at to.old.out.now to.new.out.now to.new.at }
 {
     let c = next_choice(g, n);
-    let kept = &c.keys[c.run.from..c.run.from + c.run.count];
+    let kept = &c.keys.as_slice()[c.run.from..c.run.from + c.run.count];
     write_kept(to, c.state, c.weight, kept, q);
     write_sentence(
         to,

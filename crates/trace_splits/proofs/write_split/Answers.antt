@@ -11,5 +11,5 @@ unfolding part_line
 returns-clause-written c =
     let r = c.next_choice-c.result.run in
     let z : r.from + r.count - r.from ≡ r.count = omega arith in
-    let kept = rw (c.deref.ensures.0, z) at c.write_kept.ensures.written in
+    let kept = rw (c.as_slice.ensures.answer, z) at c.write_kept.ensures.written in
     chosen-line _ c.next_choice-c.ensures.answer (kept then c.write_sentence.ensures.written)

@@ -7,7 +7,7 @@ pub put_row-requires : goal.put_row-requires
 put_row-requires c =
     let p = c.args in
     let n = keys-long p.n p.g c.requires.0 p.t c.requires.1 in
-    let e = c.deref.ensures.0 ∙ c.first_edges-list.ensures.answer.0 in
+    let e = c.as_slice.ensures.answer ∙ c.first_edges-list.ensures.answer.0 in
     rw (e, n) (
       c.requires.0.few,
       c.requires.2,
@@ -21,5 +21,5 @@ pub returns : goal.returns
 returns c =
     let p = c.args in
     let n = keys-long p.n p.g c.requires.0 p.t c.requires.1 in
-    let e = c.deref.ensures.0 ∙ c.first_edges-list.ensures.answer.0 in
+    let e = c.as_slice.ensures.answer ∙ c.first_edges-list.ensures.answer.0 in
     record { answer = rw (e, n) at c.put_row.ensures.answer }

@@ -35,7 +35,7 @@ loop-s-preserved c =
       l.invariant.0,
       forward-step p.n p.g l.invariant.0 l.set l.done l.invariant.1 s o.0
           (open-set (member l.set s) (member l.done s) o.1)
-          c.deref.result.now (c.deref.ensures.0 ∙ c.first_edges-list.ensures.answer.0)
+          c.as_slice.result.now (c.as_slice.ensures.answer ∙ c.first_edges-list.ensures.answer.0)
           c.mark_targets-set.result a c.mark_targets-set.ensures.answer,
     )
 
