@@ -65,6 +65,9 @@ pub fn weights_pass(
     if first_over(v, k, cap).is_some() {
         return false;
     }
+    if !is_some(v, k) {
+        return false;
+    }
     let count = word_counts(power, words, k);
-    is_some(v, k) && first_unmet(&count, v, k, n).is_none()
+    first_unmet(&count, v, k, n).is_none()
 }

@@ -42,31 +42,31 @@ first_unmet-requires c =
           c.requires.2,
     )
 
-pub returns-then-is_some-2 : goal.returns-then-is_some-2
-returns-then-is_some-2 c =
+pub returns-then-not-is_some : goal.returns-then-not-is_some
+returns-then-not-is_some c =
+    let a = c.args in
+    let m = all (meets a.n (tabled a.power.now a.words a.k) (take a.k a.v)) (range a.k) in
+    record {
+      answer = sym (passing-parts a.n a.cap a.k (tabled a.power.now a.words a.k) a.v c.requires.0.states
+          (wide (goal.at.returns-then-not-is_some c).Start)
+          ∙ ap₂ (λ b d. b && (d && m))
+          (lows (goal.at.returns-then-not-is_some c).After-first_over
+          ∙ ap not (sym c.is_some.ensures ∙ c.if-is_some.false))
+          (sym c.is_some-2.ensures.answer ∙ c.if-not-is_some.true));
+    }
+
+pub returns : goal.returns
+returns c =
     let a = c.args in
     let m = all (meets a.n (tabled a.power.now a.words a.k) (take a.k a.v)) (range a.k) in
     let e = met-by a.power.now c.word_counts-count.result a.words a.k a.n c.requires.0.states c.requires.1
-    (λ x h. (c.word_counts-count.ensures.answer x h).0) a.v (wide (goal.at.returns-then-is_some-2 c).Start)
+    (λ x h. (c.word_counts-count.ensures.answer x h).0) a.v (wide (goal.at.returns c).Start)
     c.first_unmet.result c.first_unmet.ensures.answer c.first_unmet.ensures.there in
     record {
       answer = sym (passing-parts a.n a.cap a.k (tabled a.power.now a.words a.k) a.v c.requires.0.states
-          (wide (goal.at.returns-then-is_some-2 c).Start)
+          (wide (goal.at.returns c).Start)
           ∙ ap₂ (λ b d. b && (d && m))
-          (lows (goal.at.returns-then-is_some-2 c).After-first_over
-          ∙ ap not (sym c.is_some.ensures ∙ c.if-is_some.false))
-          (sym c.is_some-2.ensures.answer ∙ c.if-is_some-2.true) ∙ e ∙ ap not c.is_none.ensures ∙ not_not c.is_none.result);
-    }
-
-pub returns-else-is_some-2 : goal.returns-else-is_some-2
-returns-else-is_some-2 c =
-    let a = c.args in
-    let m = all (meets a.n (tabled a.power.now a.words a.k) (take a.k a.v)) (range a.k) in
-    record {
-      answer = c.if-is_some-2.false ∙ sym (passing-parts a.n a.cap a.k (tabled a.power.now a.words a.k) a.v
-          c.requires.0.states (wide (goal.at.returns-else-is_some-2 c).Start)
-          ∙ ap₂ (λ b d. b && (d && m))
-          (lows (goal.at.returns-else-is_some-2 c).After-first_over
-          ∙ ap not (sym c.is_some.ensures ∙ c.if-is_some.false))
-          (sym c.is_some-2.ensures.answer ∙ c.if-is_some-2.false));
+          (lows (goal.at.returns c).After-first_over ∙ ap not (sym c.is_some.ensures ∙ c.if-is_some.false))
+          (sym c.is_some-2.ensures.answer ∙ c.if-not-is_some.false)
+          ∙ e ∙ ap not c.is_none.ensures ∙ not_not c.is_none.result);
     }
