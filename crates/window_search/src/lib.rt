@@ -75,7 +75,7 @@ fn least(chains: &Chains) -> Option<Window>
     let mut spare = [BitSet::none(); 128];
     fill(chains.edges.states, &mut past);
     let mut best = None;
-    for m in 0..16 {
+    for m in 0..15 {
         best = try_memory(chains, &past, best, m, &mut set, &mut spare);
         if sum_of(best) <= m {
             return best;
@@ -84,7 +84,7 @@ fn least(chains: &Chains) -> Option<Window>
             return best;
         }
     }
-    best
+    try_memory(chains, &past, best, 15, &mut set, &mut spare)
 }
 
 // The window with least memory and lookahead together, then with least lookahead, up to 15 and 15.

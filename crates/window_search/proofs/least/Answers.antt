@@ -60,10 +60,7 @@ loop-m-preserved c = (
 )
 
 pub returns : goal.returns
-returns c =
-    let l = c.loop-m in
-    let e : l.m ≡ 16 = omega arith in
-    record {
-      answer = lead-done (rows_of (edges_in c.args.chains.now.edges)) l.m _ l.invariant.2 (omega arith)
-          (inl (omega arith));
-    }
+returns c = record {
+  answer = lead-done (rows_of (edges_in c.args.chains.now.edges)) 16 _ c.try_memory.ensures.answer (omega arith)
+      (inl (omega arith));
+}
