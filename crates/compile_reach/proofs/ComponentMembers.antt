@@ -1,5 +1,6 @@
 -- The component's states by loops over all states.
--- In order: found-lt; reaches-at, weighs-at; fails, returning-yes, returning-no; lowest, lowest-at, lowest-none; kept,
+-- In order: found-lt; reaches-at, weighs-at; fails, returning-yes, returning-no; lowest, lowest-at, lowest-none; some-returns,
+-- none-returns; kept,
 -- component-is.
 -- Assumes nothing.
 use Rattle.std.proofs.Common.{Option, None, Some, IfSome, unwrap_or, ◌≡◌, ◌&&◌, ◌||◌, ◌≤◌, ◌<◌}
@@ -7,6 +8,7 @@ use Rattle.laws.proofs.All.{refl, sym, ap, ap₂, ◌∙◌, Bool, true, false, 
 use Rattle.laws.proofs.All.{arith, ltb, length, get_or, take, length-take-le, get_or-take, range, filter, all, first}
 use Rattle.laws.proofs.All.{member, map-range-at, each_map, each-range, first-least, filter_same, all_filter}
 use Rattle.laws.proofs.All.{filter-fuse, first-filter, all-range-false, all-range-true, first-range-none}
+use Rattle.laws.proofs.All.{any, any-filter, any_none, any-range-same, →any-below, T→true}
 use Rattle.compile_graph.specs.Component.{reaches, returns, returning, weighs, live}
 use Rattle.compile_reach.specs.ReachSets.{reach_at, row_of, rows_of}
 
@@ -85,6 +87,25 @@ module _ (M : List Bool) (v : List ℕ) (k : ℕ) (few : k ≤ 16) (long : lengt
 
   pub lowest-none : ((j : ℕ) → j < k → (weighs weight j && returning R (live weight) j) ≡ false) → 0 ≡ lowest
   lowest-none f = sym (lowest-is ∙ first-range-none (λ s. weighs weight s && returning R (live weight) s) 0 k f)
+
+  -- ---- whether one returns
+  some-is : any (returning R (live weight)) (live weight)
+      ≡ any (λ s. weighs weight s && returning R (live weight) s) (range k)
+  some-is =
+      ap (any (returning R (live weight))) live-is
+      ∙ any-filter (returning R (live weight)) (weighs weight) (range k)
+
+  pub some-returns : (s : ℕ) → s < k → (weighs weight s && returning R (live weight) s) ≡ true
+      → any (returning R (live weight)) (live weight) ≡ true
+  some-returns s h e =
+      let p : ℕ → Bool = λ j. weighs weight j && returning R (live weight) j in
+      some-is ∙ T→true (any p (range k)) (→any-below p k s h (rw e tt))
+
+  pub none-returns : ((j : ℕ) → j < k → (weighs weight j && returning R (live weight) j) ≡ false)
+      → any (returning R (live weight)) (live weight) ≡ false
+  none-returns f =
+      some-is ∙ any-range-same (λ s. weighs weight s && returning R (live weight) s) (λ s. false) k f
+      ∙ any_none (range k)
 
   -- ---- the states reached from s
   module _ (s : ℕ) (hs : s < k) where

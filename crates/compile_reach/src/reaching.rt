@@ -1,6 +1,6 @@
 // "Component." Sets of states stand one beside the other: place t * 16 + s says whether s can reach t.
 ghost use Rattle.std.specs.Prelude.{◌≡◌, Bool, true, false, not, ◌&&◌, ◌||◌, List, ℕ, ◌+◌, ◌*◌, ◌/◌, ◌%◌, ◌≤◌, ◌<◌};
-ghost use Rattle.std.specs.Prelude.{eqb, ltb, IfSome, length, get_or, take};
+ghost use Rattle.std.specs.Prelude.{eqb, ltb, is_some, IfSome, length, get_or, take};
 ghost use Rattle.std.specs.Option.{unwrap_or};
 ghost use Rattle.laws.specs.Lists.{range, any, first, filter};
 ghost use Rattle.compile_graph.specs.Arcs.{Arc};
@@ -131,6 +131,7 @@ pub fn first_returning(m: &[bool; 256], v: [usize; 16], k: usize) -> Option<usiz
     requires { (length m.now ≡ 256) × (k ≤ 16) }
     ensures answer { unwrap_or result 0 ≡ first (returning (rows_of m.now k) (live (take k v))) 0 (live (take k v)) }
     ensures there { IfSome result (λ s. s < k) }
+    ensures told { is_some result ≡ any (returning (rows_of m.now k) (live (take k v))) (live (take k v)) }
 {
     for s in 0..k {
         if is_returning(m, v, k, s) {

@@ -1,5 +1,5 @@
 use Rattle.laws.proofs.All.{sym, ◌∙◌, arith, below_more, length}
-use Rattle.compile_reach.proofs.ComponentMembers.{lowest-at, lowest-none}
+use Rattle.compile_reach.proofs.ComponentMembers.{lowest-at, lowest-none, some-returns, none-returns}
 use Rattle.std.proofs.Common.{◌≡◌, rules}
 use Rattle.compile_reach.proofs.reaching.first_returning.Goals as goal
 
@@ -13,9 +13,10 @@ pub returns-then-is_returning : goal.returns-then-is_returning
 returns-then-is_returning c =
     let p = c.args in
     let a : length p.v ≡ 16 = search rules in
+    let e = sym c.is_returning.ensures.answer ∙ c.if-is_returning.true in
     record {
-      answer = lowest-at p.m.now p.v p.k c.requires.1 a c.loop-s.s c.loop-s-test.true c.loop-s.invariant
-          (sym c.is_returning.ensures.answer ∙ c.if-is_returning.true);
+      told = sym (some-returns p.m.now p.v p.k c.requires.1 a c.loop-s.s c.loop-s-test.true e);
+      answer = lowest-at p.m.now p.v p.k c.requires.1 a c.loop-s.s c.loop-s-test.true c.loop-s.invariant e;
       there = c.loop-s-test.true;
     }
 
@@ -23,11 +24,14 @@ pub loop-s-preserved : goal.loop-s-preserved
 loop-s-preserved c =
     below_more _ _ c.loop-s.invariant (sym c.is_returning.ensures.answer ∙ c.if-is_returning.false)
 
-pub returns : goal.returns
-returns c =
+pub returns-clause-answer : goal.returns-clause-answer
+returns-clause-answer c =
     let p = c.args in
     let a : length p.v ≡ 16 = search rules in
-    record {
-      answer = lowest-none p.m.now p.v p.k c.requires.1 a (λ j h. c.loop-s.invariant j (omega arith));
-      there = tt;
-    }
+    lowest-none p.m.now p.v p.k c.requires.1 a (λ j h. c.loop-s.invariant j (omega arith))
+
+pub returns-clause-told : goal.returns-clause-told
+returns-clause-told c =
+    let p = c.args in
+    let a : length p.v ≡ 16 = search rules in
+    sym (none-returns p.m.now p.v p.k c.requires.1 a (λ j h. c.loop-s.invariant j (omega arith)))
