@@ -16,6 +16,13 @@ pub struct Waiting {
     pub ghost small: { held < 2 ^ count },
 }
 
+// No bit waits, and the first byte is next.
+pub const NONE: Waiting = Waiting {
+    at: 0,
+    count: 0,
+    held: 0,
+};
+
 impl Waiting {
     ghost use Rattle.std.specs.Prelude.{[]};
     ghost use Rattle.stream_pack.specs.Waiting.{Waits};
@@ -24,11 +31,7 @@ impl Waiting {
     pub fn none() -> Waiting
         ensures answer { (lent : List ℕ) → Waits [] result lent lent }
     {
-        Waiting {
-            at: 0,
-            count: 0,
-            held: 0,
-        }
+        NONE
     }
 
     // What waits after one word more. The byte that the word fills is written.

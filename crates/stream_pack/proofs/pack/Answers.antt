@@ -9,7 +9,7 @@ use Rattle.answer.proofs.Outcomes.{handed_on}
 use Rattle.stream_pack.specs.Streams.{limit, stream_size, good_width, packed, pack_into}
 use Rattle.stream_pack.proofs.Streams.{packed-size}
 use Rattle.stream_pack.proofs.Checks.{width→, pack-1, pack-15, pack-13, pack-last}
-use Rattle.stream_pack.proofs.pack.Goals.{Else-not-is_width, Else-out-size}
+use Rattle.stream_pack.proofs.pack.Goals.{Else-not-is_width}
 use Rattle.stream_pack.proofs.pack.Goals as goal
 
 wide : (c : Else-not-is_width) → good_width c.args.q ≡ true
@@ -46,22 +46,14 @@ returns-then-out-size c =
     (omega (arith, c.stream_size-size.ensures.answer, c.if-out-size.true))) in
     record { answer = w.0; written = w.1 }
 
--- with room enough only the words are left to check
-last : (c : Else-out-size) → let a = c.args in
-    good_width a.q ≡ true → length a.words.now ≤ limit
-    → pack_into a.q (length a.out.now) a.words.now ≡ all_below (2 ^ a.q) a.words.now (packed a.q a.words.now)
-last c g h =
-    let a = c.args in
-    pack-last a.q (length a.out.now) a.words.now g h
-    (omega (arith, c.stream_size-size.ensures.answer, c.if-out-size.false))
-
 pub returns-in_err-check_below : goal.returns-in_err-check_below
 returns-in_err-check_below c =
     let i = goal.at.returns-in_err-check_below c in
     let a = c.args in
     let ws = a.words.now in
     let w = declined (pack_into a.q (length a.out.now) ws) _ a.out.now
-    (last i.Else-out-size (wide i.Else-not-is_width) (omega arith)
+    (pack-last a.q (length a.out.now) ws (wide i.Else-not-is_width) (omega arith)
+    (omega (arith, c.stream_size-size.ensures.answer, c.if-out-size.false))
     ∙ ap (λ n. all_below n ws (packed a.q ws)) (sym c.power.ensures.answer)
     ∙ sym (c.in_err-check_below.ensures.answer (packed a.q ws))) in
     rw (handed_on _ _ c.from_residual.ensures.1) (record { answer = w.0; written = w.1 })
@@ -86,7 +78,7 @@ returns c =
     let out = a.out.now in
     let n : c.stream_size-size.result ≡ stream_size a.q (length ws) = c.stream_size-size.ensures.answer in
     let w = finished (pack_into a.q (length out) ws) (packed a.q ws) out _ c.stream_size-size.result
-    (last i.Else-out-size (wide i.Else-not-is_width) (omega arith)
+    (pack-last a.q (length out) ws (wide i.Else-not-is_width) (omega arith) (omega (arith, n, c.if-out-size.false))
     ∙ ap (λ n. all_below n ws (packed a.q ws)) (sym c.power.ensures.answer)
     ∙ sym (c.in_ok-check_below.ensures.answer (packed a.q ws)))
     (n ∙ sym (packed-size a.q ws))
