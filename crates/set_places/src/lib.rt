@@ -7,7 +7,7 @@ ghost use Rattle.set_places.specs.Offsets.{place_at, record_place};
 
 pub mod reader;
 
-use reader::Reader;
+pub use reader::Reader;
 
 // Where a record stands in a set: its first byte and its length.
 #[derive(Clone, Copy)]
