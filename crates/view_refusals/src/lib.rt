@@ -82,6 +82,15 @@ pub fn put_words(out: &mut [u8], at: usize, number: u64) -> usize
     writer.at
 }
 
+// The condition of a refusal after the first `at` bytes; the answer is the place after it.
+pub fn put_phrase(out: &mut [u8], at: usize, r: Refusal) -> usize
+    ensures written { Added (phrase_of r) at out.old out.new result }
+{
+    let mut writer = Writer::new(out, at);
+    write_phrase(&mut writer, r);
+    writer.at
+}
+
 // The number and the condition of a refusal after the first `at` bytes; the answer is the place after them.
 pub fn put_refusal(out: &mut [u8], at: usize, r: Refusal) -> usize
     ensures written { Added (refusal_words r) at out.old out.new result }
