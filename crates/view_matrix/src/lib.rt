@@ -108,3 +108,13 @@ pub fn write_matrix(to: &mut Writer, t: &Table, n: usize)
     }
     to.put(b"</svg>\n");
 }
+
+// The matrix after the place `first`, with n data a state; the answer is the place after it.
+pub fn put_matrix(out: &mut [u8], first: usize, t: Table, n: usize) -> usize
+    requires { Ready t × (n ≡ 2 ^ t.p) }
+    ensures written { Added (matrix (code_in t)) first out.old out.new result }
+{
+    let mut writer = Writer::new(out, first);
+    write_matrix(&mut writer, &t, n);
+    writer.at
+}
