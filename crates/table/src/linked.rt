@@ -18,7 +18,8 @@ pub struct Chains<'a> {
 }
 
 impl<'a> Chains<'a> {
-    // The chains of all edges.
+    // The chains of all edges. It becomes part of its callers, so that the two arrays are made where they are used.
+    #[inline(always)]
     pub fn of(edges: Edges<'a>) -> Chains<'a>
         ensures answer { edges_in result.edges ≡ edges_in edges.entry }
     {

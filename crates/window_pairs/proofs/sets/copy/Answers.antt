@@ -13,8 +13,8 @@ loop-x-preserved c =
     let row = set_at s l.x in (
       length-set l.out l.x row ∙ l.invariant.0,
       ap (λ n. take n (set l.out l.x row)) (add-one l.x) ∙ take-suc-set l.out l.x row (omega (arith, l.invariant.0))
-      ∙ ap (λ r. r ++ row ∷ []) l.invariant.1 ∙ sym (take-suc s l.x (set_of 0 0) (omega arith))
-      ∙ sym (ap (λ n. take n s) (add-one l.x)),
+          ∙ ap (λ r. r ++ row ∷ []) l.invariant.1 ∙ sym (take-suc s l.x (set_of 0 0) (omega arith))
+          ∙ sym (ap (λ n. take n s) (add-one l.x)),
     )
 
 pub returns : goal.returns
