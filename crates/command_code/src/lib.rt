@@ -15,7 +15,7 @@ use answer::Refusal;
 use codec_record::decoding::decode;
 use codec_record::encoding::encode;
 use command_arguments::{Action, Status, Way};
-use command_inputs::{Input, is_twice, load, load_whole, recording};
+use command_inputs::{Input, is_twice, load, load_whole, misused_twice, recording};
 use command_marks::finish_code;
 use command_messages::Host;
 use command_verify::{after_words, after_writing};
@@ -83,7 +83,7 @@ pub fn code_files<R: Host>(rt: &R, w: Way) -> Status
 {
     let a = Action::Coding(w);
     if is_twice(rt, a) {
-        return Status::Misused;
+        return misused_twice(rt, a);
     }
     let mut under = [0u8; 3866];
     let Some(u) = load(rt, a.shape().under, &mut under) else {

@@ -5,12 +5,13 @@
 ghost use Rattle.std.specs.Prelude.{◌≡◌, true, false, ◌≤◌, ◌<◌, length, IfOk, IfSome};
 ghost use Rattle.io.specs.Counts.{IsPrefixLen};
 ghost use Rattle.command_arguments.specs.Shapes.{shape_of};
+ghost use Rattle.command_arguments.specs.declared.Status.TheVariants.{Misused};
 ghost use Rattle.command_inputs.specs.Inputs.{input_of};
 
 mod jobs;
 mod numbers;
 
-use command_arguments::Action;
+use command_arguments::{Action, Status};
 use command_messages::arguments::{argument, word};
 use command_messages::system::complain;
 use command_messages::usage::misused_word;
@@ -50,20 +51,19 @@ fn is_dash<R: Host>(rt: &R, i: usize) -> bool {
     is_same(&name[..n], b"-")
 }
 
-// Whether the record of an action and the file it reads both are standard input, which can be read only once. It says
-// so.
+// Whether the record of an action and the file it reads both are standard input, which can be read only once.
 pub fn is_twice<R: Host>(rt: &R, a: Action) -> bool
     ensures answer { result ≡ true → (0 < (shape_of a).under) × (0 < (shape_of a).read) }
 {
     let shape = a.shape();
-    let twice = shape.under != 0
-        && shape.read != 0
-        && is_dash(rt, shape.under)
-        && is_dash(rt, shape.read);
-    if twice {
-        misused_word(rt, a, b"-", b": only one file can be standard input");
-    }
-    twice
+    shape.under != 0 && shape.read != 0 && is_dash(rt, shape.under) && is_dash(rt, shape.read)
+}
+
+// Says that only one file can be standard input, and how an action is used.
+pub fn misused_twice<R: Host>(rt: &R, a: Action) -> Status
+    ensures answer { result ≡ Misused }
+{
+    misused_word(rt, a, b"-", b": only one file can be standard input")
 }
 
 // What was read of the file that argument i names, with so much room, if it was read.

@@ -19,7 +19,7 @@ pub mod reaching;
 
 use command_arguments::numbers::GREATEST;
 use command_arguments::{Action, OnStream, Status, Way};
-use command_inputs::{Input, Number, is_twice, load, number_at, recording};
+use command_inputs::{Input, Number, is_twice, load, misused_twice, number_at, recording};
 use command_marks::finish_code;
 use command_messages::Host;
 use command_outputs::finish;
@@ -124,7 +124,7 @@ pub fn encode_file<R: Host>(rt: &R) -> Status
 {
     let a = Action::Stream(OnStream::Encode);
     if is_twice(rt, a) {
-        return Status::Misused;
+        return misused_twice(rt, a);
     }
     let mut under = [0u8; 3866];
     let Some(u) = load(rt, a.shape().under, &mut under) else {
@@ -177,7 +177,7 @@ pub fn decode_file<R: Host>(rt: &R) -> Status
         return Status::Misused;
     };
     if is_twice(rt, a) {
-        return Status::Misused;
+        return misused_twice(rt, a);
     }
     let mut under = [0u8; 3866];
     let Some(u) = load(rt, a.shape().under, &mut under) else {

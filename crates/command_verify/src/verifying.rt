@@ -15,7 +15,9 @@ use crate::judged;
 use codec_verify::verify;
 use command_arguments::numbers::GREATEST;
 use command_arguments::{Action, Form, Status};
-use command_inputs::{Input, Number, is_twice, load, load_whole, number_at, recording};
+use command_inputs::{
+    Input, Number, is_twice, load, load_whole, misused_twice, number_at, recording,
+};
 use command_messages::Host;
 use command_messages::system::print;
 use sentences::put_sentence;
@@ -94,7 +96,7 @@ pub fn verify_file<R: Host>(rt: &R) -> Status
 {
     let a = Action::Verify(Form::Words);
     if is_twice(rt, a) {
-        return Status::Misused;
+        return misused_twice(rt, a);
     }
     let mut under = [0u8; 3866];
     let Some(u) = load(rt, a.shape().under, &mut under) else {
@@ -116,7 +118,7 @@ pub fn verify_stream_file<R: Host>(rt: &R) -> Status
         return Status::Misused;
     };
     if is_twice(rt, a) {
-        return Status::Misused;
+        return misused_twice(rt, a);
     }
     let mut under = [0u8; 3866];
     let Some(u) = load(rt, a.shape().under, &mut under) else {
