@@ -2,9 +2,8 @@
 -- In order: members-are; splits-ready.
 -- Assumes nothing.
 use Rattle.std.proofs.Common.{Some, ◌≡◌, ◌*◌, ◌/◌, ◌%◌, ◌≤◌, ◌<◌}
-use Rattle.laws.proofs.All.{sym, ap, subst, subst₂, ◌∙◌, Bool, false, List, ℕ, arith}
+use Rattle.laws.proofs.All.{sym, ap, subst, ◌∙◌, Bool, false, List, ℕ, arith}
 use Rattle.laws.proofs.All.{length, get_or, take, length-take-le, sum, filter, first}
-use Rattle.compile_graph.specs.Weights.{weights}
 use Rattle.compile_graph.specs.declared.Graph.{Graph}
 use Rattle.compile_graph.specs.Arcs.{Arc}
 use Rattle.compile_graph.specs.Component.{within, reachings, reaches, returning, live, component_states}
