@@ -46,7 +46,7 @@ pub fn is_same(a: Told, out: &[u8], refusal: usize, value: usize, output: &[u8])
 }
 
 // A name and a number on a line.
-pub fn say_number<R: Print>(rt: &R, name: &[u8], n: u64) {
+fn say_number<R: Print>(rt: &R, name: &[u8], n: u64) {
     let mut out = [0u8; 128];
     let mut writer = Writer::new(&mut out, 0);
     writer.line(name, n);

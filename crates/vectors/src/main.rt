@@ -10,9 +10,8 @@ mod walk;
 
 use checksum::START;
 use files::LoadError;
-use judging::say_number;
 use sentences::put_sentence;
-use text::{put, put_hex};
+use text::{put, put_hex, put_line};
 use walk::{Tally, is_end, walk};
 
 // A text.
@@ -26,6 +25,13 @@ fn say_file<R: Print>(rt: &R, bytes: &[u8]) {
     let name = put_sentence(&mut out, 0, b"bytes #\nchecksum ", &[bytes.len()]);
     let sum = put_hex(&mut out, name, checksum::add(START, bytes), 16);
     let size = put(&mut out, sum, b"\n");
+    let _ = rt.write_all(&out[..size]);
+}
+
+// A name and a number on a line.
+fn say_number<R: Print>(rt: &R, name: &[u8], n: u64) {
+    let mut out = [0u8; 128];
+    let size = put_line(&mut out, 0, name, n);
     let _ = rt.write_all(&out[..size]);
 }
 

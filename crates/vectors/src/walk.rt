@@ -4,8 +4,9 @@ ghost use Rattle.cases.specs.Placing.{Whole};
 ghost use Rattle.vectors.specs.Counting.{Few, Counted, ends_at};
 
 use crate::calls::call;
+use crate::say_number;
 use cases::{Case, case_at, is_case};
-use judging::{is_same, judge, say_number};
+use judging::{is_same, judge};
 
 // The place that the walk reached; how many cases there were, and how many of them differ; and for each kind how many
 // cases it has and how many of them differ.
