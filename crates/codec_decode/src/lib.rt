@@ -19,7 +19,6 @@ use codec_blocks::read_blocks;
 use codec_groups::groups::GroupedEdges;
 use table::Table;
 use table::lent::Edges;
-use table::ready::is_ready;
 
 // The first blocks of the words, as many as the output has room for, by the groups of the edges, whose sets are kept in
 // N places: no more is cleared than the table and the words ask for.
@@ -72,46 +71,49 @@ fn check_words(q: usize, a: usize, words: &[u8], room: usize) -> Result<(), Refu
 }
 
 // The blocks of the words under a table, in the output; sets are kept in FEW places for fewer than 128 blocks, and
-// otherwise in MANY. Declines with 7 for a value of the struct that no record gives, then 12, 13, 11.
+// otherwise in MANY. Declines with 7 for a value of the struct that no record gives, then 12, 13, 11. It is built once
+// for each two numbers of places and stays apart from its callers, so that a small table does not take the stack that
+// the sets of a large one need.
+#[inline(never)]
 fn decode_in<const FEW: usize, const MANY: usize>(
-    t: Table,
+    t: &Table,
     words: &[u8],
     out: &mut [u8],
 ) -> Result<usize, Refusal>
-    requires { (t.states ≤ 128 → (t.states * 16 ≤ FEW) × (t.states * 16 ≤ MANY)) × (FEW ≤ 2304) × (MANY ≤ 2304) }
-    ensures answer { result ≡ answer_of (decoded_with t (length out.old) words.now) }
+    requires { (t.now.states ≤ 128 → (t.now.states * 16 ≤ FEW) × (t.now.states * 16 ≤ MANY))
+        × (FEW ≤ 2304) × (MANY ≤ 2304) }
+    ensures answer { result ≡ answer_of (decoded_with t.now (length out.old) words.now) }
     ensures written { out.new
-        ≡ output_of (decoded_with t (length out.old) words.now) out.old }
+        ≡ output_of (decoded_with t.now (length out.old) words.now) out.old }
 {
-    if !is_ready(t) {
+    if !t.is_ready() {
         return Err(Refusal::Field);
     }
     let a = t.lookahead;
     check_words(t.q, a, words, out.len())?;
     let k = words.len() - a;
-    read_any::<FEW, MANY>(Edges::of(&t), words, t.memory, a, &mut out[..k]);
+    read_any::<FEW, MANY>(Edges::of(t), words, t.memory, a, &mut out[..k]);
     Ok(k)
 }
 
 // The blocks of the words under a table of at most 16 states, in the output. Declines with 7 for a value of the struct
-// that no record gives, then 12, 13, 11. It stands apart from the one for any table so that it takes little stack.
-#[inline(never)]
+// that no record gives, then 12, 13, 11. What it calls is built apart from what the one for any table calls, so that
+// it takes little stack.
 pub fn decode_few(t: Table, words: &[u8], out: &mut [u8]) -> Result<usize, Refusal>
     requires { t.states ≤ 16 }
     ensures answer { result ≡ answer_of (decoded_with t (length out.old) words.now) }
     ensures written { out.new
         ≡ output_of (decoded_with t (length out.old) words.now) out.old }
 {
-    decode_in::<256, 256>(t, words, out)
+    decode_in::<256, 256>(&t, words, out)
 }
 
 // The same under a table of any size. Keeping the states by word, after the sets of all groups, pays from some hundred
 // blocks on.
-#[inline(never)]
 pub fn decode_many(t: Table, words: &[u8], out: &mut [u8]) -> Result<usize, Refusal>
     ensures answer { result ≡ answer_of (decoded_with t (length out.old) words.now) }
     ensures written { out.new
         ≡ output_of (decoded_with t (length out.old) words.now) out.old }
 {
-    decode_in::<2048, 2304>(t, words, out)
+    decode_in::<2048, 2304>(&t, words, out)
 }

@@ -10,7 +10,6 @@ use answer::bytes::check_below;
 use codec_spell::write_recording;
 use table::Table;
 use table::lent::Edges;
-use table::ready::is_ready;
 
 // Whether `room` bytes are too few for `count` words and `closing` more.
 fn lacks_room(room: usize, count: usize, closing: usize) -> bool
@@ -26,7 +25,7 @@ pub fn encode_with(t: Table, blocks: &[u8], out: &mut [u8]) -> Result<usize, Ref
     ensures written { out.new
         ≡ output_of (encoded_with t (length out.old) blocks.now) out.old }
 {
-    if !is_ready(t) {
+    if !t.is_ready() {
         return Err(Refusal::Field);
     }
     let edges = Edges::of(&t);

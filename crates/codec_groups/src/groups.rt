@@ -43,7 +43,8 @@ impl<'a> Groups<'a> {
 impl<'a> GroupedEdges<'a> {
     ghost use Rattle.std.specs.Prelude.{◌≡◌, ◌*◌, ◌≤◌, length};
 
-    // The edges with their groups, which are laid in the arrays.
+    // The edges with their groups, which are laid in the arrays. As `Chains::of`, it becomes part of its callers.
+    #[inline]
     pub fn of(
         edges: Edges<'a>,
         start: &'a mut [u16; 257],
@@ -54,7 +55,8 @@ impl<'a> GroupedEdges<'a> {
         ensures answer { edges_in result.edges ≡ edges_in edges.entry }
         ensures width { result.edges.q ≡ edges.entry.q }
     {
-        lay(&Chains::of(edges), start, first, sets);
+        let chains = Chains::of(edges);
+        lay(&chains, start, first, sets);
         GroupedEdges {
             edges: edges,
             groups: Groups {

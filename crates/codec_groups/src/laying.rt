@@ -49,7 +49,8 @@ fn put_groups(
     }
 }
 
-// The groups of all words.
+// The groups of all words. It stays apart from its callers, which make the chains in place and lend them.
+#[inline(never)]
 pub fn lay(chains: &Chains, start: &mut [u16; 257], first: &mut [u16; 2048], sets: &mut [BitSet])
     requires { (length first.old ≡ 2048) × (chains.now.edges.states * 16 ≤ length sets.old) }
     ensures written { Grouped (edges_in chains.now.edges) start.new first.new sets.new }

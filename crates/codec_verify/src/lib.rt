@@ -12,7 +12,6 @@ use answer::bytes::check_below;
 use record_check::load;
 use table::Table;
 use table::lent::Edges;
-use table::ready::is_ready;
 
 pub mod counting;
 
@@ -43,7 +42,7 @@ pub fn sizes_of(t: Table) -> Sizes
 pub fn verify_with(t: Table, words: &[u8]) -> Result<usize, Refusal>
     ensures answer { result ≡ answer_of (verified_with t words.now) }
 {
-    if !is_ready(t) {
+    if !t.is_ready() {
         return Err(Refusal::Field);
     }
     if words.len() < t.lookahead {

@@ -21,7 +21,6 @@ use stream_pack::is_stream;
 use stream_pack::reading::get_words;
 use table::Table;
 use table::lent::Edges;
-use table::ready::is_ready;
 
 // The smaller of two numbers.
 pub fn smaller(x: usize, y: usize) -> usize
@@ -109,7 +108,7 @@ pub fn decode_stream_with(
     ensures written { out.new
         ≡ output_of (unstreamed_with t count (length out.old) stream.now) out.old }
 {
-    if !is_ready(t) {
+    if !t.is_ready() {
         return Err(Refusal::Field);
     }
     let a = t.lookahead;

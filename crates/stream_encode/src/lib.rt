@@ -18,7 +18,6 @@ use stream_pack::writing::Waiting;
 use stream_pack::{LIMIT, stream_size};
 use table::Table;
 use table::lent::Edges;
-use table::ready::is_ready;
 
 // The stream of the words of the blocks from state 0 and of copies of the tail datum after them, `count` in all.
 fn put_recording(edges: Edges, blocks: &[u8], tail: usize, count: usize, out: &mut [u8])
@@ -46,7 +45,7 @@ pub fn encode_stream_with(t: Table, blocks: &[u8], out: &mut [u8]) -> Result<usi
     ensures written { out.new
         ≡ output_of (streamed_with t (length out.old) blocks.now) out.old }
 {
-    if !is_ready(t) {
+    if !t.is_ready() {
         return Err(Refusal::Field);
     }
     let most = LIMIT - t.lookahead;

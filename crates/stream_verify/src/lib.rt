@@ -19,7 +19,6 @@ use record_check::load;
 use stream_pack::is_stream;
 use table::Table;
 use table::lent::Edges;
-use table::ready::is_ready;
 
 pub mod part;
 pub mod parts;
@@ -42,7 +41,7 @@ fn count_stream(k: Sizes, edges: Edges, stream: &[u8], count: usize) -> usize
 pub fn verify_stream_with(t: Table, count: usize, stream: &[u8]) -> Result<usize, Refusal>
     ensures answer { result ≡ answer_of (verified_stream_with t count stream.now) }
 {
-    if !is_ready(t) {
+    if !t.is_ready() {
         return Err(Refusal::Field);
     }
     if !is_stream(t.q, count, stream) {

@@ -23,16 +23,19 @@ impl<'a> Chains<'a> {
     pub fn of(edges: Edges<'a>) -> Chains<'a>
         ensures answer { edges_in result.edges ≡ edges_in edges.entry }
     {
-        let mut head = [0u16; 256];
-        let mut link = [0u16; 2048];
+        let mut chains = Chains {
+            edges: edges,
+            head: [0u16; 256],
+            link: [0u16; 2048],
+        };
         for e in 0..edges.states * 16 {
             if e % 16 < edges.ways {
                 let w = wide(edges.word[e]);
-                link[e] = head[w];
-                head[w] = (e + 1) as u16;
+                chains.link[e] = chains.head[w];
+                chains.head[w] = (e + 1) as u16;
             }
         }
-        Chains { edges, head, link }
+        chains
     }
 
     // The last edge with the word w.
