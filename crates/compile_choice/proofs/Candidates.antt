@@ -1,5 +1,6 @@
 -- The candidates of a split, as keys.
--- In order: first-filter; light-at; others-keys; candidates-keys.
+-- In order: first-filter; light-at, and light-in of a value of the struct `Keys`; others-keys; candidates-keys, and
+-- candidates-in of values of the struct.
 -- Assumes nothing.
 use Rattle.std.proofs.Common.{◌≡◌, ◌||◌, ◌∷◌, ◌-◌, ◌%◌, ◌≤◌, ◌<◌}
 use Rattle.laws.proofs.All.{refl, sym, ap, ◌∙◌, Bool, true, false, not, List, [], map, ℕ}
@@ -48,14 +49,23 @@ module _ (g : Graph) (s : ℕ) (fits : Fits g) (M : ℕ) (some : T (any (lighter
         sym (any-map (lighter v M) (arc_of s) ks) ∙ ap (any (lighter v M)) (sym (sort-keys g s fits))
         ∙ T→true (any (lighter v M) (sort (out (arcs_in g) s))) (any-sort (lighter v M) (out (arcs_in g) s) some)
 
-    pub light-at : (r : Keys) → keys_in r ≡ first_keys g s M 65535 1 → r.count ≤ 1
-        → first (lighter v M) (arc 0 0 0) (sort (out (arcs_in g) s)) ≡ arc_of s (get_or r.key 0 0)
+    pub light-at : (r : List ℕ) → r ≡ first_keys g s M 65535 1
+        → (0 < length r) × (first (lighter v M) (arc 0 0 0) (sort (out (arcs_in g) s)) ≡ arc_of s (get_or r 0 0))
     unfolding first_keys
-    light-at r e h =
+    light-at r e =
         let (x, a, b) = first-filter (lighter v M) (arc 0 0 0) (arc_of s) 0 ks light-any in
-        let q : keys_in r ≡ x ∷ [] = e ∙ ap (take 1) light-filter ∙ a in
-        let l : 0 < r.count = omega (arith, ap length q, length-take r.count r.key) in
-        rw (sort-keys g s fits) (cc (b, get_or-take r.count r.key 0 0 l))
+        let q : r ≡ x ∷ [] = e ∙ ap (take 1) light-filter ∙ a in
+        (rw q (omega arith), rw (sort-keys g s fits, q) b)
+
+    -- the first key of a value of the struct is the first of its keys
+    held-first : (r : Keys) → keys_in r ≡ first_keys g s M 65535 1 → get_or (keys_in r) 0 0 ≡ get_or r.key 0 0
+    held-first r e =
+        let l : 0 < r.count = omega (arith, (light-at (keys_in r) e).0, length-take r.count r.key) in
+        get_or-take r.count r.key 0 0 l
+
+    pub light-in : (r : Keys) → keys_in r ≡ first_keys g s M 65535 1 → r.count ≤ 1
+        → first (lighter v M) (arc 0 0 0) (sort (out (arcs_in g) s)) ≡ arc_of s (get_or r.key 0 0)
+    light-in r e h = (light-at (keys_in r) e).1 ∙ ap (arc_of s) (held-first r e)
 
     passes : (l k : ℕ) → admitted v 256 l k ≡ other (arc_of s l) (arc_of s k)
     passes l k = rw (lt-ltb (get_or v (k % 128) 0) 256 (weights-small g s fits (k % 128)))
@@ -68,10 +78,17 @@ module _ (g : Graph) (s : ℕ) (fits : Fits g) (M : ℕ) (some : T (any (lighter
         rw (sort-keys g s fits, map-take (arc_of s) n, filter_map (other (arc_of s l)) (arc_of s) ks)
         (ap (λ x. take n (map (arc_of s) x)) (filter_same (admitted v 256 l) _ ks (each-always _ (passes l) ks)))
 
-    pub candidates-keys : (n : ℕ) (light others r : Keys) → keys_in light ≡ first_keys g s M 65535 1 → light.count ≤ 1
+    pub candidates-keys : (n : ℕ) (light others r : List ℕ) → light ≡ first_keys g s M 65535 1
+        → others ≡ first_keys g s 256 (get_or light 0 0) (n - 1) → r ≡ get_or light 0 0 ∷ others
+        → map (arc_of s) r ≡ candidates n v M (sort (out (arcs_in g) s))
+    candidates-keys n light others r a b e =
+        rw ((light-at light a).1, e, b)
+        (ap (λ x. arc_of s (get_or light 0 0) ∷ x) (others-keys (get_or light 0 0) (n - 1)))
+
+    pub candidates-in : (n : ℕ) (light others r : Keys) → keys_in light ≡ first_keys g s M 65535 1 → light.count ≤ 1
         → keys_in others ≡ first_keys g s 256 (get_or light.key 0 0) (n - 1)
         → keys_in r ≡ get_or light.key 0 0 ∷ keys_in others
         → map (arc_of s) (keys_in r) ≡ candidates n v M (sort (out (arcs_in g) s))
-    candidates-keys n light others r a h b e =
-        rw (light-at light a h, e, b)
-        (ap (λ x. arc_of s (get_or light.key 0 0) ∷ x) (others-keys (get_or light.key 0 0) (n - 1)))
+    candidates-in n light others r a h b e =
+        let f = held-first light a in
+        candidates-keys n (keys_in light) (keys_in others) (keys_in r) a (rw f b) (rw f e)

@@ -1,7 +1,7 @@
 -- The first edge to a lighter state is the first of the edges with that test; the others are the first n − 1 with
 -- another key.
 use Rattle.laws.proofs.All.{arith}
-use Rattle.compile_choice.proofs.Candidates.{candidates-keys}
+use Rattle.compile_choice.proofs.Candidates.{candidates-in}
 use Rattle.compile_choice.proofs.choose.candidate_keys.Goals as goal
 
 pub returns : goal.returns
@@ -9,7 +9,7 @@ returns c =
     let p = c.args in
     record {
       answer = (
-        candidates-keys p.g p.s c.requires.0 p.m
+        candidates-in p.g p.s c.requires.0 p.m
             c.requires.3 p.n c.first_edges-light.result
             c.first_edges-others.result c.in_front.result
             c.first_edges-light.ensures.answer.0 c.first_edges-light.ensures.answer.1
