@@ -1,6 +1,6 @@
 -- The candidates of a split, as keys.
--- In order: first-filter; light-at, and light-in of a value of the struct `Keys`; others-keys; candidates-keys, and
--- candidates-in of values of the struct.
+-- In order: first-filter; light-at, held-first, and light-in of a value of the struct `Keys`; others-keys;
+-- candidates-keys, and candidates-in of values of the struct.
 -- Assumes nothing.
 use Rattle.std.proofs.Common.{◌≡◌, ◌||◌, ◌∷◌, ◌-◌, ◌%◌, ◌≤◌, ◌<◌}
 use Rattle.laws.proofs.All.{refl, sym, ap, ◌∙◌, Bool, true, false, not, List, [], map, ℕ}
